@@ -1,0 +1,2 @@
+pub mod EditionsLemmas
+pub mod RootsLemmas

@@ -1,0 +1,149 @@
+//! The keeper, who alone changes the table.
+ghost use Rattle.std.specs.Prelude.{◌≡◌, ◌+◌, ◌<◌, ◌≤◌, ◌^◌, ◌⊎◌, ◌↔◌, IfOk, IfErr, IsErrOf, IsTrue, OnErr, OnOk};
+ghost use Rattle.std.specs.FinMap as map;
+ghost use Rattle.cells.specs.Values.{Entry};
+ghost use Rattle.board.specs.Editions.{Begins, ChangesDraft, Publishes, draft, edition, limit, published, schema};
+
+use crate::root::Root;
+use crate::snapshot::Snapshot;
+use cells::{Cell, Refused, Row, Schema};
+use std::alloc::Global;
+use std::marker::Model;
+use std::sync::Arc;
+
+/// Holds a draft, which updates change, and the last published edition. A report never reads the
+/// draft: it takes a [`Snapshot`] of what was published.
+///
+/// After a refusal the keeper is what it was. The only refusals are [`Refused::TooManyRows`] of
+/// [`put`](Keeper::put), and [`Refused::OutOfMemory`] where a growth, or one owner more, was
+/// really refused.
+#[derive(Drop)]
+pub struct Keeper {
+    draft: Root,
+    limit: u64,
+    edition: u64,
+    published: Root,
+    schema: Arc<Schema>,
+}
+
+impl Model for Keeper {
+    ghost use Rattle.std.specs.Prelude.{◌≤◌};
+    ghost use Rattle.std.specs.FinMap.{len};
+    ghost use Rattle.board.specs.Editions.{Editions, coded_editions};
+
+    ghost Value = { Editions };
+
+    ghost coded = { coded_editions };
+
+    ghost view = { λ k. record {
+      drafted = k.draft;
+      most = k.limit;
+      last = record { number = k.edition; rows = k.published; schema = k.schema.value };
+    } };
+
+    ghost invariant = { λ k. len k.draft ≤ k.limit };
+}
+
+impl Keeper {
+    /// A keeper of the table, whose draft and edition 0 have no rows. The draft may have at most
+    /// `limit` rows. `places` is how many viewers can be made; it has no effect before there are
+    /// viewers.
+    #[tactic(auto, using(crate::proofs::EditionsLemmas::empty_within))]
+    pub fn new(alloc: Global, schema: Schema, limit: u64, places: u64) -> Result<Keeper, Refused>
+        requires limit { 1 ≤ limit × (limit ≤ 2 ^ 32) }
+        requires places { 1 ≤ places × (places ≤ 64) }
+        ensures begun { IfOk result (Begins limit schema) }
+        ensures refused { IfErr result (λ e. e ≡ Refused.OutOfMemory) }
+    {
+        let draft = Root::empty(alloc)?;
+        let published = draft.share()?;
+        let schema = Arc::new(alloc, schema)?;
+        Ok(Keeper {
+            draft,
+            limit,
+            edition: 0,
+            published,
+            schema,
+        })
+    }
+
+    /// Lays the row over the draft. It takes the place of the row of its key, where there is one, and
+    /// so takes no new room.
+    ///
+    /// [`Refused::TooManyRows`] exactly where the draft would have more rows than the limit.
+    pub fn put(&mut self, row: Row) -> Result<(), Refused>
+        ensures draft { OnOk result (ChangesDraft self.old self.new (map.insert (draft self.old) row.key row)) }
+        ensures within { OnOk result (map.len (draft self.new) ≤ limit self.old) }
+        ensures full { IsErrOf result Refused.TooManyRows → limit self.old < map.len (map.insert (draft self.old) row.key row) }
+        ensures refused { IfErr result (λ e. (e ≡ Refused.TooManyRows) ⊎ (e ≡ Refused.OutOfMemory)) }
+        ensures unchanged { OnErr result (self.new ≡ self.old) }
+    {
+        if !has_room(&self.draft, row.key(), self.limit) {
+            return Err(Refused::TooManyRows);
+        }
+        self.draft = self.draft.put(row)?;
+        Ok(())
+    }
+
+    /// Takes the row of the key out of the draft. A key that is not there changes nothing, and is
+    /// accepted.
+    pub fn delete(&mut self, key: &Cell) -> Result<(), Refused>
+        ensures draft { OnOk result (ChangesDraft self.old self.new (map.remove (draft self.old) key.now)) }
+        ensures refused { IfErr result (λ e. e ≡ Refused.OutOfMemory) }
+        ensures unchanged { OnErr result (self.new ≡ self.old) }
+    {
+        self.draft = self.draft.remove(key)?;
+        Ok(())
+    }
+
+    /// Makes the whole draft the next edition, in one step. It stays the draft. Each publish that is
+    /// accepted makes an edition, also where nothing changed.
+    pub fn publish(&mut self) -> Result<(), Refused>
+        requires { edition self.old + 1 < 2 ^ 64 }
+        ensures published { OnOk result (Publishes self.old self.new) }
+        ensures refused { IfErr result (λ e. e ≡ Refused.OutOfMemory) }
+        ensures unchanged { OnErr result (self.new ≡ self.old) }
+    {
+        self.published = self.draft.share()?;
+        self.edition += 1;
+        Ok(())
+    }
+
+    /// The last published edition, with its number and schema. It keeps its rows whatever the keeper
+    /// does.
+    pub fn snapshot(&self) -> Result<Snapshot, Refused>
+        ensures edition { IfOk result (λ s. s.number ≡ edition self.now) }
+        ensures rows { IfOk result (λ s. s.rows ≡ published self.now) }
+        ensures schema { IfOk result (λ s. s.schema ≡ schema self.now) }
+        ensures refused { IfErr result (λ e. e ≡ Refused.OutOfMemory) }
+    {
+        let root = self.published.share()?;
+        let schema = Arc::try_clone(&self.schema)?;
+        Ok(Snapshot::new(self.edition, root, schema))
+    }
+
+    /// The draft, for tests.
+    #[cfg(test)]
+    pub(crate) fn draft(&self) -> &Root {
+        &self.draft
+    }
+
+    /// The number of the last published edition. It takes no memory.
+    pub fn edition(&self) -> u64
+        ensures { result ≡ edition self.now }
+    {
+        self.edition
+    }
+}
+
+/// Whether a draft that keeps the limit still keeps it with a row laid over the key.
+#[tactic(auto, using(crate::proofs::EditionsLemmas::len_over, crate::proofs::EditionsLemmas::len_beside))]
+fn has_room(draft: &Root, key: &Cell, limit: u64) -> bool
+    requires { map.len draft.now ≤ limit }
+    ensures { (row : Entry) → IsTrue result ↔ (map.len (map.insert draft.now key.now row) ≤ limit) }
+{
+    match draft.get(key) {
+        Some(_) => true,
+        None => draft.len() < limit,
+    }
+}

@@ -1,0 +1,15 @@
+pub mod BeginsLemmas
+pub mod CellsLemmas
+pub mod ChoicesLemmas
+pub mod ColumnsLemmas
+pub mod IntegersLemmas
+pub mod MarksLemmas
+pub mod NamesLemmas
+pub mod NumbersLemmas
+pub mod QuotesLemmas
+pub mod RecordsLemmas
+pub mod RunsLemmas
+pub mod TablesLemmas
+pub mod TokensLemmas
+pub mod UpdatesLemmas
+pub mod WordsLemmas

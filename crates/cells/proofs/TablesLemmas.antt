@@ -1,0 +1,112 @@
+-- A table after one more update.
+use Rattle.std.proofs.Common.{◌≡◌, ◌+◌, Bool, true, false, not, cond, Option, Some, None, List, [], ◌∷◌, ◌++◌, length, refl, ap, sym, ◌∙◌, add-one}
+use Rattle.std.proofs.lemmas.List.{append-nil}
+use Rattle.std.specs.Prelude.{◌||◌, is_some}
+use Rattle.std.specs.FinMap.{insert, remove, len, find, same_map, get-from_entries, get-insert, get-remove, len-insert, len-empty}
+use Rattle.cells.specs.CellOrder.{cell_cmp, cell_cmp-total, cell_eq, cell_eq-equiv}
+use Rattle.cells.specs.Tables.{keyed_rows, table}
+use Rattle.cells.specs.Updates.{Update, Put, Delete, rows, touches, without, AreLeft}
+use Rattle.cells.specs.Values.{Entry}
+use Rattle.cells.specs.declared.cell.Cell.{Cell}
+use Rattle.cells.proofs.CellsLemmas.{exact_cells}
+use Rattle.cells.proofs.UpdatesLemmas.{rows_put, rows_delete}
+
+twice : (b : Bool) (u v f : Option Entry) → cond b u f ≡ cond b u (cond b v f)
+twice true u v f = refl
+twice false u v f = refl
+
+-- a row of the same key is hidden
+hidden : (q k j : Cell) (u v f : Option Entry) → cell_eq j k ≡ true → cond (cell_eq q k) u f ≡ cond (cell_eq q k) u (cond (cell_eq q j) v f)
+hidden q k j u v f e =
+    let same : cell_eq q j ≡ cell_eq q k = cell_eq-equiv.symm q j ∙ cell_eq-equiv.congr j k q e ∙ cell_eq-equiv.symm k q in
+    rw same (twice (cell_eq q k) u v f)
+
+swapped : (a b : Bool) (u v f : Option Entry) → (a ≡ true → b ≡ false) → cond a v (cond b u f) ≡ cond b u (cond a v f)
+swapped true b u v f h = rw (h refl) refl
+swapped false b u v f h = refl
+
+-- rows of two keys do not hide each other
+apart : (q k j : Cell) (u v f : Option Entry) → cell_eq j k ≡ false → cond (cell_eq q j) v (cond (cell_eq q k) u f) ≡ cond (cell_eq q k) u (cond (cell_eq q j) v f)
+apart q k j u v f e = swapped (cell_eq q j) (cell_eq q k) u v f (λ same. cell_eq-equiv.congr q j k same ∙ e)
+
+find_step : (same : Bool) (q k : Cell) (x : Entry) (w new : List Entry) (u f : Option Entry) → cell_eq x.key k ≡ same →
+    find cell_cmp q (keyed_rows (w ++ new)) ≡ cond (cell_eq q k) u f →
+    find cell_cmp q (keyed_rows (cond (not same) (x ∷ w) w ++ new)) ≡ cond (cell_eq q k) u (cond (cell_eq q x.key) (Some x) f)
+find_step true q k x w new u f e ih = ih ∙ hidden q k x.key u (Some x) f e
+find_step false q k x w new u f e ih = ap (λ o. cond (cell_eq q x.key) (Some x) o) ih ∙ apart q k x.key u (Some x) f e
+
+-- at other keys than k a row is what it was, and at k it is what the new rows have
+find_more : (d : List Entry) (q k : Cell) (new : List Entry) (u : Option Entry) → find cell_cmp q (keyed_rows new) ≡ cond (cell_eq q k) u None →
+    find cell_cmp q (keyed_rows (without k d ++ new)) ≡ cond (cell_eq q k) u (find cell_cmp q (keyed_rows d))
+find_more [] q k new u h = h
+find_more (x ∷ xs) q k new u h = find_step (cell_eq x.key k) q k x (without k xs) new u (find cell_cmp q (keyed_rows xs)) refl (find_more xs q k new u h)
+
+pub table_put : (d : List Entry) (row : Entry) → table (without row.key d ++ row ∷ []) ≡ insert (table d) row.key row
+table_put d row = same_map cell_cmp-total exact_cells _ _ (λ q.
+    get-from_entries cell_cmp-total (keyed_rows (without row.key d ++ row ∷ [])) q
+    ∙ find_more d q row.key (row ∷ []) (Some row) refl
+    ∙ sym (get-insert cell_cmp-total (table d) row.key row q ∙ ap (cond (cell_eq q row.key) (Some row)) (get-from_entries cell_cmp-total (keyed_rows d) q)))
+
+nothing : (b : Bool) (n : Option Entry) → n ≡ cond b n n
+nothing true n = refl
+nothing false n = refl
+
+removed_more : (d : List Entry) (key : Cell) → table (without key d ++ []) ≡ remove (table d) key
+removed_more d key = same_map cell_cmp-total exact_cells _ _ (λ q.
+    get-from_entries cell_cmp-total (keyed_rows (without key d ++ [])) q
+    ∙ find_more d q key [] None (nothing (cell_eq q key) None)
+    ∙ sym (get-remove cell_cmp-total (table d) key q ∙ ap (cond (cell_eq q key) None) (get-from_entries cell_cmp-total (keyed_rows d) q)))
+
+pub table_delete : (d : List Entry) (key : Cell) → table (without key d) ≡ remove (table d) key
+table_delete d key = ap table (sym (append-nil (without key d))) ∙ removed_more d key
+
+-- the map of the rows after one more put
+pub table_rows_put : (us : List Update) (row : Entry) → table (rows (us ++ Put row ∷ [])) ≡ insert (table (rows us)) row.key row
+table_rows_put us row = ap table (rows_put us row) ∙ table_put (rows us) row
+
+-- the map of the rows after one more delete
+pub table_rows_delete : (us : List Update) (key : Cell) → table (rows (us ++ Delete key ∷ [])) ≡ remove (table (rows us)) key
+table_rows_delete us key = ap table (rows_delete us key) ∙ table_delete (rows us) key
+
+both_false : (a b : Bool) → (a || b) ≡ false → (a ≡ false) × (b ≡ false)
+both_false true b e = (e, absurd (cc))
+both_false false b e = (refl, e)
+
+untouched_step : (touched : Bool) (r : Entry) (k : Cell) (rs : List Entry) → cell_eq r.key k ≡ false → find cell_cmp k (keyed_rows rs) ≡ None →
+    find cell_cmp k (keyed_rows (cond touched rs (r ∷ rs))) ≡ None
+untouched_step true r k rs e ih = ih
+untouched_step false r k rs e ih = let other : cell_eq k r.key ≡ false = cell_eq-equiv.symm k r.key ∙ e in rw other ih
+
+-- a key that no update has is in no row
+untouched : (us : List Update) (k : Cell) → touches k us ≡ false → find cell_cmp k (keyed_rows (rows us)) ≡ None
+untouched [] k e = refl
+untouched (Put r ∷ us) k e =
+    let p = both_false (cell_eq r.key k) (touches k us) e in
+    untouched_step (touches r.key us) r k (rows us) p.0 (untouched us k p.1)
+untouched (Delete j ∷ us) k e = untouched us k (both_false (cell_eq j k) (touches k us) e).1
+
+length_step : (touched : Bool) (r : Entry) (rs : List Entry) → (touched ≡ false → find cell_cmp r.key (keyed_rows rs) ≡ None) → len (table rs) ≡ length rs →
+    len (table (cond touched rs (r ∷ rs))) ≡ length (cond touched rs (r ∷ rs))
+length_step true r rs h ih = ih
+length_step false r rs h ih =
+    len-insert cell_cmp-total (table rs) r.key r
+    ∙ ap (λ o. cond (is_some o) (len (table rs)) (len (table rs) + 1)) (get-from_entries cell_cmp-total (keyed_rows rs) r.key ∙ h refl)
+    ∙ ap (λ n. n + 1) ih ∙ add-one (length rs)
+
+-- no key comes twice
+pub len_rows : (us : List Update) → len (table (rows us)) ≡ length (rows us)
+len_rows [] = len-empty cell_cmp Entry
+len_rows (Put r ∷ us) = length_step (touches r.key us) r (rows us) (untouched us r.key) (len_rows us)
+len_rows (Delete k ∷ us) = len_rows us
+
+pub left_put : (rs : List Entry) (row : Entry) → AreLeft rs → AreLeft (without row.key rs ++ row ∷ [])
+left_put rs row left = record { updates = left.updates ++ Put row ∷ []; is = ap (λ d. without row.key d ++ row ∷ []) left.is ∙ sym (rows_put left.updates row) }
+
+pub left_delete : (rs : List Entry) (key : Cell) → AreLeft rs → AreLeft (without key rs)
+left_delete rs key left = record { updates = left.updates ++ Delete key ∷ []; is = ap (without key) left.is ∙ sym (rows_delete left.updates key) }
+
+pub len_left : (rs : List Entry) → AreLeft rs → len (table rs) ≡ length rs
+len_left rs left = rw left.is (len_rows left.updates)
+
+pub left_nothing : AreLeft []
+left_nothing = record { updates = []; is = refl }

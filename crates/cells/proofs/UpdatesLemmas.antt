@@ -1,0 +1,76 @@
+-- One update more.
+use Rattle.std.proofs.Common.{◌≡◌, Bool, true, false, not, cond, List, [], ◌∷◌, ◌++◌, ◌||◌, filter, refl, ap, sym, subst, ◌∙◌, inl, inr, arith}
+use Rattle.std.specs.Prelude.{◌↔◌, Contains}
+use Rattle.std.proofs.lemmas.List.Folds.{list_any-append}
+use Rattle.std.proofs.lemmas.List.{append-nil}
+use Rattle.std.proofs.lemmas.List.Elements.{Contains-append_left, Contains-append_right, Contains-append_cases, Contains-push, Contains-push_cases}
+use Rattle.cells.specs.CellOrder.{cell_eq, cell_eq-equiv}
+use Rattle.cells.specs.Updates.{Update, Put, Delete, key_of, rows, touches, without, IsLastPut}
+use Rattle.cells.specs.Values.{Entry}
+use Rattle.cells.specs.declared.cell.Cell.{Cell}
+
+-- a row stays where no later update has its key, which is seen among the old ones or is the new one's
+kept : (seen same : Bool) (p : Entry → Bool) (r : Entry) (rest new : List Entry) → p r ≡ not same →
+    cond (seen || same) (filter p rest ++ new) (r ∷ (filter p rest ++ new)) ≡ filter p (cond seen rest (r ∷ rest)) ++ new
+kept true same p r rest new e = refl
+kept false true p r rest new e = rw e refl
+kept false false p r rest new e = rw e refl
+
+or_false : (b : Bool) → b || false ≡ b
+or_false true = refl
+or_false false = refl
+
+-- after one more update the old rows of other keys stand, and then the new row
+rows_more : (us : List Update) (u : Update) → rows (us ++ u ∷ []) ≡ without (key_of u) (rows us) ++ rows (u ∷ [])
+rows_more [] u = refl
+rows_more (Put r ∷ us) u =
+    let new_key : not (cell_eq r.key (key_of u)) ≡ not (cell_eq (key_of u) r.key || false) =
+    ap not (cell_eq-equiv.symm r.key (key_of u) ∙ sym (or_false (cell_eq (key_of u) r.key))) in
+    rw (list_any-append (λ v. cell_eq (key_of v) r.key) us (u ∷ []), rows_more us u)
+    (kept (touches r.key us) (cell_eq (key_of u) r.key || false) _ r (rows us) (rows (u ∷ [])) new_key)
+rows_more (Delete key ∷ us) u = rows_more us u
+
+-- a put takes out the row of its key and stands last
+pub rows_put : (us : List Update) (row : Entry) → rows (us ++ Put row ∷ []) ≡ without row.key (rows us) ++ row ∷ []
+rows_put us row = rows_more us (Put row)
+
+-- a delete takes out the row of its key
+pub rows_delete : (us : List Update) (key : Cell) → rows (us ++ Delete key ∷ []) ≡ without key (rows us)
+rows_delete us key = rows_more us (Delete key) ∙ append-nil (without key (rows us))
+
+-- one update more at the front changes nothing behind it
+under : (u : Update) (us : List Update) (row : Entry) → IsLastPut us row → IsLastPut (u ∷ us) row
+under u us row put = record { before = u ∷ put.before; later = put.later; is = ap (λ l. u ∷ l) put.is; last = put.last }
+
+in_front : (us : List Update) (r row : Entry) → touches r.key us ≡ false → r ≡ row → IsLastPut (Put r ∷ us) row
+in_front us r row e same = subst (IsLastPut (Put r ∷ us)) same (record { before = []; later = us; is = refl; last = e })
+
+last_put_step : (touched : Bool) (us : List Update) (r row : Entry) → touches r.key us ≡ touched → (Contains (rows us) row → IsLastPut us row) →
+    Contains (cond touched (rows us) (r ∷ rows us)) row → IsLastPut (Put r ∷ us) row
+last_put_step true us r row e ih h = under (Put r) us row (ih h)
+last_put_step false us r row e ih h = elim (Contains-append_cases (r ∷ []) (rows us) row h) [
+  | inr more ↦ under (Put r) us row (ih more)
+  | inl one ↦ elim (Contains-push_cases [] r row one) [
+    | inl none ↦ absurd (omega (arith, none.1))
+    | inr same ↦ in_front us r row e same
+  ]
+]
+
+last_put : (us : List Update) (row : Entry) → Contains (rows us) row → IsLastPut us row
+last_put [] row h = absurd (omega (arith, h.1))
+last_put (Put r ∷ us) row h = last_put_step (touches r.key us) us r row refl (last_put us row) h
+last_put (Delete key ∷ us) row h = under (Delete key) us row (last_put us row h)
+
+contains_step : (touched : Bool) (r row : Entry) (rs : List Entry) → Contains rs row → Contains (cond touched rs (r ∷ rs)) row
+contains_step true r row rs h = h
+contains_step false r row rs h = Contains-append_right (r ∷ []) rs row h
+
+left_by_put : (before later : List Update) (row : Entry) → touches row.key later ≡ false → Contains (rows (before ++ Put row ∷ later)) row
+left_by_put [] later row e = rw e (Contains-append_left (row ∷ []) (rows later) row (Contains-push [] row))
+left_by_put (Put r ∷ before) later row e =
+    contains_step (touches r.key (before ++ Put row ∷ later)) r row (rows (before ++ Put row ∷ later)) (left_by_put before later row e)
+left_by_put (Delete key ∷ before) later row e = left_by_put before later row e
+
+-- the rows are those of the last puts
+pub rows_are_last_puts : (us : List Update) (row : Entry) → Contains (rows us) row ↔ IsLastPut us row
+rows_are_last_puts us row = (last_put us row, λ put. rw put.is (left_by_put put.before put.later row put.last))

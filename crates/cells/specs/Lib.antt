@@ -1,0 +1,14 @@
+pub mod CellOrder
+pub mod Codes
+pub mod Integers
+pub mod Limits
+pub mod Records
+pub mod Refusals
+pub mod Scanning
+pub mod SchemaReading
+pub mod Schemas
+pub mod Spelling
+pub mod Tables
+pub mod TextOrder
+pub mod Updates
+pub mod Values

@@ -1,0 +1,27 @@
+//! What every crate of `olap` speaks of: cells and their order, the tokens of a text, schemas,
+//! rows, the updates that leave rows, and refusals.
+#![tactic(auto)]
+
+mod cell;
+mod integers;
+mod limits;
+mod refused;
+mod row;
+mod scan;
+mod schema;
+mod text;
+mod token;
+mod updates;
+
+pub use cell::Cell;
+pub use limits::{MAX_COLUMNS, MAX_TEXT_BYTES};
+pub use refused::Refused;
+pub use row::Row;
+pub use scan::{tokens, tokens_or};
+pub use schema::{Column, ColumnType, Schema};
+pub use text::Text;
+pub use token::{Mark, Token, TokenFault};
+pub use updates::{updates_leave_the_last_puts, updates_make_a_map};
+
+#[cfg(test)]
+mod tests;

@@ -1,0 +1,116 @@
+//! Why a line or a call is refused.
+ghost use Rattle.std.specs.Prelude.{◌≡◌};
+ghost use Rattle.cells.specs.Refusals.{number_of};
+ghost use Rattle.cells.specs.declared.refused.Refused.TheVariants.{OutOfMemory};
+
+use std::alloc::{AllocError, AllocFailed};
+use thiserror::Error;
+
+/// A refusal. Its text is its name; its number is what a report prints.
+///
+/// Those up to 15 are refusals of a line, after which the script goes on. The others end a run.
+#[derive(Clone, Copy, Debug, PartialEq, Eq, Drop, Error)]
+pub enum Refused {
+    /// A line needs a table, and none was declared.
+    #[error("NoTable")]
+    NoTable,
+    /// A second `table` line after an accepted one.
+    #[error("TableAgain")]
+    TableAgain,
+    /// A line that is not UTF-8, has an unknown command word, or a rest that is not in the command's form.
+    #[error("BadCommand")]
+    BadCommand,
+    /// The text of a `table` line spells no schema.
+    #[error("BadSchema")]
+    BadSchema,
+    /// `load` names part 0, or a part that was not handed in.
+    #[error("NoPart")]
+    NoPart,
+    /// A listed part has a faulty record.
+    #[error("BadPart")]
+    BadPart,
+    /// The fields of a record spell no row.
+    #[error("BadRecord")]
+    BadRecord,
+    /// The rest of `delete` is not exactly one literal of the key's type.
+    #[error("BadKey")]
+    BadKey,
+    /// The draft would hold more rows than the limit.
+    #[error("TooManyRows")]
+    TooManyRows,
+    /// The query is not in the grammar.
+    #[error("QuerySyntax")]
+    QuerySyntax,
+    /// The query names another table, or a column that the schema does not have.
+    #[error("Unknown")]
+    Unknown,
+    /// A column stands in the select list and in no grouping set.
+    #[error("NotGrouped")]
+    NotGrouped,
+    /// SUM over a text column, or a comparison of an integer with a text.
+    #[error("WrongType")]
+    WrongType,
+    /// More than 256 grouping sets.
+    #[error("TooManySets")]
+    TooManySets,
+    /// A limit on the query, the script or the parts.
+    #[error("Limit")]
+    Limit,
+    /// A growth was really refused.
+    #[error("OutOfMemory")]
+    OutOfMemory,
+    /// A worker thread could not be started.
+    #[error("NoWorker")]
+    NoWorker,
+    /// The writer failed during the call.
+    #[error("WriteFailed")]
+    WriteFailed,
+    /// A reader's place was refused.
+    #[error("NotShown")]
+    NotShown,
+}
+
+impl Refused {
+    /// The number that a report prints: 1 to 15, or 90 to 93. It takes no memory.
+    pub fn number(&self) -> u32
+        ensures { result ≡ number_of self.now }
+    {
+        match self {
+            Refused::NoTable => 1,
+            Refused::TableAgain => 2,
+            Refused::BadCommand => 3,
+            Refused::BadSchema => 4,
+            Refused::NoPart => 5,
+            Refused::BadPart => 6,
+            Refused::BadRecord => 7,
+            Refused::BadKey => 8,
+            Refused::TooManyRows => 9,
+            Refused::QuerySyntax => 10,
+            Refused::Unknown => 11,
+            Refused::NotGrouped => 12,
+            Refused::WrongType => 13,
+            Refused::TooManySets => 14,
+            Refused::Limit => 15,
+            Refused::OutOfMemory => 90,
+            Refused::NoWorker => 91,
+            Refused::WriteFailed => 92,
+            Refused::NotShown => 93,
+        }
+    }
+}
+
+impl From<AllocError> for Refused {
+    ghost from_gives = { λ _ e. e ≡ OutOfMemory };
+
+    fn from(_error: AllocError) -> Refused {
+        Refused::OutOfMemory
+    }
+}
+
+impl<T: Drop> From<AllocFailed<T>> for Refused {
+    ghost from_gives = { λ _ e. e ≡ OutOfMemory };
+
+    fn from(_error: AllocFailed<T>) -> Refused {
+        Refused::OutOfMemory
+    }
+}
