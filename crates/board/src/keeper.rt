@@ -122,6 +122,13 @@ impl Keeper {
         Ok(Snapshot::new(self.edition, root, schema))
     }
 
+    /// The schema of the table. It takes no memory.
+    pub fn schema(&self) -> &Schema
+        ensures { result.now ≡ schema self.now }
+    {
+        &self.schema
+    }
+
     /// The draft, for tests.
     #[cfg(test)]
     pub(crate) fn draft(&self) -> &Root {

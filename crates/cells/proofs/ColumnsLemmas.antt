@@ -64,9 +64,9 @@ key_read (Quoted text ∷ rest) = refl
 key_read (Mark m ∷ rest) = refl
 
 -- a definition that was read is spelt so, and its name is not reserved
-record IsRead (ts : List Token) (d : ColumnDefinition) (behind : List Token) : Type 0 where
-  spelt : ts ≡ column_tokens d ++ behind
-  named : is_reserved d.column.name ≡ false
+pub record IsRead (ts : List Token) (d : ColumnDefinition) (behind : List Token) : Type 0 where
+  pub spelt : ts ≡ column_tokens d ++ behind
+  pub named : is_reserved d.column.name ≡ false
 
 definition_is : (name word : List ℕ) (rest : List Token) (kind : Option ColumnType) (d : ColumnDefinition) (behind : List Token)
     → type_of word ≡ kind → is_reserved name ≡ false → definition_of name kind (key_mark rest) ≡ Some (d, behind) → IsRead (Word name ∷ Word word ∷ rest) d behind
@@ -78,7 +78,7 @@ definition_is name word rest (Some kind) d behind is named e =
       named = named;
     })
 
-definition_read : (ts : List Token) (d : ColumnDefinition) (behind : List Token) → definition_at ts ≡ Some (d, behind) → IsRead ts d behind
+pub definition_read : (ts : List Token) (d : ColumnDefinition) (behind : List Token) → definition_at ts ≡ Some (d, behind) → IsRead ts d behind
 unfolding definition_at
 definition_read (Word name ∷ Word word ∷ rest) d behind e =
     elim (cases_Bool (is_reserved name)) [
@@ -99,10 +99,10 @@ named_first : (d : ColumnDefinition) (ds : List ColumnDefinition) → list_any (
 named_first d ds h = (or_false (is_reserved d.column.name) (list_any (λ c. is_reserved c.column.name) ds) h).0
 
 -- what definitions that are spelt begin with: the first, and a comma or the end
-first_of_one : (ts : List Token) (d : ColumnDefinition) → SpellsColumns ts (d ∷ []) → definition_at ts ≡ Some (d, Mark RightParen ∷ [])
+pub first_of_one : (ts : List Token) (d : ColumnDefinition) → SpellsColumns ts (d ∷ []) → definition_at ts ≡ Some (d, Mark RightParen ∷ [])
 first_of_one ts d spells = ap definition_at spells.spelt ∙ read_again d RightParen [] (named_first d [] spells.names)
 
-first_of_more : (ts : List Token) (d e : ColumnDefinition) (es : List ColumnDefinition) → SpellsColumns ts (d ∷ e ∷ es)
+pub first_of_more : (ts : List Token) (d e : ColumnDefinition) (es : List ColumnDefinition) → SpellsColumns ts (d ∷ e ∷ es)
     → definition_at ts ≡ Some (d, Mark Comma ∷ (columns_tokens (e ∷ es) ++ Mark RightParen ∷ []))
 first_of_more ts d e es spells =
     ap definition_at (spells.spelt ∙ append_assoc (column_tokens d) (Mark Comma ∷ columns_tokens (e ∷ es)) (Mark RightParen ∷ []))
@@ -115,6 +115,15 @@ pub record Kept (ts : List Token) (found : List ColumnDefinition) (rest : List T
 
 pub kept_first : (ts : List Token) → Kept ts [] ts
 kept_first ts = record { sound = λ ds spells. spells; complete = λ ds spells. (ds, refl, spells) }
+
+-- what follows the first comma spells the other definitions
+pub spells_others : (ts : List Token) (d e : ColumnDefinition) (es : List ColumnDefinition) → SpellsColumns ts (d ∷ e ∷ es)
+    → SpellsColumns (columns_tokens (e ∷ es) ++ Mark RightParen ∷ []) (e ∷ es)
+spells_others ts d e es spells = record {
+  spelt = refl;
+  some = omega arith;
+  names = (or_false (is_reserved d.column.name) (list_any (λ c. is_reserved c.column.name) (e ∷ es)) spells.names).1;
+}
 
 -- what definitions begin with: the one that is read, and then the end, or a comma and the others
 spells_next : (rest : List Token) (es : List ColumnDefinition) (d : ColumnDefinition) (behind : List Token)
@@ -132,15 +141,11 @@ spells_next rest (e ∷ f ∷ fs) d behind spells read =
       columns_tokens (f ∷ fs) ++ Mark RightParen ∷ [],
       ap (λ g. g ∷ f ∷ fs) same.0,
       sym same.1,
-      record {
-        spelt = refl;
-        some = omega arith;
-        names = (or_false (is_reserved e.column.name) (list_any (λ c. is_reserved c.column.name) (f ∷ fs)) spells.names).1;
-      },
+      spells_others rest e f fs spells,
     )
 
 -- a definition and a comma before definitions
-spells_before : (rest more : List Token) (d : ColumnDefinition) (ds : List ColumnDefinition)
+pub spells_before : (rest more : List Token) (d : ColumnDefinition) (ds : List ColumnDefinition)
     → IsRead rest d (Mark Comma ∷ more) → SpellsColumns more ds → SpellsColumns rest (d ∷ ds)
 spells_before rest more d [] read spells = absurd (let some = spells.some in omega arith)
 spells_before rest more d (e ∷ es) read spells = record {
@@ -151,7 +156,7 @@ spells_before rest more d (e ∷ es) read spells = record {
   names = rw read.named spells.names;
 }
 
-spells_last : (rest : List Token) (d : ColumnDefinition) → IsRead rest d (Mark RightParen ∷ []) → SpellsColumns rest (d ∷ [])
+pub spells_last : (rest : List Token) (d : ColumnDefinition) → IsRead rest d (Mark RightParen ∷ []) → SpellsColumns rest (d ∷ [])
 spells_last rest d read = record { spelt = read.spelt; some = omega arith; names = rw read.named refl }
 
 module _ (ts rest : List Token) (found : List ColumnDefinition) (kept : Kept ts found rest) where

@@ -7,6 +7,7 @@ pub mod MarksLemmas
 pub mod NamesLemmas
 pub mod NumbersLemmas
 pub mod QuotesLemmas
+pub mod ReadingLemmas
 pub mod RecordsLemmas
 pub mod RunsLemmas
 pub mod TablesLemmas

@@ -54,7 +54,7 @@ token_sign LessThan rest = refl
 token_sign GreaterThan rest = refl
 
 -- a token that is read stands at the front
-token_begins : (text : List ℕ) (t : Token) (rest : List ℕ) → token_at text ≡ Some (t, rest) → Begins text t rest
+pub token_begins : (text : List ℕ) (t : Token) (rest : List ℕ) → token_at text ≡ Some (t, rest) → Begins text t rest
 unfolding token_at
 token_begins text t rest e =
     by_branch (is_letter (slice_index text 0)) (word_at text) _ _ e (word_begins text t rest) (λ _ e.
@@ -77,7 +77,7 @@ form_read (Quoted s) form rest f apart =
 form_read (Mark m) form rest f apart = ap (λ l. token_at (l ++ rest)) f ∙ token_sign m rest ∙ mark_read m rest apart
 
 -- a token that stands at the front is read
-token_read : (text : List ℕ) (t : Token) (rest : List ℕ) → Begins text t rest → token_at text ≡ Some (t, rest)
+pub token_read : (text : List ℕ) (t : Token) (rest : List ℕ) → Begins text t rest → token_at text ≡ Some (t, rest)
 token_read text t rest x = ap token_at x.3 ∙ form_read t x.0 rest x.1 x.2
 
 token_nothing : token_at [] ≡ None
@@ -117,7 +117,7 @@ spells_none : (text : List ℕ) (ts : List Token) → 0 < length text → token_
 spells_none text [] some e h = let same_length = ap length h in omega arith
 spells_none text (t ∷ ts) some e h = none-some _ (sym e ∙ token_read text t h.0 h.1)
 
-spells_nothing : (us : List Token) → SpellsRest [] us → us ≡ []
+pub spells_nothing : (us : List Token) → SpellsRest [] us → us ≡ []
 spells_nothing [] h = refl
 spells_nothing (u ∷ us) h = absurd (let shorter = begins_shorter [] u h.0 h.1 in omega arith)
 

@@ -2,6 +2,7 @@ pub mod CellOrder
 pub mod Codes
 pub mod Integers
 pub mod Limits
+pub mod Reading
 pub mod Records
 pub mod Refusals
 pub mod Scanning

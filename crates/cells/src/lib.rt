@@ -5,6 +5,7 @@
 mod cell;
 mod integers;
 mod limits;
+mod reading;
 mod refused;
 mod row;
 mod scan;
@@ -15,10 +16,11 @@ mod updates;
 
 pub use cell::Cell;
 pub use limits::{MAX_COLUMNS, MAX_TEXT_BYTES};
+pub use reading::{schema_is_the_one_spelt, tokens_are_those_spelt};
 pub use refused::Refused;
 pub use row::Row;
 pub use scan::{tokens, tokens_or};
-pub use schema::{Column, ColumnType, Schema};
+pub use schema::{Column, ColumnType, Schema, is_reserved};
 pub use text::Text;
 pub use token::{Mark, Token, TokenFault};
 pub use updates::{updates_leave_the_last_puts, updates_make_a_map};

@@ -2,6 +2,7 @@
 ghost use Rattle.std.specs.Prelude.{◌≡◌, ◌⊎◌, List, IfOk, IfErr, Some, slice_index, string_bytes};
 ghost use Rattle.std.specs.List.{prefix_len};
 ghost use Rattle.cells.specs.Spelling.{Spells, past, run, without_blanks};
+ghost use Rattle.cells.specs.Reading.{tokens_of};
 ghost use Rattle.cells.specs.Refusals.{AnswersBy, Gives};
 ghost use Rattle.cells.specs.Scanning.{class_test, mark_at, mark_of, number_at, number_form, number_len, number_rest, quoted_at, token_at, unquoted, word_at};
 
@@ -41,6 +42,8 @@ pub fn tokens_or(alloc: Global, text: &str, bad: Refused) -> Result<Vec<Token>, 
     ensures found { IfOk result (λ v. Spells text.now v.items) }
     ensures only { (ts : List Token) → Spells text.now ts → AnswersBy (λ v. v.items) bad (Some ts) result }
     ensures refused { IfErr result (λ e. (e ≡ bad) ⊎ (e ≡ Refused.OutOfMemory)) }
+    // The answer as a function of the text.
+    ensures exact { AnswersBy (λ v. v.items) bad (tokens_of text.now) result }
 {
     match tokens(alloc, text) {
         Ok(found) => Ok(found),

@@ -2,6 +2,7 @@
 ghost use Rattle.std.specs.Prelude.{◌≡◌, ◌<◌, ◌⊎◌, ◌↔◌, List, [], ◌∷◌, IfOk, IfErr, IsTrue, MatchOption, Some, bytes_eq, count_by, length, map, position};
 ghost use Rattle.std.specs.Bool.{Decides};
 ghost use Rattle.std.specs.List.{IsDistinct, list_any};
+ghost use Rattle.cells.specs.Reading.{schema_of};
 ghost use Rattle.cells.specs.Refusals.{Answers, AnswersBy};
 ghost use Rattle.cells.specs.SchemaReading.{BeginsNot, SpellsColumns, definition_at, key_mark, key_place, mark_token, type_of};
 ghost use Rattle.cells.specs.Schemas.{SpellsSchema, TextSpellsSchema, is_reserved};
@@ -68,6 +69,8 @@ impl Schema {
         // What is spelt so is read, unless memory is wanting: the text spells no other schema.
         ensures only { (t : Table) → TextSpellsSchema text.now t → Answers Refused.BadSchema (Some t) result }
         ensures refused { IfErr result (λ e. (e ≡ Refused.BadSchema) ⊎ (e ≡ Refused.OutOfMemory)) }
+        // The answer as a function of the text.
+        ensures exact { Answers Refused.BadSchema (schema_of text.now) result }
     {
         let found = tokens_or(alloc, text, Refused::BadSchema)?;
         schema_of(alloc, found.as_slice())
@@ -210,8 +213,8 @@ fn column_type(word: &str) -> Option<ColumnType>
     }
 }
 
-/// Whether the word, in upper case, is never a name.
-fn is_reserved(word: &str) -> bool
+/// Whether the word, in upper case, is never a name: it is one of the language's own.
+pub fn is_reserved(word: &str) -> bool
     ensures { result ≡ is_reserved word.now }
 {
     is_among(word, &RESERVED_WORDS)

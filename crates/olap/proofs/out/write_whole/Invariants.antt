@@ -1,0 +1,14 @@
+use Rattle.std.proofs.Common.{◌≡◌, ℕ, List, Option, length}
+use Rattle.olap.specs.Taken.{TakesUpTo}
+use Rattle.olap.proofs.out.write_whole.Given as goal
+
+-- the bytes are taken up to the rest, and nothing has failed
+pub record Reached (old new : Option (List ℕ)) (bytes rest : List ℕ) (faults_old faults_new : ℕ) : Type 0 where
+  pub taken : TakesUpTo old new bytes rest
+  pub sound : faults_new ≡ faults_old
+
+abbrev pub invariant-loop-rest : goal.invariant-loop-rest
+invariant-loop-rest g l = Reached (g.O.Out.taken l.fn.out) (g.O.Out.taken l.out) l.bytes l.rest (g.O.Out.faults l.fn.out) (g.O.Out.faults l.out)
+
+abbrev pub decreases-loop-rest : goal.decreases-loop-rest
+decreases-loop-rest g l = length l.rest

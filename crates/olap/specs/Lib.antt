@@ -1,0 +1,11 @@
+pub mod Deeds
+pub mod Endings
+pub mod Hows
+pub mod Output
+pub mod Queries
+pub mod Reads
+pub mod Records
+pub mod Stands
+pub mod Statements
+pub mod Taken
+pub mod Tapes

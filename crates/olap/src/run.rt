@@ -1,0 +1,243 @@
+//! Runs a script: one keeper, line after line, and a block of output for each line that has one.
+ghost use Rattle.std.specs.Prelude.{◌≡◌, ℕ, ◌+◌, ◌<◌, ◌≤◌, ◌^◌, ◌⊎◌, ◌++◌, ◌∷◌, List, [], IfErr, IfOk, IsErr, IsErrOf, None, OnErr, OnOk, Some, codes, length, reverse, string_bytes};
+ghost use Rattle.std.specs.FinMap.{len};
+ghost use Rattle.std.specs.Io.KnownBytes.{Appends};
+ghost use Rattle.std.specs.Str.Lines.{lines};
+ghost use Rattle.board.specs.Editions.{Publishes};
+ghost use Rattle.board.specs.Editions as editions;
+ghost use Rattle.olap.specs.Output.{block, blocks, output, refusal, report, text_of};
+ghost use Rattle.olap.specs.Stands.{Executes, Publishable, PutsRow};
+ghost use Rattle.olap.specs.Taken.{TakesBeginning};
+
+use crate::ended::Ended;
+use crate::gate::Gate;
+use crate::how::How;
+use crate::lines::lines_of;
+use crate::out::{Out, write_whole};
+use crate::statement::{Statement, read_first, read_statement};
+use board::Keeper;
+use cells::{Refused, Row};
+use std::alloc::Global;
+
+/// The most bytes of a script.
+const MAX_SCRIPT_BYTES: usize = 1_048_576;
+
+/// The most parts that may be handed in.
+const MAX_PARTS: usize = 64;
+
+/// Runs a script. Where it answers Ok, the bytes that the writer took in the call are `output` of the
+/// script: each report counts the rows that stood published at its line, whatever later lines change.
+///
+/// Where it ends early, a beginning of them was taken: [`Ended::OutOfMemory`] where a growth was
+/// refused, [`Ended::WriteFailed`] where the writer failed in the call. A script of more than
+/// 1,048,576 bytes and more than 64 parts are refused as a whole: the output is `line 0 refused 15`.
+/// The parts have no effect yet. `gate` is told of each publish.
+pub fn run<O: Out, G: Gate>(
+    alloc: Global,
+    script: &[u8],
+    parts: &[Vec<u8>],
+    how: &How,
+    gate: &G,
+    out: &mut O,
+) -> Result<(), Ended>
+    requires { O.faults out.old + 1 < 2 ^ 64 }
+    ensures output { OnOk result (Appends (O.taken out.old) (O.taken out.new) (output how.now.rows script.now (length parts.now))) }
+    ensures beginning { OnErr result (TakesBeginning (O.taken out.old) (O.taken out.new) (output how.now.rows script.now (length parts.now))) }
+    ensures ended { IfErr result (λ e. (e ≡ Ended.OutOfMemory) ⊎ (e ≡ Ended.WriteFailed)) }
+    ensures fault { IsErrOf result Ended.WriteFailed → O.faults out.old < O.faults out.new }
+    ensures sound { OnOk result (O.faults out.new ≡ O.faults out.old) }
+{
+    if script.len() > MAX_SCRIPT_BYTES || parts.len() > MAX_PARTS {
+        return write_refusal(alloc, out);
+    }
+    run_lines(alloc, script, how.rows(), gate, out)
+}
+
+/// A line of a script, with its number counted from 1.
+#[derive(Clone, Copy)]
+struct Line<'a> {
+    number: u64,
+    bytes: &'a [u8],
+}
+
+/// Runs the lines of a script that is not too long.
+fn run_lines<O: Out, G: Gate>(
+    alloc: Global,
+    script: &[u8],
+    limit: u64,
+    gate: &G,
+    out: &mut O,
+) -> Result<(), Ended>
+    requires faults { O.faults out.old + 1 < 2 ^ 64 }
+    requires short { length script.now ≤ 1048576 }
+    requires limit { 1 ≤ limit × (limit ≤ 2 ^ 32) }
+    ensures output { OnOk result (Appends (O.taken out.old) (O.taken out.new) (blocks limit [] (lines script.now))) }
+    ensures beginning { OnErr result (TakesBeginning (O.taken out.old) (O.taken out.new) (blocks limit [] (lines script.now))) }
+    ensures ended { IfErr result (λ e. (e ≡ Ended.OutOfMemory) ⊎ (e ≡ Ended.WriteFailed)) }
+    ensures fault { IsErrOf result Ended.WriteFailed → O.faults out.old < O.faults out.new }
+    ensures sound { OnOk result (O.faults out.new ≡ O.faults out.old) }
+{
+    let mut desk: Option<Keeper> = None;
+    let mut number = 0u64;
+    for bytes in lines_of(script) {
+        number += 1;
+        let block = execute(alloc, limit, gate, &mut desk, Line { number, bytes })?;
+        let Ok(()) = write_whole(out, block.as_bytes()) else {
+            return Err(Ended::WriteFailed);
+        };
+    }
+    Ok(())
+}
+
+/// Does what a line says, and gives the line's block.
+fn execute<G: Gate>(
+    alloc: Global,
+    limit: u64,
+    gate: &G,
+    desk: &mut Option<Keeper>,
+    line: Line<'_>,
+) -> Result<String, Ended>
+    requires publishable { Publishable desk.old }
+    requires limit { 1 ≤ limit × (limit ≤ 2 ^ 32) }
+    ensures step { IfOk result (λ text. Executes limit line.entry.bytes.now line.entry.number desk.old desk.new (string_bytes text)) }
+    ensures ended { IfErr result (λ e. e ≡ Ended.OutOfMemory) }
+{
+    if let Some(keeper) = desk {
+        return execute_kept(alloc, gate, keeper, line);
+    }
+    let (keeper, text) = execute_first(alloc, limit, line)?;
+    *desk = keeper;
+    Ok(text)
+}
+
+/// The same before there is a table.
+fn execute_first(
+    alloc: Global,
+    limit: u64,
+    line: Line<'_>,
+) -> Result<(Option<Keeper>, String), Ended>
+    requires { 1 ≤ limit × (limit ≤ 2 ^ 32) }
+    ensures step { IfOk result (λ r. Executes limit line.entry.bytes.now line.entry.number None r.0 (string_bytes r.1)) }
+    ensures ended { IfErr result (λ e. e ≡ Ended.OutOfMemory) }
+{
+    match read_first(alloc, line.bytes) {
+        Ok(None) => Ok((None, String::new(alloc))),
+        Ok(Some(schema)) => match Keeper::new(alloc, schema, limit, 1) {
+            Ok(keeper) => Ok((Some(keeper), String::new(alloc))),
+            Err(_) => Err(Ended::OutOfMemory),
+        },
+        Err(refused) => {
+            let text = refusal_text(alloc, line.number, refused)?;
+            Ok((None, text))
+        }
+    }
+}
+
+/// The same once there is a table.
+#[tactic(auto, using(crate::proofs::StepsLemmas::executes_nothing, crate::proofs::StepsLemmas::executes_refused, crate::proofs::StepsLemmas::executes_report, crate::proofs::StepsLemmas::executes_put, crate::proofs::StepsLemmas::executes_overflow, crate::proofs::StepsLemmas::executes_publish))]
+fn execute_kept<G: Gate>(
+    alloc: Global,
+    gate: &G,
+    keeper: &mut Keeper,
+    line: Line<'_>,
+) -> Result<String, Ended>
+    requires { editions.edition keeper.old + 1 < 2 ^ 64 }
+    ensures step { IfOk result (λ text. (limit : ℕ) → Executes limit line.entry.bytes.now line.entry.number (Some keeper.old) (Some keeper.new) (string_bytes text)) }
+    ensures ended { IfErr result (λ e. e ≡ Ended.OutOfMemory) }
+{
+    match read_statement(alloc, keeper.schema(), line.bytes) {
+        Ok(Statement::Nothing) => Ok(String::new(alloc)),
+        Ok(Statement::Put(row)) => put(alloc, keeper, row, line.number),
+        Ok(Statement::Publish) => publish(alloc, gate, keeper),
+        Ok(Statement::Report) => report_text(alloc, keeper, line.number),
+        Err(refused) => refusal_text(alloc, line.number, refused),
+    }
+}
+
+/// Lays a row over the draft, or refuses it where the draft is full.
+fn put(alloc: Global, keeper: &mut Keeper, row: Row, number: u64) -> Result<String, Ended>
+    ensures step { IfOk result (λ text. PutsRow keeper.old keeper.new row number (string_bytes text)) }
+    ensures ended { IfErr result (λ e. e ≡ Ended.OutOfMemory) }
+{
+    match keeper.put(row) {
+        Ok(()) => Ok(String::new(alloc)),
+        Err(refused) => refusal_text(alloc, number, refused),
+    }
+}
+
+/// Publishes the draft, and tells the gate.
+fn publish<G: Gate>(alloc: Global, gate: &G, keeper: &mut Keeper) -> Result<String, Ended>
+    requires { editions.edition keeper.old + 1 < 2 ^ 64 }
+    ensures published { OnOk result (Publishes keeper.old keeper.new) }
+    ensures nothing { IfOk result (λ text. string_bytes text ≡ []) }
+    ensures ended { IfErr result (λ e. e ≡ Ended.OutOfMemory) }
+{
+    if keeper.publish().is_err() {
+        return Err(Ended::OutOfMemory);
+    }
+    gate.published(keeper.edition());
+    Ok(String::new(alloc))
+}
+
+/// The block of a report on the last published edition.
+fn report_text(alloc: Global, keeper: &Keeper, number: u64) -> Result<String, Ended>
+    ensures text { IfOk result (λ text. string_bytes text ≡ report number (editions.edition keeper.now) (len (editions.published keeper.now))) }
+    ensures ended { IfErr result (λ e. e ≡ Ended.OutOfMemory) }
+{
+    let Ok(snapshot) = keeper.snapshot() else {
+        return Err(Ended::OutOfMemory);
+    };
+    let edition = snapshot.edition();
+    let count = snapshot.root().len();
+    let text = format!(in alloc; "line {number} edition {edition}\nCOUNT(*)\n{count}\n")?;
+    Ok(text)
+}
+
+/// The block of a refused line. Want of memory is no refusal of a line: it ends the run.
+fn refusal_text(alloc: Global, number: u64, refused: Refused) -> Result<String, Ended>
+    ensures text { IfOk result (λ text. string_bytes text ≡ refusal number refused) }
+    ensures memory { refused ≡ Refused.OutOfMemory → IsErr result }
+    ensures ended { IfErr result (λ e. e ≡ Ended.OutOfMemory) }
+{
+    if refused == Refused::OutOfMemory {
+        return Err(Ended::OutOfMemory);
+    }
+    let code = refused.number();
+    let text = format!(in alloc; "line {number} refused {code}\n")?;
+    Ok(text)
+}
+
+/// Writes the whole output of a script that is too long, or of too many parts.
+#[tactic(auto, using(crate::proofs::TakenLemmas::takes_nothing))]
+fn write_refusal<O: Out>(alloc: Global, out: &mut O) -> Result<(), Ended>
+    requires { O.faults out.old + 1 < 2 ^ 64 }
+    ensures output { OnOk result (Appends (O.taken out.old) (O.taken out.new) (refusal 0 Refused.Limit)) }
+    ensures beginning { OnErr result (TakesBeginning (O.taken out.old) (O.taken out.new) (refusal 0 Refused.Limit)) }
+    ensures ended { IfErr result (λ e. (e ≡ Ended.OutOfMemory) ⊎ (e ≡ Ended.WriteFailed)) }
+    ensures fault { IsErrOf result Ended.WriteFailed → O.faults out.old < O.faults out.new }
+    ensures sound { OnOk result (O.faults out.new ≡ O.faults out.old) }
+{
+    let text = refusal_text(alloc, 0, Refused::Limit)?;
+    let Ok(()) = write_whole(out, text.as_bytes()) else {
+        return Err(Ended::WriteFailed);
+    };
+    Ok(())
+}
+
+/// A line's block depends on that line and on the lines before it alone, whatever lines follow.
+pub fn each_line_by_itself()
+    ensures { (limit : ℕ) (earlier : List (List ℕ)) (line : List ℕ) (later : List (List ℕ)) →
+        blocks limit [] (earlier ++ line ∷ later)
+        ≡ blocks limit [] earlier ++ (block limit (reverse earlier) line ++ blocks limit (line ∷ reverse earlier) later) }
+{}
+
+/// Five worked scripts, computed by the definition of the output: none of them asks the code.
+pub fn worked_scripts()
+    ensures empty { output 1 [] 0 ≡ [] }
+    ensures no_table { output 1 (text_of (codes "publish" ∷ [])) 0 ≡ text_of (codes "line 1 refused 1" ∷ []) }
+    ensures capitals { output 1 (text_of (codes "Table T (K INT KEY)" ∷ [])) 0 ≡ text_of (codes "line 1 refused 3" ∷ []) }
+    ensures counted { output 1 (text_of (codes "table T (K INT KEY)" ∷ codes "publish" ∷ codes "report SELECT COUNT(*) FROM T" ∷ [])) 0
+        ≡ text_of (codes "line 3 edition 1" ∷ codes "COUNT(*)" ∷ codes "0" ∷ []) }
+    ensures replaced { output 9 (text_of (codes "table T (K INT KEY)" ∷ codes "put 1" ∷ codes "put 2" ∷ codes "put 1" ∷ codes "publish" ∷ codes "report SELECT COUNT(*) FROM T" ∷ codes "put x" ∷ [])) 0
+        ≡ text_of (codes "line 6 edition 1" ∷ codes "COUNT(*)" ∷ codes "2" ∷ codes "line 7 refused 7" ∷ []) }
+{}
