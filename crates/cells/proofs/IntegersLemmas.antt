@@ -2,14 +2,14 @@
 use Rattle.std.proofs.Common.{arith, refl, ◌≡◌, ◌≢◌, ◌<◌, ◌^◌, ap, sym, ◌∙◌, inl, inr, slice_index}
 use Rattle.std.proofs.lemmas.Bool.{cases_Bool}
 use Rattle.std.proofs.lemmas.Bool.Decides.{nat_tests}
-use Rattle.std.specs.Prelude.{ℕ, zero, suc, ℤ, pos, neg_ℤ, List, [], ◌∷◌, true, false, drop, Option, Some, None, option_and_then, nat_le, nat_lt, FitsSigned, Result, Ok, Err, ◌==◌}
+use Rattle.std.specs.Prelude.{ℕ, zero, suc, pos, neg_ℤ, List, [], ◌∷◌, true, false, drop, Option, Some, None, option_and_then, nat_le, nat_lt, FitsSigned, Result, Ok, Err, ◌==◌}
 use Rattle.std.specs.Char.{digit_value, is_ascii_digit}
 use Rattle.std.specs.Int.{w64}
 use Rattle.std.specs.List.{list_all}
 use Rattle.std.specs.Option.{SomeIff}
 use Rattle.std.specs.Result.{OkIff, result_ok}
 use Rattle.std.specs.Str.Parse.{AllDigits, IsNumeral, digits_value, signed_digits_value, starts_with_minus, without_leading_plus, without_leading_sign}
-use Rattle.cells.specs.Integers.{integer_of, natural_of, negative, positive}
+use Rattle.cells.specs.Integers.{integer_of, natural_of, negative, positive, unsigned, whole_number_of}
 
 digit : (c : ℕ) → is_ascii_digit c ≡ true → digit_value c < 10
 digit c e = grind arith
@@ -56,7 +56,7 @@ weaker None P Q v p h = λ b. h b.1
 weaker (Some x) P Q v p h = ((p, h.0), h.1)
 
 -- a test and then another
-both_is : (o : Option ℕ) (next : ℕ → Option ℤ) (P Q : Type 0) (n : ℕ) (v : ℤ)
+both_is : {A : Type 0} (o : Option ℕ) (next : ℕ → Option A) (P Q : Type 0) (n : ℕ) (v : A)
     → SomeIff o P n → SomeIff (next n) Q v → SomeIff (option_and_then next o) (P × Q) v
 both_is None next P Q n v h k = λ b. h b.0
 both_is (Some m) next P Q n v h k = weaker (next m) P Q v h.0 (rw h.1 k)
@@ -69,7 +69,19 @@ integer_is bs h = elim (cases_Bool (starts_with_minus bs)) [
       rw (n, plain) (both_is (natural_of bs) positive _ _ _ _ (natural_is bs) (positive_is (digits_value 10 bs)))
 ]
 
-pub same_answer : {E : Type 0} (r : Result ℤ E) (o : Option ℤ) (P : Type 0) (v : ℤ) → OkIff r P v → SomeIff o P v → result_ok r ≡ o
+unsigned_is : (n : ℕ) → SomeIff (unsigned n) (n < 2 ^ 64) n
+unsigned_is n = elim (cases_Bool (nat_lt n (2 ^ 64))) [
+  | inl y ↦ rw y (grind (arith, nat_tests), refl)
+  | inr l ↦ rw l (λ h. grind (arith, nat_tests))
+]
+
+pub whole_number_is : (bs : List ℕ) → slice_index bs 0 ≢ 43
+    → SomeIff (whole_number_of bs) (IsNumeral 10 (without_leading_plus bs) × (digits_value 10 (without_leading_plus bs) < 2 ^ 64)) (digits_value 10 (without_leading_plus bs))
+whole_number_is bs h =
+    let plain : without_leading_plus bs ≡ bs = let other : (slice_index bs 0 == 43) ≡ false = grind (arith, nat_tests) in rw other refl in
+    rw plain (both_is (natural_of bs) unsigned _ _ _ _ (natural_is bs) (unsigned_is (digits_value 10 bs)))
+
+pub same_answer : {A E : Type 0} (r : Result A E) (o : Option A) (P : Type 0) (v : A) → OkIff r P v → SomeIff o P v → result_ok r ≡ o
 same_answer (Ok x) (Some y) P v a b = ap Some (a.1 ∙ sym b.1)
 same_answer (Ok x) None P v a b = absurd (b a.0)
 same_answer (Err e) (Some y) P v a b = absurd (a b.0)

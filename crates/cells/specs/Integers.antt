@@ -20,3 +20,10 @@ positive n = if nat_lt n (2 ^ 63) then Some (pos n) else None
 abbrev pub integer_of : List ℕ → Option ℤ
 integer_of bs = if starts_with_minus bs then option_and_then negative (natural_of (drop 1 bs))
     else option_and_then positive (natural_of bs)
+
+-- digits alone, with a value of 64 bits; there is no sign
+abbrev pub unsigned : ℕ → Option ℕ
+unsigned n = if nat_lt n (2 ^ 64) then Some n else None
+
+abbrev pub whole_number_of : List ℕ → Option ℕ
+whole_number_of bs = option_and_then unsigned (natural_of bs)

@@ -15,6 +15,7 @@ mod token;
 mod updates;
 
 pub use cell::Cell;
+pub use integers::whole_number_of;
 pub use limits::{MAX_COLUMNS, MAX_TEXT_BYTES};
 pub use reading::{schema_is_the_one_spelt, tokens_are_those_spelt};
 pub use refused::Refused;

@@ -1,5 +1,6 @@
 pub mod BlocksLemmas
 pub mod CommandsLemmas
+pub mod CommandLineLemmas
 pub mod DepthLemmas
 pub mod FieldsLemmas
 pub mod LinesLemmas

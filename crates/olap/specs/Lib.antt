@@ -1,6 +1,8 @@
+pub mod CommandLine
 pub mod Deeds
 pub mod Endings
 pub mod Hows
+pub mod Jobs
 pub mod Output
 pub mod Queries
 pub mod Reads
