@@ -1,7 +1,7 @@
 pub mod BeginsLemmas
-pub mod CellsLemmas
 pub mod ChoicesLemmas
 pub mod ColumnsLemmas
+pub mod HashesLemmas
 pub mod IntegersLemmas
 pub mod MarksLemmas
 pub mod NamesLemmas

@@ -8,7 +8,7 @@ use Rattle.cells.specs.Tables.{keyed_rows, table}
 use Rattle.cells.specs.Updates.{Update, Put, Delete, rows, touches, without, AreLeft}
 use Rattle.cells.specs.Values.{Entry}
 use Rattle.cells.specs.declared.cell.Cell.{Cell}
-use Rattle.cells.proofs.CellsLemmas.{exact_cells}
+use Rattle.cells.specs.SameKeys.{exact_cells}
 use Rattle.cells.proofs.UpdatesLemmas.{rows_put, rows_delete}
 
 twice : (b : Bool) (u v f : Option Entry) → cond b u f ≡ cond b u (cond b v f)

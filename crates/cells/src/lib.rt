@@ -3,6 +3,7 @@
 #![tactic(auto)]
 
 mod cell;
+mod hash;
 mod integers;
 mod limits;
 mod reading;
@@ -12,9 +13,11 @@ mod scan;
 mod schema;
 mod text;
 mod token;
+mod tuple;
 mod updates;
 
 pub use cell::Cell;
+pub use hash::{Fnv, KeyHash, Plain, worked_hashes};
 pub use integers::whole_number_of;
 pub use limits::{MAX_COLUMNS, MAX_TEXT_BYTES};
 pub use reading::{schema_is_the_one_spelt, tokens_are_those_spelt};
@@ -24,6 +27,7 @@ pub use scan::{tokens, tokens_or};
 pub use schema::{Column, ColumnType, Schema, is_reserved};
 pub use text::Text;
 pub use token::{Mark, Token, TokenFault};
+pub use tuple::Tuple;
 pub use updates::{updates_leave_the_last_puts, updates_make_a_map};
 
 #[cfg(test)]
