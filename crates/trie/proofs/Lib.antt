@@ -1,0 +1,16 @@
+pub mod DigitsLemmas
+pub mod EntriesLemmas
+pub mod ListsLemmas
+pub mod MapCountsLemmas
+pub mod MapKeysLemmas
+pub mod MapRisingLemmas
+pub mod MapsLemmas
+pub mod NodesLemmas
+pub mod OrderLemmas
+pub mod PlacesLemmas
+pub mod PutLemmas
+pub mod RemoveLemmas
+pub mod ShapeNodesLemmas
+pub mod ShapesLemmas
+pub mod TreeLemmas
+pub mod VariantsLemmas

@@ -1,0 +1,79 @@
+use Rattle.std.proofs.Common.{◌<◌, ◌^◌, [], ◌∷◌, length, ap, arith, rules}
+use Rattle.trie.specs.Tree.{entries_in, node_of}
+use Rattle.trie.proofs.OrderLemmas.{same_hash, without_key-order}
+use Rattle.trie.proofs.PlacesLemmas.{without_key-below, without_key-bounds, without_key-missing}
+use Rattle.trie.proofs.VariantsLemmas.{branch_in, leaf_in, place_is}
+use Rattle.trie.proofs.remove.+remove_at.Goals as goal
+
+pub step-requires : goal.step-requires
+step-requires g t c =
+    (branch_in g.H.KeyHash.hash_of g.K.Ord.cmp _ _ _ _
+    (place_is _ _ _ _ c.in-Some.is c.deref.ensures c.in-Branch.is) c.requires.placed).places_are
+
+pub remove_at-requires : goal.remove_at-requires
+remove_at-requires g t c =
+    let branch =
+    branch_in g.H.KeyHash.hash_of g.K.Ord.cmp _ _ _ _
+    (place_is _ _ _ _ c.in-Some.is c.deref.ensures c.in-Branch.is) c.requires.placed in
+    let fits : length (entries_in (node_of c.step.result.0.now)) < 2 ^ 64 =
+    omega (arith, c.step.ensures.fewer, ap length branch.entries_are, c.requires.fits) in
+    search rules
+
+pub returns-in_default-2-clause-map : goal.returns-in_default-2-clause-map
+returns-in_default-2-clause-map g t c =
+    let branch =
+    branch_in g.H.KeyHash.hash_of g.K.Ord.cmp _ _ _ _
+    (place_is _ _ _ _ c.in-Some.is c.deref.ensures c.in-Branch.is) c.requires.placed in
+    rw branch.entries_are
+    (without_key-missing g.H.KeyHash.hash_of g.K.Ord.cmp _ _ c.args.at.within _ branch.places_are c.args.key.now
+    c.requires.hashed _ c.step.ensures.place (rw c.in_default-2.is at c.in_ok-rest-in-Branch.ensures.map))
+
+pub with_place-requires-clause-places : goal.with_place-requires-clause-places
+with_place-requires-clause-places g t c =
+    let branch =
+    branch_in g.H.KeyHash.hash_of g.K.Ord.cmp _ _ _ _
+    (place_is _ _ _ _ c.in-Some.is c.deref.ensures c.in-Branch.is) c.requires.placed in
+    rw c.in_ok-places-in-Branch.ensures branch.places_are
+
+pub with_place-requires-clause-some : goal.with_place-requires-clause-some
+with_place-requires-clause-some g t c =
+    let branch =
+    branch_in g.H.KeyHash.hash_of g.K.Ord.cmp _ _ _ _
+    (place_is _ _ _ _ c.in-Some.is c.deref.ensures c.in-Branch.is) c.requires.placed in
+    let rest = rw c.in-Left.is at c.in_ok-rest-in-Branch.ensures.map in
+    let bounds =
+    without_key-bounds g.H.KeyHash.hash_of g.K.Ord.cmp _ _ c.args.at.within _ branch.places_are c.args.key.now
+    c.requires.hashed _ c.step.ensures.place _ rest.entries_are in
+    rw c.in_ok-places-in-Branch.ensures (omega (arith, branch.many, bounds.1))
+
+pub with_place-requires-clause-fits : goal.with_place-requires-clause-fits
+with_place-requires-clause-fits g t c =
+    let branch =
+    branch_in g.H.KeyHash.hash_of g.K.Ord.cmp _ _ _ _
+    (place_is _ _ _ _ c.in-Some.is c.deref.ensures c.in-Branch.is) c.requires.placed in
+    let rest = rw c.in-Left.is at c.in_ok-rest-in-Branch.ensures.map in
+    let bounds =
+    without_key-bounds g.H.KeyHash.hash_of g.K.Ord.cmp _ _ c.args.at.within _ branch.places_are c.args.key.now
+    c.requires.hashed _ c.step.ensures.place _ rest.entries_are in
+    rw c.in_ok-places-in-Branch.ensures (omega (arith, bounds.0, ap length branch.entries_are, c.requires.fits))
+
+pub returns-then-is_eq-clause-map : goal.returns-then-is_eq-clause-map
+returns-then-is_eq-clause-map g t c =
+    let leaf =
+    leaf_in g.H.KeyHash.hash_of g.K.Ord.cmp _ _ _ (place_is _ _ _ _ c.in-Some.is c.deref.ensures c.in-Leaf.is)
+    c.requires.placed in
+    let same =
+    same_hash g.H.KeyHash.hash_of g.K.Ord.cmp g.K.PartialEq.eq g.met.K.Ord.matches_eq
+    g.met.H.KeyHash.respects_eq in
+    record { placed = tt; entries_are = rw (leaf.entries_are, without_key-order g.H.KeyHash.hash_of g.K.Ord.cmp same c.args.key.now (c.in-Leaf.pair.value ∷ [])) (search rules) }
+
+pub returns-in_ok-node-in-Branch-clause-map : goal.returns-in_ok-node-in-Branch-clause-map
+returns-in_ok-node-in-Branch-clause-map g t c =
+    let branch =
+    branch_in g.H.KeyHash.hash_of g.K.Ord.cmp _ _ _ _
+    (place_is _ _ _ _ c.in-Some.is c.deref.ensures c.in-Branch.is) c.requires.placed in
+    let rest = rw c.in-Left.is at c.in_ok-rest-in-Branch.ensures.map in
+    let whole =
+    without_key-below g.H.KeyHash.hash_of g.K.Ord.cmp _ _ c.args.at.within _ branch.places_are c.args.key.now
+    c.requires.hashed _ c.step.ensures.place _ rest.entries_are in
+    rw (branch.entries_are, ← whole) (rw c.in_ok-places-in-Branch.ensures at c.in_ok-node-in-Branch.ensures.held)

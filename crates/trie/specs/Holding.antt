@@ -1,0 +1,106 @@
+-- What the functions on nodes answer.
+use Rattle.std.specs.Prelude.{◌≡◌, ℕ, ◌+◌, ◌<◌, ◌^◌, List, [], ◌∷◌, length, map, set, Option, Some, None, Vec, if◌then◌else◌, ◌==◌}
+use Rattle.std.specs.List.{flat_map}
+use Rattle.std.specs.declared.alloc.Global.{Global}
+use Rattle.std.specs.declared.cmp.Ordering.{Ordering}
+use Rattle.std.specs.declared.sync.Arc.{Arc}
+use Rattle.std.specs.Borrow.{Bor}
+use Rattle.trie.specs.Digits.{digit, digit_count, digit_order, first_digits, place_count}
+use Rattle.trie.specs.Entries.{with_pair, without_key}
+use Rattle.trie.specs.Tree.{AreChildren, entries_in, IsNode, IsPlace, node_of, nodes}
+use Rattle.trie.specs.declared.digits.HashPrefix.{HashPrefix}
+use Rattle.trie.specs.declared.node.Node.{Node, out-Node}
+use Rattle.trie.specs.declared.node.Node.TheOpen.{Node-F, Branch, Bucket, Leaf}
+use Rattle.trie.specs.declared.put.Reach.{Reach}
+use Rattle.trie.specs.declared.put.Reach.TheVariants.{Here, Below}
+use Rattle.trie.specs.declared.remove.Removed.{Removed}
+use Rattle.trie.specs.declared.remove.Removed.TheVariants.{Missing, Left}
+
+-- the pairs, whoever owns them
+abbrev pub pairs_of : {X : Type 0} → List (Arc X Global) → List X
+pairs_of pairs = map (λ p. p.value) pairs
+
+-- the new entries are the old ones with the pair
+abbrev pub IsWith : {K V : Type 0} → (K → K → Ordering) → K × V → List (K × V) → List (K × V) → Type 0
+IsWith order pair old new = new ≡ with_pair order pair.0 pair.1 old
+
+-- the key is not there, or this is what is left without it
+abbrev pub IsWithout : {K V : Type 0} → (K → K → Ordering) → K → List (K × V) → Option (Vec (Arc (K × V) Global) Global) → Type 0
+IsWithout order key held None = without_key order key held ≡ held
+IsWithout order key held (Some left) = (pairs_of left.items ≡ without_key order key held) × (length (pairs_of left.items) + 1 ≡ length held)
+
+-- the digits of a prefix
+abbrev pub prefix_of : HashPrefix → List ℕ
+prefix_of at = first_digits at.hash at.depth
+
+-- the entries in a place, whoever owns its node
+abbrev pub held_in : {K V : Type 0} → Option (Arc (Node K V) Global) → List (K × V)
+held_in place = entries_in (node_of place)
+
+-- the entries in the places with this one in the place after the prefix
+abbrev pub held_with : {K V : Type 0} → HashPrefix → List (Option (Arc (Node K V) Global)) → Option (Arc (Node K V) Global) → List (K × V)
+held_with at places place = flat_map entries_in (set (nodes places) (digit at.hash at.depth) (node_of place))
+
+-- what references lend
+abbrev pub lent : {K V : Type 0} → List (Bor K × Bor V) → List (K × V)
+lent pairs = map (λ p. (p.0.now, p.1.now)) pairs
+
+-- how many entries a node says it has
+abbrev pub layer_len : {K V X : Type 0} → Node-F K V X → ℕ
+layer_len (Leaf pair) = 1
+layer_len (Bucket pairs) = length pairs.items
+layer_len (Branch len places) = len
+
+abbrev pub node_len : {K V : Type 0} → Node K V → ℕ
+node_len {K} {V} node = layer_len (out-Node K V node)
+
+-- the same of a place
+abbrev pub len_in : {K V : Type 0} → Option (Node K V) → ℕ
+len_in None = 0
+len_in (Some node) = node_len node
+
+-- the first node in the places
+abbrev pub first_node : {X : Type 0} → List (Option X) → Option X
+first_node [] = None
+first_node (None ∷ places) = first_node places
+first_node (Some node ∷ places) = Some node
+
+-- that node, where there is one entry
+abbrev pub sole_node : {X : Type 0} → ℕ → List (Option X) → Option X
+sole_node len places = if len == 1 then first_node places else None
+
+module _ {K V : Type 0} (hash : K → ℕ) (cmp : K → K → Ordering) where
+  -- these are the places of a branch of the prefix
+  pub record ArePlaces (prefix : List ℕ) (places : List (Option (Node K V))) : Type 0 where
+    pub short : length prefix < digit_count
+    pub wide : length places ≡ place_count
+    pub children : AreChildren (IsNode hash cmp) prefix 0 places
+
+  -- the place is of the prefix, and these are its entries
+  pub record Holds (prefix : List ℕ) (held : List (K × V)) (place : Option (Node K V)) : Type 0 where
+    pub placed : IsPlace hash cmp place prefix
+    pub entries_are : entries_in place ≡ held
+
+  -- the place is canonical below the prefix
+  abbrev pub IsPlaced : HashPrefix → Option (Arc (Node K V) Global) → Type 0
+  IsPlaced at place = IsPlace hash cmp (node_of place) (prefix_of at)
+
+  -- a trie's root is canonical, and its entries can be counted
+  pub record IsTrie (root : Option (Node K V)) : Type 0 where
+    pub placed : IsPlace hash cmp root []
+    pub fits : length (entries_in root) < 2 ^ 64
+
+  -- the node has what the place had, and the pair
+  abbrev pub HasPair : HashPrefix → K × V → Option (Arc (Node K V) Global) → Node K V → Type 0
+  HasPair at pair place node = Holds (prefix_of at) (with_pair (digit_order hash cmp) pair.0 pair.1 (held_in place)) (Some node)
+
+  -- a put ends with a node that has the pair too, or the places have what the place had
+  abbrev pub IsReached : HashPrefix → K × V → Option (Arc (Node K V) Global) → Reach K V → Type 0
+  IsReached at pair place (Here node) = HasPair at pair place node
+  IsReached at pair place (Below places) =
+      ArePlaces (prefix_of at) (nodes places.items) × (flat_map entries_in (nodes places.items) ≡ held_in place)
+
+  -- the key is not there, or this is what is left without it
+  abbrev pub IsRemoved : HashPrefix → K → List (K × V) → Removed K V → Type 0
+  IsRemoved at key held Missing = without_key (digit_order hash cmp) key held ≡ held
+  IsRemoved at key held (Left place) = Holds (prefix_of at) (without_key (digit_order hash cmp) key held) (node_of place)

@@ -1,0 +1,6 @@
+pub mod Digits
+pub mod Entries
+pub mod Holding
+pub mod Maps
+pub mod Shapes
+pub mod Tree

@@ -1,0 +1,76 @@
+//! The digits of a hash. No other room knows how many they are, nor how many bits each has.
+ghost use Rattle.std.specs.Prelude.{◌≡◌, ◌+◌, ◌<◌, ◌≤◌, ◌↔◌, IsTrue};
+ghost use Rattle.trie.specs.Digits.{digit, digit_count, place_count};
+
+/// How many bits a digit has.
+const BITS: u32 = 4;
+
+/// How many digits a hash has: enough for its 64 bits.
+const DIGITS: u32 = 16;
+
+/// How many places a branch has: one for each digit.
+pub const PLACES: usize = 1 << BITS;
+
+/// The first digits of a hash, the low digit first.
+#[derive(Clone, Copy)]
+pub struct HashPrefix {
+    hash: u64,
+    depth: u32,
+    ghost within: { depth ≤ digit_count },
+}
+
+impl HashPrefix {
+    /// No digit of the hash.
+    pub fn empty(hash: u64) -> HashPrefix
+        ensures hash { result.hash ≡ hash }
+        ensures depth { result.depth ≡ 0 }
+    {
+        HashPrefix { hash, depth: 0 }
+    }
+
+    /// Whether all digits are in the prefix.
+    pub fn is_whole(self) -> bool
+        ensures { IsTrue result ↔ (self.depth ≡ digit_count) }
+    {
+        self.depth == DIGITS
+    }
+
+    /// The digit after the prefix.
+    pub fn next(self) -> usize
+        requires { self.depth < digit_count }
+        ensures value { result ≡ digit self.hash self.depth }
+        ensures bound { result < place_count }
+    {
+        digit_at(self.hash, self.depth)
+    }
+
+    /// The digit of another hash in the place after the prefix.
+    pub fn next_of(self, hash: u64) -> usize
+        requires { self.depth < digit_count }
+        ensures value { result ≡ digit hash self.depth }
+        ensures bound { result < place_count }
+    {
+        digit_at(hash, self.depth)
+    }
+
+    /// The prefix with the digit after it.
+    pub fn longer(self) -> HashPrefix
+        requires { self.depth < digit_count }
+        ensures hash { result.hash ≡ self.hash }
+        ensures depth { result.depth ≡ self.depth + 1 }
+    {
+        HashPrefix {
+            hash: self.hash,
+            depth: self.depth + 1,
+        }
+    }
+}
+
+/// The digit of the hash in this place.
+fn digit_at(hash: u64, place: u32) -> usize
+    requires { place < digit_count }
+    ensures value { result ≡ digit hash place }
+    ensures bound { result < place_count }
+{
+    (hash >> (BITS * place)) as usize % PLACES
+}

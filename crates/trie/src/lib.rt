@@ -1,0 +1,31 @@
+//! A persistent hash trie: a finite map whose versions share what they have in common.
+//!
+//! A hash is read as digits, the low digit first. The shape is canonical: a prefix of digits that
+//! two keys or more share is a branch, a whole hash that two keys or more share is a bucket, and any
+//! other key is a leaf. So the shape, like the list of entries, depends on the keys alone. The
+//! structure is that of A. Prokopec, N. Bronson, P. Bagwell and M. Odersky, "Concurrent Tries with
+//! Efficient Non-Blocking Snapshots", PPoPP 2012, with nodes that never change once they are made.
+#![tactic(auto)]
+
+mod bucket;
+mod digits;
+mod entries;
+mod get;
+mod laws;
+mod node;
+mod put;
+mod remove;
+mod shape;
+mod ticks;
+mod trie;
+
+pub use laws::{
+    entries_are_a_map, entries_still_rise, keys_decide_the_shape, values_decide_the_entries,
+    worked_shapes,
+};
+pub use shape::{Prefix, Shape};
+pub use ticks::Ticks;
+pub use trie::Trie;
+
+#[cfg(test)]
+mod tests;

@@ -1,0 +1,87 @@
+//! Taking a key out of a map.
+ghost use Rattle.std.specs.Prelude.{◌≡◌, ◌+◌, ◌<◌, ◌≤◌, ◌^◌, IfOk, Some, length};
+ghost use Rattle.trie.specs.Digits.{digit_count};
+ghost use Rattle.trie.specs.Holding.{held_in, IsPlaced, IsRemoved, pairs_of, prefix_of};
+ghost use Rattle.trie.specs.Tree.{IsPlace};
+ghost use Rattle.trie.specs.declared.node.Node.TheVariants.{Bucket};
+
+use crate::bucket::without;
+use crate::digits::HashPrefix;
+use crate::node::{Node, Place, make, shared_places, step, with_place};
+use crate::ticks::Ticks;
+use cells::KeyHash;
+use std::alloc::{AllocError, Global};
+use std::sync::Arc;
+
+/// What a removal finds: no such key, or what is left without it.
+#[derive(Drop)]
+pub enum Removed<K, V> {
+    Missing,
+    Left(Place<K, V>),
+}
+
+/// The place below the prefix without the key.
+pub fn remove_at<K: Ord + Drop, V: Drop, H: KeyHash<K>>(
+    alloc: Global,
+    place: &Place<K, V>,
+    key: &K,
+    at: HashPrefix,
+    ticks: &mut Ticks,
+) -> Result<Removed<K, V>, AllocError>
+    requires hashed { at.hash ≡ H.hash_of key.now }
+    requires placed { IsPlaced H.hash_of K.cmp at place.now }
+    requires fits { length (held_in place.now) < 2 ^ 64 }
+    ensures map { IfOk result (IsRemoved H.hash_of K.cmp at key.now (held_in place.now)) }
+
+    // A node for each digit that is left, and one more.
+    ensures counted { ticks.new + at.depth ≤ ticks.old + (digit_count + 1) }
+    ensures grows { ticks.old ≤ ticks.new }
+{
+    let Some(node) = place else {
+        return Ok(Removed::Missing);
+    };
+    match &**node {
+        Node::Leaf(pair) => {
+            if key.cmp(&pair.0).is_eq() {
+                Ok(Removed::Left(None))
+            } else {
+                Ok(Removed::Missing)
+            }
+        }
+        Node::Bucket(pairs) => remove_from_bucket::<K, V, H>(alloc, pairs, key, at, ticks),
+        Node::Branch { places, .. } => {
+            let (child, below) = step::<K, V, H>(places, at);
+            let Removed::Left(rest) = remove_at::<K, V, H>(alloc, child, key, below, ticks)? else {
+                return Ok(Removed::Missing);
+            };
+            let places = shared_places(alloc, places)?;
+            let node = with_place::<K, V, H>(alloc, places, rest, at, ticks)?;
+            Ok(Removed::Left(Some(node)))
+        }
+    }
+}
+
+/// The bucket without the key: a leaf, where one key is left.
+fn remove_from_bucket<K: Ord + Drop, V: Drop, H: KeyHash<K>>(
+    alloc: Global,
+    pairs: &Vec<Arc<(K, V)>>,
+    key: &K,
+    at: HashPrefix,
+    ticks: &mut Ticks,
+) -> Result<Removed<K, V>, AllocError>
+    requires hashed { at.hash ≡ H.hash_of key.now }
+    requires placed { IsPlace H.hash_of K.cmp (Some (Bucket pairs.now)) (prefix_of at) }
+    ensures map { IfOk result (IsRemoved H.hash_of K.cmp at key.now (pairs_of pairs.now.items)) }
+    ensures counted { ticks.new ≤ ticks.old + 1 }
+    ensures grows { ticks.old ≤ ticks.new }
+{
+    let Some(mut left) = without(alloc, pairs, key)? else {
+        return Ok(Removed::Missing);
+    };
+    if left.len() > 1 {
+        let node = make(alloc, Node::Bucket(left), ticks)?;
+        return Ok(Removed::Left(Some(node)));
+    }
+    let node = make(alloc, Node::Leaf(left.remove(0)), ticks)?;
+    Ok(Removed::Left(Some(node)))
+}

@@ -1,0 +1,177 @@
+//! The shape of a map: the prefixes of digits that its keys share.
+ghost use Rattle.std.specs.Prelude.{◌≡◌, ◌-◌, ◌<◌, ◌++◌, ◌∷◌, [], IfOk, Some, length, nat_eq};
+ghost use Rattle.std.specs.Cmp;
+ghost use Rattle.std.specs.Cmp.Lexicographic.{nat_list_eq_equiv, pointwise};
+ghost use Rattle.std.specs.List.{flat_map};
+ghost use Rattle.std.specs.Map.{keys_of};
+ghost use Rattle.trie.specs.Digits.{digit_count, place_count};
+ghost use Rattle.trie.specs.Holding.{ArePlaces, held_in};
+ghost use Rattle.trie.specs.Shapes.{prefix_text, shape_below, shape_of};
+ghost use Rattle.trie.specs.Tree.{entries_in, IsPlace, node_of, nodes};
+
+use crate::digits::PLACES;
+use crate::node::{Node, Place};
+use cells::KeyHash;
+use std::alloc::{AllocError, Global};
+use std::fmt;
+use std::marker::Model;
+
+/// The shape of a map: each prefix of digits that two keys or more share, with their number, in order,
+/// a prefix before those that extend it.
+pub type Shape = Vec<(Prefix, u64)>;
+
+/// A prefix of digits that keys share, the low digit of their hashes first.
+#[derive(Debug, Drop)]
+pub struct Prefix {
+    digits: Vec<u8>,
+}
+
+impl Model for Prefix {
+    ghost use Rattle.std.specs.Prelude.{List, ℕ};
+
+    ghost Value = { List ℕ };
+
+    ghost view = { λ p. p.digits.items };
+}
+
+impl Prefix {
+    /// Its digits. It takes no memory.
+    pub fn digits(&self) -> &[u8]
+        ensures { result.now ≡ self.now }
+    {
+        self.digits.as_slice()
+    }
+
+    /// The prefix of no digits. It takes no memory.
+    fn empty(alloc: Global) -> Prefix
+        ensures { result ≡ [] }
+    {
+        Prefix {
+            digits: Vec::new(alloc),
+        }
+    }
+
+    /// A copy of the prefix.
+    fn copied(&self, alloc: Global) -> Result<Prefix, AllocError>
+        ensures { IfOk result (λ p. p ≡ self.now) }
+    {
+        let mut digits = Vec::new(alloc);
+        digits.extend_from_slice(self.digits.as_slice())?;
+        Ok(Prefix { digits })
+    }
+
+    /// The prefix with one more digit.
+    fn longer(&self, alloc: Global, digit: u8) -> Result<Prefix, AllocError>
+        ensures { IfOk result (λ p. p ≡ self.now ++ digit ∷ []) }
+    {
+        let mut longer = self.copied(alloc)?;
+        longer.digits.push(digit)?;
+        Ok(longer)
+    }
+}
+
+impl PartialEq for Prefix {
+    ghost eq = { pointwise nat_eq };
+
+    ghost laws = { Cmp.partial_equiv_from_equiv nat_list_eq_equiv };
+
+    fn eq(&self, other: &Prefix) -> bool {
+        self.digits.as_slice() == other.digits.as_slice()
+    }
+}
+
+impl Eq for Prefix {
+    ghost laws = { nat_list_eq_equiv };
+}
+
+/// The digits in hexadecimal, or `-` where there is none.
+impl fmt::Display for Prefix {
+    ghost output = { λ p. Some (prefix_text p) };
+
+    fn fmt<W: fmt::Write>(&self, f: &mut fmt::Formatter<W>) -> fmt::Result {
+        if self.digits.is_empty() {
+            return f.write_str("-");
+        }
+        for digit in &self.digits {
+            write!(f, "{digit:x}")?;
+        }
+        Ok(())
+    }
+}
+
+/// The shape of the keys in a root.
+pub fn shape_in<K: Ord, V, H: KeyHash<K>>(
+    alloc: Global,
+    root: &Place<K, V>,
+) -> Result<Shape, AllocError>
+    requires placed { IsPlace H.hash_of K.cmp (node_of root.now) [] }
+    ensures { IfOk result (λ v. v.items ≡ shape_of H.hash_of (keys_of (held_in root.now))) }
+{
+    let list = Vec::new(alloc);
+    let prefix = Prefix::empty(alloc);
+    with_shape::<K, V, H>(alloc, list, &prefix, root)
+}
+
+/// The list with the shape below a prefix behind it.
+fn with_shape<K: Ord, V, H: KeyHash<K>>(
+    alloc: Global,
+    list: Shape,
+    prefix: &Prefix,
+    place: &Place<K, V>,
+) -> Result<Shape, AllocError>
+    requires placed { IsPlace H.hash_of K.cmp (node_of place.now) prefix.now }
+    ensures { IfOk result (λ v. v.items
+        ≡ list.items ++ shape_below H.hash_of (keys_of (held_in place.now)) prefix.now) }
+{
+    let Some(node) = place else {
+        return Ok(list);
+    };
+    match &**node {
+        Node::Leaf(_) => Ok(list),
+        Node::Bucket(pairs) => with_number(alloc, list, prefix, pairs.len() as u64),
+        Node::Branch { len, places } => {
+            let mut shape = with_number(alloc, list, prefix, *len)?;
+            for digit in 0..PLACES {
+                if places[digit].is_none() {
+                    continue;
+                }
+                let (place, longer) = step::<K, V, H>(alloc, places, prefix, digit)?;
+                shape = with_shape::<K, V, H>(alloc, shape, &longer, place)?;
+            }
+            Ok(shape)
+        }
+    }
+}
+
+/// The list with a prefix and its number behind it.
+fn with_number(
+    alloc: Global,
+    list: Shape,
+    prefix: &Prefix,
+    number: u64,
+) -> Result<Shape, AllocError>
+    ensures { IfOk result (λ v. v.items ≡ list.items ++ (prefix.now, number) ∷ []) }
+{
+    let mut list = list;
+    list.push((prefix.copied(alloc)?, number))?;
+    Ok(list)
+}
+
+/// One step down: the place of a digit behind the prefix, and the prefix with that digit.
+fn step<'a, K: Ord, V, H: KeyHash<K>>(
+    alloc: Global,
+    places: &'a Vec<Place<K, V>>,
+    prefix: &Prefix,
+    digit: usize,
+) -> Result<(&'a Place<K, V>, Prefix), AllocError>
+    requires places { ArePlaces H.hash_of K.cmp prefix.now (nodes places.now.items) }
+    requires digit { digit < place_count }
+    ensures prefix { IfOk result (λ r. r.1 ≡ prefix.now ++ digit ∷ []) }
+    ensures placed { IfOk result (λ r. IsPlace H.hash_of K.cmp (node_of r.0.now) r.1) }
+    ensures fewer_left { IfOk result (λ r. digit_count - length r.1 < digit_count - length prefix.now) }
+    ensures shape { IfOk result (λ r. shape_below H.hash_of (keys_of (flat_map entries_in (nodes places.now.items))) r.1
+        ≡ shape_below H.hash_of (keys_of (held_in r.0.now)) r.1) }
+{
+    let longer = prefix.longer(alloc, digit as u8)?;
+    Ok((&places[digit], longer))
+}

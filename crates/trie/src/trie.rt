@@ -1,0 +1,150 @@
+//! The trie.
+ghost use Rattle.std.specs.Prelude.{◌≡◌, ◌+◌, ◌<◌, ◌≤◌, ◌^◌, ◌↔◌, [], IfOk, IsTrue, length};
+ghost use Rattle.std.specs.Map.{keys_of};
+ghost use Rattle.std.specs.Option.{option_copied};
+ghost use Rattle.trie.specs.Digits.{digit_count, digit_order};
+ghost use Rattle.trie.specs.Entries.{value_at, with_pair, without_key};
+ghost use Rattle.trie.specs.Holding.{lent};
+ghost use Rattle.trie.specs.Maps.{RiseByHash};
+ghost use Rattle.trie.specs.Shapes.{shape_of};
+
+use crate::digits::HashPrefix;
+use crate::entries::with_entries;
+use crate::get::get_at;
+use crate::node::{Place, len, shared};
+use crate::put::put_at;
+use crate::remove::{Removed, remove_at};
+use crate::shape::{Shape, shape_in};
+use crate::ticks::Ticks;
+use cells::KeyHash;
+use std::alloc::{AllocError, Global};
+use std::marker::{Model, PhantomData};
+use std::sync::Arc;
+
+/// A finite map that never changes, seen as the list of its entries in digit order. A change gives
+/// another map, which shares what stays.
+#[derive(Drop)]
+pub struct Trie<K: Ord, V, H: KeyHash<K>> {
+    root: Place<K, V>,
+    hash: PhantomData<H>,
+}
+
+impl<K: Ord, V, H: KeyHash<K>> Model for Trie<K, V, H> {
+    ghost use Rattle.std.specs.Prelude.{List};
+
+    ghost Value = { List (K × V) };
+
+    ghost use Rattle.trie.specs.Holding.{held_in, IsTrie};
+    ghost use Rattle.trie.specs.Tree.{node_of};
+
+    ghost view = { λ t. held_in t.root };
+
+    ghost invariant = { λ t. IsTrie H.hash_of K.cmp (node_of t.root) };
+}
+
+impl<K: Ord, V, H: KeyHash<K>> Trie<K, V, H> {
+    /// The map with no entry. It takes no memory.
+    pub fn empty() -> Self
+        ensures { result ≡ [] }
+    {
+        Trie {
+            root: None,
+            hash: PhantomData,
+        }
+    }
+
+    /// The value of the key. It takes no memory.
+    pub fn get(&self, key: &K) -> Option<&V>
+        ensures { option_copied result ≡ value_at (digit_order H.hash_of K.cmp) self.now key.now }
+    {
+        get_at::<K, V, H>(&self.root, key, HashPrefix::empty(H::hash(key)))
+    }
+
+    /// How many entries there are. It takes no memory.
+    pub fn len(&self) -> u64
+        ensures { result ≡ length self.now }
+    {
+        len(&self.root)
+    }
+
+    /// Whether there is no entry. It takes no memory.
+    pub fn is_empty(&self) -> bool
+        ensures { IsTrue result ↔ (self.now ≡ []) }
+    {
+        self.len() == 0
+    }
+
+    /// All entries, in digit order.
+    pub fn entries(&self, alloc: Global) -> Result<Vec<(&K, &V)>, AllocError>
+        ensures { IfOk result (λ v. lent v.items ≡ self.now) }
+    {
+        Ok(with_entries(Vec::new(alloc), &self.root)?)
+    }
+
+    /// What is known of each map: its keys rise in digit order. It does nothing.
+    #[tactic(auto, using(crate::proofs::MapRisingLemmas::place_rises))]
+    pub fn keys_rise(&self)
+        ensures { RiseByHash H.hash_of K.cmp (keys_of self.now) }
+    {
+        let _ = &self.root;
+    }
+
+    /// The shape, which depends on the keys alone.
+    pub fn shape(&self, alloc: Global) -> Result<Shape, AllocError>
+        ensures { IfOk result (λ v. v.items ≡ shape_of H.hash_of (keys_of self.now)) }
+    {
+        shape_in::<K, V, H>(alloc, &self.root)
+    }
+}
+
+impl<K: Ord + Drop, V: Drop, H: KeyHash<K>> Trie<K, V, H> {
+    /// The same map, with one owner more.
+    pub fn share(&self) -> Result<Self, AllocError>
+        ensures { IfOk result (λ t. t ≡ self.now) }
+    {
+        Ok(Trie {
+            root: shared(&self.root)?,
+            hash: PhantomData,
+        })
+    }
+
+    /// The map with the pair: for an equal key, the new key and value stand. It makes a node for
+    /// each digit that it passes, and counts them. This map stays as it is, whatever the answer.
+    pub fn put(
+        &self,
+        alloc: Global,
+        key: K,
+        value: V,
+        ticks: &mut Ticks,
+    ) -> Result<Self, AllocError>
+        requires { length self.now + 1 < 2 ^ 64 }
+        ensures map { IfOk result (λ t. t ≡ with_pair (digit_order H.hash_of K.cmp) key value self.now) }
+        ensures counted { ticks.new ≤ ticks.old + (digit_count + 1) }
+        ensures grows { ticks.old ≤ ticks.new }
+    {
+        let pair = Arc::new(alloc, (key, value))?;
+        let at = HashPrefix::empty(H::hash(&pair.0));
+        let root = put_at::<K, V, H>(alloc, &self.root, &pair, at, ticks)?;
+        Ok(Trie {
+            root: Some(root),
+            hash: PhantomData,
+        })
+    }
+
+    /// The map without the key; the same map, with no node made, where the key is not there. This
+    /// map stays as it is, whatever the answer.
+    pub fn remove(&self, alloc: Global, key: &K, ticks: &mut Ticks) -> Result<Self, AllocError>
+        ensures map { IfOk result (λ t. t ≡ without_key (digit_order H.hash_of K.cmp) key.now self.now) }
+        ensures counted { ticks.new ≤ ticks.old + (digit_count + 1) }
+        ensures grows { ticks.old ≤ ticks.new }
+    {
+        let at = HashPrefix::empty(H::hash(key));
+        match remove_at::<K, V, H>(alloc, &self.root, key, at, ticks)? {
+            Removed::Missing => self.share(),
+            Removed::Left(root) => Ok(Trie {
+                root,
+                hash: PhantomData,
+            }),
+        }
+    }
+}
