@@ -1,2 +1,3 @@
 pub mod EditionsLemmas
 pub mod RootsLemmas
+pub mod ShapesLemmas

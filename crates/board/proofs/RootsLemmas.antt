@@ -1,54 +1,51 @@
--- The rows of a root after one more update.
-use Rattle.std.proofs.Common.{◌≡◌, ℕ, ◌+◌, ◌<◌, ◌≤◌, Bool, true, false, not, cond, List, [], ◌∷◌, ◌++◌, Option, Some, None, length, map, filter, find, refl, inl, inr, ap, sym, ◌∙◌, subst}
-use Rattle.std.proofs.lemmas.List.{append-nil, drop_more, length-map, map-append, take_more}
-use Rattle.std.specs.FinMap.{get, get-from_entries, insert, len, remove}
-use Rattle.std.specs.FinMap.Entries as entries
-use Rattle.std.specs.Prelude.{option_map}
-use Rattle.std.proofs.lemmas.Bool.{cases_Bool}
-use Rattle.std.specs.declared.sync.Arc.{Arc}
-use Rattle.std.specs.declared.alloc.Global.{Global}
+-- The rows of a root, which a trie holds, as a finite map.
+use Rattle.std.proofs.Common.{◌≡◌, ℕ, true, List, length, refl, sym, ap, ◌∙◌}
+use Rattle.std.specs.FinMap.{get, insert, keys, len, remove}
+use Rattle.std.specs.Map.{keys_of}
+use Rattle.std.specs.Ordering.{is_eq}
 use Rattle.cells.specs.CellOrder.{cell_cmp, cell_cmp-total, cell_eq}
-use Rattle.cells.specs.Tables.{keyed_rows, table}
-use Rattle.cells.specs.Updates.{AreLeft, without}
+use Rattle.cells.specs.SameKeys.{exact_cells}
 use Rattle.cells.specs.Values.{Entry}
 use Rattle.cells.specs.declared.cell.Cell.{Cell}
-use Rattle.cells.proofs.TablesLemmas.{left_delete, left_put, len_left, table_delete, table_put}
-use Rattle.board.specs.Roots.{values}
+use Rattle.trie.specs.Digits.{digit_order}
+use Rattle.trie.specs.Entries.{value_at, with_pair, without_key}
+use Rattle.trie.specs.Maps.{RiseByHash, map_of}
+use Rattle.trie.specs.Shapes.{shape_of}
+use Rattle.trie.proofs.EntriesLemmas.{with_pair-sorted}
+use Rattle.trie.proofs.MapCountsLemmas.{shape_map}
+use Rattle.trie.proofs.MapsLemmas.{HaveHashes, digit_total, get_map, hashes, len_map, put_map, remove_map}
+use Rattle.trie.proofs.RemoveLemmas.{remove_entry-rising}
+use Rattle.board.specs.Editions.{Rows}
 
-abbrev Owners : Type 0
-Owners = List (Arc Entry Global)
+-- the rows of a trie, each with its key
+abbrev Held : Type 0
+Held = List (Cell × Entry)
 
-pub len_values : (rows : Owners) → AreLeft (values rows) → len (table (values rows)) ≡ length rows
-len_values rows left = len_left (values rows) left ∙ length-map rows (λ r. r.value)
+-- the law of a hash of cells
+abbrev Respects : (Cell → ℕ) → Type 0
+Respects hash = (x y : Cell) → cell_eq x y ≡ true → hash x ≡ hash y
 
-found_again : (rows : Owners) (key : Cell) → entries.find cell_cmp key (keyed_rows (values rows)) ≡ option_map (λ r. r.value) (find (λ r. cell_eq key r.value.key) rows)
-found_again [] key = refl
-found_again (row ∷ rows) key = elim (cases_Bool (cell_eq key row.value.key)) [
-  | inl same ↦ rw same refl
-  | inr other ↦ rw other (found_again rows key)
-]
+module _ (hash : Cell → ℕ) (respects : Respects hash) where
+  hashed : HaveHashes hash cell_cmp
+  hashed = hashes cell_cmp-total (λ x y. refl) respects
 
--- the first row of a key is the one that the map has at it
-pub get_values : (rows : Owners) (key : Cell) → get (table (values rows)) key ≡ option_map (λ r. r.value) (find (λ r. cell_eq key r.value.key) rows)
-get_values rows key = get-from_entries cell_cmp-total (keyed_rows (values rows)) key ∙ found_again rows key
+  pub get_held : (root : Rows) (held : Held) (key : Cell) → map_of cell_cmp held ≡ root → value_at (digit_order hash cell_cmp) held key ≡ get root key
+  get_held root held key is = sym (get_map hash cell_cmp hashed held key) ∙ ap (λ (r : Rows). get r key) is
 
--- ---- the rows of other keys, and then one more
+  pub len_held : (root : Rows) (held : Held) → map_of cell_cmp held ≡ root → RiseByHash hash cell_cmp (keys_of held) → length held ≡ len root
+  len_held root held is rise = sym (len_map hash cell_cmp hashed held rise) ∙ ap (λ (r : Rows). len r) is
 
-values_pushed : (old others new : Owners) (row : Arc Entry Global) → values others ≡ without row.value.key (values old) → new ≡ others ++ row ∷ []
-    → values new ≡ without row.value.key (values old) ++ row.value ∷ []
-values_pushed old others new row are is =
-    ap values is ∙ map-append (λ r. r.value) others (row ∷ []) ∙ ap (λ rs. rs ++ row.value ∷ []) are
+  pub put_held : (root : Rows) (held : Held) (row : Entry) → map_of cell_cmp held ≡ root → map_of cell_cmp (with_pair (digit_order hash cell_cmp) row.key row held) ≡ insert root row.key row
+  put_held root held row is = put_map hash cell_cmp hashed held row.key row exact_cells ∙ ap (λ (r : Rows). insert r row.key row) is
 
-pub put_table : (old others new : Owners) (row : Arc Entry Global) → values others ≡ without row.value.key (values old) → new ≡ others ++ row ∷ []
-    → table (values new) ≡ insert (table (values old)) row.value.key row.value
-put_table old others new row are is = ap table (values_pushed old others new row are is) ∙ table_put (values old) row.value
+  pub put_rises : (held : Held) (row : Entry) → RiseByHash hash cell_cmp (keys_of held) → RiseByHash hash cell_cmp (keys_of (with_pair (digit_order hash cell_cmp) row.key row held))
+  put_rises held row rise = with_pair-sorted (digit_order hash cell_cmp) row.key row (digit_total hash cell_cmp hashed) held rise
 
-pub put_left : (old others new : Owners) (row : Arc Entry Global) → values others ≡ without row.value.key (values old) → new ≡ others ++ row ∷ []
-    → AreLeft (values old) → AreLeft (values new)
-put_left old others new row are is left = subst AreLeft (sym (values_pushed old others new row are is)) (left_put (values old) row.value left)
+  pub remove_held : (root : Rows) (held : Held) (key : Cell) → map_of cell_cmp held ≡ root → RiseByHash hash cell_cmp (keys_of held) → map_of cell_cmp (without_key (digit_order hash cell_cmp) key held) ≡ remove root key
+  remove_held root held key is rise = remove_map hash cell_cmp hashed held key rise exact_cells ∙ ap (λ (r : Rows). remove r key) is
 
-pub remove_table : (old others : Owners) (key : Cell) → values others ≡ without key (values old) → table (values others) ≡ remove (table (values old)) key
-remove_table old others key are = ap table are ∙ table_delete (values old) key
+  pub remove_rises : (held : Held) (key : Cell) → RiseByHash hash cell_cmp (keys_of held) → RiseByHash hash cell_cmp (keys_of (without_key (digit_order hash cell_cmp) key held))
+  remove_rises held key rise = remove_entry-rising (λ k. is_eq (digit_order hash cell_cmp key k)) (digit_order hash cell_cmp) held rise
 
-pub remove_left : (old others : Owners) (key : Cell) → values others ≡ without key (values old) → AreLeft (values old) → AreLeft (values others)
-remove_left old others key are left = subst AreLeft (sym are) (left_delete (values old) key left)
+  pub shape_held : (root : Rows) (held : Held) → map_of cell_cmp held ≡ root → RiseByHash hash cell_cmp (keys_of held) → shape_of hash (keys_of held) ≡ shape_of hash (keys root)
+  shape_held root held is rise = sym (shape_map hash cell_cmp hashed held rise) ∙ ap (λ (r : Rows). shape_of hash (keys r)) is

@@ -6,7 +6,7 @@ ghost use Rattle.board.specs.Editions.{Begins, ChangesDraft, Publishes, draft, e
 
 use crate::root::Root;
 use crate::snapshot::Snapshot;
-use cells::{Cell, Refused, Row, Schema};
+use cells::{Cell, KeyHash, Refused, Row, Schema};
 use std::alloc::Global;
 use std::marker::Model;
 use std::sync::Arc;
@@ -18,16 +18,16 @@ use std::sync::Arc;
 /// [`put`](Keeper::put), and [`Refused::OutOfMemory`] where a growth, or one owner more, was
 /// really refused.
 #[derive(Drop)]
-pub struct Keeper {
-    draft: Root,
+pub struct Keeper<H: KeyHash<Cell>> {
+    draft: Root<H>,
     limit: u64,
     edition: u64,
-    published: Root,
+    published: Root<H>,
     schema: Arc<Schema>,
 }
 
-impl Model for Keeper {
-    ghost use Rattle.std.specs.Prelude.{◌≤◌};
+impl<H: KeyHash<Cell>> Model for Keeper<H> {
+    ghost use Rattle.std.specs.Prelude.{◌≤◌, ◌^◌};
     ghost use Rattle.std.specs.FinMap.{len};
     ghost use Rattle.board.specs.Editions.{Editions, coded_editions};
 
@@ -41,21 +41,21 @@ impl Model for Keeper {
       last = record { number = k.edition; rows = k.published; schema = k.schema.value };
     } };
 
-    ghost invariant = { λ k. len k.draft ≤ k.limit };
+    ghost invariant = { λ k. (len k.draft ≤ k.limit) × (k.limit ≤ 2 ^ 32) };
 }
 
-impl Keeper {
+impl<H: KeyHash<Cell>> Keeper<H> {
     /// A keeper of the table, whose draft and edition 0 have no rows. The draft may have at most
     /// `limit` rows. `places` is how many viewers can be made; it has no effect before there are
     /// viewers.
     #[tactic(auto, using(crate::proofs::EditionsLemmas::empty_within))]
-    pub fn new(alloc: Global, schema: Schema, limit: u64, places: u64) -> Result<Keeper, Refused>
+    pub fn new(alloc: Global, schema: Schema, limit: u64, places: u64) -> Result<Keeper<H>, Refused>
         requires limit { 1 ≤ limit × (limit ≤ 2 ^ 32) }
         requires places { 1 ≤ places × (places ≤ 64) }
         ensures begun { IfOk result (Begins limit schema) }
         ensures refused { IfErr result (λ e. e ≡ Refused.OutOfMemory) }
     {
-        let draft = Root::empty(alloc)?;
+        let draft = Root::empty(alloc);
         let published = draft.share()?;
         let schema = Arc::new(alloc, schema)?;
         Ok(Keeper {
@@ -111,7 +111,7 @@ impl Keeper {
 
     /// The last published edition, with its number and schema. It keeps its rows whatever the keeper
     /// does.
-    pub fn snapshot(&self) -> Result<Snapshot, Refused>
+    pub fn snapshot(&self) -> Result<Snapshot<H>, Refused>
         ensures edition { IfOk result (λ s. s.number ≡ edition self.now) }
         ensures rows { IfOk result (λ s. s.rows ≡ published self.now) }
         ensures schema { IfOk result (λ s. s.schema ≡ schema self.now) }
@@ -131,7 +131,7 @@ impl Keeper {
 
     /// The draft, for tests.
     #[cfg(test)]
-    pub(crate) fn draft(&self) -> &Root {
+    pub(crate) fn draft(&self) -> &Root<H> {
         &self.draft
     }
 
@@ -145,7 +145,7 @@ impl Keeper {
 
 /// Whether a draft that keeps the limit still keeps it with a row laid over the key.
 #[tactic(auto, using(crate::proofs::EditionsLemmas::len_over, crate::proofs::EditionsLemmas::len_beside))]
-fn has_room(draft: &Root, key: &Cell, limit: u64) -> bool
+fn has_room<H: KeyHash<Cell>>(draft: &Root<H>, key: &Cell, limit: u64) -> bool
     requires { map.len draft.now ≤ limit }
     ensures { (row : Entry) → IsTrue result ↔ (map.len (map.insert draft.now key.now row) ≤ limit) }
 {

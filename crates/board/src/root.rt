@@ -1,76 +1,70 @@
 //! The rows of one moment, owned together by all who look at them.
-ghost use Rattle.std.specs.Prelude.{◌≡◌, IfOk, find};
+ghost use Rattle.std.specs.Prelude.{◌≡◌, ◌+◌, ◌<◌, ◌^◌, IfOk};
 ghost use Rattle.std.specs.Option.{option_copied};
 ghost use Rattle.std.specs.FinMap as map;
-ghost use Rattle.cells.specs.Updates.{without};
-ghost use Rattle.cells.specs.CellOrder.{cell_eq};
-ghost use Rattle.board.specs.Roots.{values};
+ghost use Rattle.trie.specs.Shapes.{shape_of};
 
-use cells::{Cell, Row};
+use cells::{Cell, KeyHash, Row};
 use std::alloc::{AllocError, Global};
 use std::marker::Model;
-use std::sync::Arc;
+use trie::{Shape, Ticks, Trie};
 
-/// Rows by their keys, which never change once they are made. A change makes a new root, which
-/// shares the rows that stay.
+/// Rows by their keys, which never change once they are made: a trie of the rows. A change makes a new
+/// root, which shares the rows that stay and most of the nodes.
 #[derive(Drop)]
-pub struct Root {
+pub struct Root<H: KeyHash<Cell>> {
     alloc: Global,
-    rows: Arc<Vec<Arc<Row>>>,
+    rows: Trie<Cell, Row, H>,
 }
 
-impl Model for Root {
-    ghost use Rattle.cells.specs.Tables.{table};
-    ghost use Rattle.cells.specs.Updates.{AreLeft};
-    ghost use Rattle.board.specs.Roots.{values};
+impl<H: KeyHash<Cell>> Model for Root<H> {
+    ghost use Rattle.std.specs.Map.{keys_of};
+    ghost use Rattle.cells.specs.CellOrder.{cell_cmp};
+    ghost use Rattle.trie.specs.Maps.{RiseByHash, map_of};
     ghost use Rattle.board.specs.Editions.{Rows, coded_rows};
 
     ghost Value = { Rows };
 
     ghost coded = { coded_rows };
 
-    ghost view = { λ r. table (values r.rows.value.items) };
+    ghost view = { λ r. map_of cell_cmp r.rows };
 
-    // The rows are those that some updates leave, so no key comes twice.
-    ghost invariant = { λ r. AreLeft (values r.rows.value.items) };
+    // No key comes twice.
+    ghost invariant = { λ r. RiseByHash H.hash_of cell_cmp (keys_of r.rows) };
 }
 
-impl Root {
-    /// No rows.
-    pub fn empty(alloc: Global) -> Result<Root, AllocError>
-        ensures { IfOk result (λ root. root ≡ map.empty) }
+impl<H: KeyHash<Cell>> Root<H> {
+    /// No rows. It takes no memory.
+    pub(crate) fn empty(alloc: Global) -> Root<H>
+        ensures { result ≡ map.empty }
     {
-        let rows = Arc::new(alloc, Vec::new(alloc))?;
-        Ok(Root { alloc, rows })
-    }
-
-    /// How many rows there are. It takes no memory.
-    #[tactic(auto, using(crate::proofs::RootsLemmas::len_values))]
-    pub fn len(&self) -> u64
-        ensures { result ≡ map.len self.now }
-    {
-        self.rows.len() as u64
-    }
-
-    /// The row of the key. It takes no memory.
-    #[tactic(auto, using(crate::proofs::RootsLemmas::get_values))]
-    pub fn get(&self, key: &Cell) -> Option<&Row>
-        ensures { option_copied result ≡ map.get self.now key.now }
-    {
-        match row_of(self.rows.as_slice(), key) {
-            Some(row) => Some(row),
-            None => None,
+        Root {
+            alloc,
+            rows: Trie::empty(),
         }
     }
 
+    /// How many rows there are. It takes no memory.
+    pub fn len(&self) -> u64
+        ensures { result ≡ map.len self.now }
+    {
+        self.rows.len()
+    }
+
+    /// The row of the key. It takes no memory.
+    pub fn get(&self, key: &Cell) -> Option<&Row>
+        ensures { option_copied result ≡ map.get self.now key.now }
+    {
+        self.rows.get(key)
+    }
+
     /// The rows with this one laid over the row of its key.
-    #[tactic(auto, using(crate::proofs::RootsLemmas::put_table, crate::proofs::RootsLemmas::put_left))]
-    pub fn put(&self, row: Row) -> Result<Root, AllocError>
+    pub(crate) fn put(&self, row: Row) -> Result<Root<H>, AllocError>
+        requires { map.len self.now + 1 < 2 ^ 64 }
         ensures { IfOk result (λ root. root ≡ map.insert self.now row.key row) }
     {
-        let mut rows = other_rows(self.alloc, self.rows.as_slice(), row.key())?;
-        rows.push(Arc::new(self.alloc, row)?)?;
-        let rows = Arc::new(self.alloc, rows)?;
+        let key = row.key().clone()?;
+        let rows = self.rows.put(self.alloc, key, row, &mut Ticks::new())?;
         Ok(Root {
             alloc: self.alloc,
             rows,
@@ -78,12 +72,10 @@ impl Root {
     }
 
     /// The rows without the row of the key; the same rows where there is none.
-    #[tactic(auto, using(crate::proofs::RootsLemmas::remove_table, crate::proofs::RootsLemmas::remove_left))]
-    pub fn remove(&self, key: &Cell) -> Result<Root, AllocError>
+    pub(crate) fn remove(&self, key: &Cell) -> Result<Root<H>, AllocError>
         ensures { IfOk result (λ root. root ≡ map.remove self.now key.now) }
     {
-        let rows = other_rows(self.alloc, self.rows.as_slice(), key)?;
-        let rows = Arc::new(self.alloc, rows)?;
+        let rows = self.rows.remove(self.alloc, key, &mut Ticks::new())?;
         Ok(Root {
             alloc: self.alloc,
             rows,
@@ -91,33 +83,19 @@ impl Root {
     }
 
     /// One owner more of the same rows.
-    pub fn share(&self) -> Result<Root, AllocError>
+    pub fn share(&self) -> Result<Root<H>, AllocError>
         ensures { IfOk result (λ root. root ≡ self.now) }
     {
-        let rows = Arc::try_clone(&self.rows)?;
         Ok(Root {
             alloc: self.alloc,
-            rows,
+            rows: self.rows.share()?,
         })
     }
-}
-
-/// The first row of the key.
-fn row_of<'a>(rows: &'a [Arc<Row>], key: &Cell) -> Option<&'a Arc<Row>>
-    ensures { option_copied result ≡ find (λ r. cell_eq key.now r.value.key) rows.now }
-{
-    rows.iter().find(|row| key == row.key())
-}
-
-/// The rows of other keys, each with one owner more.
-fn other_rows(alloc: Global, rows: &[Arc<Row>], key: &Cell) -> Result<Vec<Arc<Row>>, AllocError>
-    ensures { IfOk result (λ v. values v.items ≡ without key.now (values rows.now)) }
-{
-    let mut others = Vec::new(alloc);
-    for row in rows {
-        if row.key() != key {
-            others.push(Arc::try_clone(row)?)?;
-        }
+    /// The shape of the keys: each prefix of digits of their hashes that two keys or more share, with
+    /// their number, in order, a prefix before those that extend it.
+    pub fn shape(&self) -> Result<Shape, AllocError>
+        ensures { IfOk result (λ v. v.items ≡ shape_of H.hash_of (map.keys self.now)) }
+    {
+        self.rows.shape(self.alloc)
     }
-    Ok(others)
 }

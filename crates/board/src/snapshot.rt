@@ -2,20 +2,20 @@
 ghost use Rattle.std.specs.Prelude.{◌≡◌};
 
 use crate::root::Root;
-use cells::Schema;
+use cells::{Cell, KeyHash, Schema};
 use std::marker::Model;
 use std::sync::Arc;
 
 /// A snapshot is one owner more of a published edition's rows. It keeps them whatever the keeper
 /// does later, and after the keeper has ended.
 #[derive(Drop)]
-pub struct Snapshot {
+pub struct Snapshot<H: KeyHash<Cell>> {
     edition: u64,
-    root: Root,
+    root: Root<H>,
     schema: Arc<Schema>,
 }
 
-impl Model for Snapshot {
+impl<H: KeyHash<Cell>> Model for Snapshot<H> {
     ghost use Rattle.board.specs.Editions.{Edition, coded_edition};
 
     ghost Value = { Edition };
@@ -25,8 +25,8 @@ impl Model for Snapshot {
     ghost view = { λ s. record { number = s.edition; rows = s.root; schema = s.schema.value } };
 }
 
-impl Snapshot {
-    pub(crate) fn new(edition: u64, root: Root, schema: Arc<Schema>) -> Snapshot
+impl<H: KeyHash<Cell>> Snapshot<H> {
+    pub(crate) fn new(edition: u64, root: Root<H>, schema: Arc<Schema>) -> Snapshot<H>
         ensures { result ≡ record { number = edition; rows = root; schema = schema.value } }
     {
         Snapshot {
@@ -44,7 +44,7 @@ impl Snapshot {
     }
 
     /// The edition's rows. It takes no memory.
-    pub fn root(&self) -> &Root
+    pub fn root(&self) -> &Root<H>
         ensures { result.now ≡ self.now.rows }
     {
         &self.root

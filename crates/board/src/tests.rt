@@ -4,7 +4,7 @@ ghost use Rattle.std.specs.Prelude.{◌≡◌, IfOk};
 ghost use Rattle.std.specs.FinMap as map;
 
 use crate::{Keeper, Root, Snapshot};
-use cells::{Cell, Refused, Row, Schema};
+use cells::{Cell, Fnv, KeyHash, Plain, Refused, Row, Schema};
 use std::alloc::Global;
 use std::process::Abort;
 use std::test::Fail;
@@ -27,7 +27,12 @@ fn row(alloc: Global, key: i64, value: i64) -> Result<Row, Refused> {
     Row::read(alloc, &[key.as_bytes(), value.as_bytes()], &schema(alloc)?)
 }
 
-fn apply(rt: &impl Abort, alloc: Global, keeper: &mut Keeper, step: &Step) -> Result<(), Refused> {
+fn apply<H: KeyHash<Cell>>(
+    rt: &impl Abort,
+    alloc: Global,
+    keeper: &mut Keeper<H>,
+    step: &Step,
+) -> Result<(), Refused> {
     match step {
         Step::Put(key, value) => keeper.put(row(alloc, *key, *value)?),
         Step::Delete(key) => keeper.delete(&Cell::Int(*key)),
@@ -39,7 +44,7 @@ fn apply(rt: &impl Abort, alloc: Global, keeper: &mut Keeper, step: &Step) -> Re
 }
 
 /// The values of the keys 1 to 4, with a dash where there is none, and the number of rows.
-fn shown(alloc: Global, root: &Root) -> Result<String, Fail> {
+fn shown<H: KeyHash<Cell>>(alloc: Global, root: &Root<H>) -> Result<String, Fail> {
     let mut all = String::new(alloc);
     for key in 1..5 {
         match root.get(&Cell::Int(key)).map(|row| row.cells()) {
@@ -53,7 +58,7 @@ fn shown(alloc: Global, root: &Root) -> Result<String, Fail> {
 }
 
 /// What a keeper holds: its draft, and the last edition.
-fn held(alloc: Global, keeper: &Keeper) -> Result<String, Fail> {
+fn held<H: KeyHash<Cell>>(alloc: Global, keeper: &Keeper<H>) -> Result<String, Fail> {
     let draft = shown(alloc, keeper.draft())?;
     let snapshot = keeper.snapshot()?;
     let published = shown(alloc, snapshot.root())?;
@@ -116,7 +121,7 @@ fn calls_change_a_keeper(rt: HostRuntime) -> Result<(), Fail> {
             "11 - 33 40 of 3 | 3: 11 - 33 40 of 3",
         ),
     ];
-    let mut keeper = Keeper::new(alloc, schema(alloc)?, 3, 1)?;
+    let mut keeper: Keeper<Fnv> = Keeper::new(alloc, schema(alloc)?, 3, 1)?;
     let mut before = "- - - - of 0 | 0: - - - - of 0";
     for (step, wanted, after) in &steps {
         let mut answer = apply(&rt, alloc, &mut keeper, step);
@@ -133,12 +138,12 @@ fn calls_change_a_keeper(rt: HostRuntime) -> Result<(), Fail> {
 
 /// A caller that knows the contract alone: the snapshot of the first edition keeps its one row,
 /// whatever is put and published afterwards.
-fn first_of_two_editions(
+fn first_of_two_editions<H: KeyHash<Cell>>(
     alloc: Global,
     schema: Schema,
     first: Row,
     second: Row,
-) -> Result<Snapshot, Refused>
+) -> Result<Snapshot<H>, Refused>
     ensures edition { IfOk result (λ s. s.number ≡ 1) }
     ensures rows { IfOk result (λ s. s.rows ≡ map.insert map.empty first.key first) }
 {
@@ -156,7 +161,7 @@ fn a_snapshot_keeps_its_rows(rt: HostRuntime) -> Result<(), Fail> {
     let alloc = rt.alloc();
     let first = row(alloc, 1, 10)?;
     let second = row(alloc, 1, 11)?;
-    let snapshot = first_of_two_editions(alloc, schema(alloc)?, first, second)?;
+    let snapshot = first_of_two_editions::<Plain>(alloc, schema(alloc)?, first, second)?;
     assert_eq!(rt; shown(alloc, snapshot.root())?.as_str(), "10 - - - of 1");
     assert_eq!(rt; snapshot.schema().name(), "T");
     Ok(())

@@ -11,6 +11,7 @@ use Rattle.std.specs.Str.Lines.{lines, lines_of_parts}
 use Rattle.board.specs.Editions.{Editions}
 use Rattle.cells.specs.declared.refused.Refused.TheVariants.{Limit}
 use Rattle.olap.specs.Deeds.{deed}
+use Rattle.cells.specs.declared.cell.Cell.{Cell}
 use Rattle.olap.specs.Output.{blocks, declared, edition, is_publish, output, refusal}
 use Rattle.olap.specs.Stands.{Executes, Publishable, Stands}
 use Rattle.olap.specs.Taken.{TakesBeginning, TakesUpTo}
@@ -24,48 +25,48 @@ pub last_first-more : (yielded : List (Bor (List ℕ))) (line : Bor (List ℕ)) 
 last_first-more yielded line = rw (map-append, reverse-append) refl
 
 -- the lines before were run, and the rest is to be run
-pub record Reached (old new : Option (List ℕ)) (limit : ℕ) (before rest script : List (List ℕ)) (desk : Option Editions) (number : ℕ) : Type 0 where
-  pub taken : TakesUpTo old new (blocks limit [] script) (blocks limit before rest)
+pub record Reached (old new : Option (List ℕ)) (hash : Cell → ℕ) (limit : ℕ) (before rest script : List (List ℕ)) (desk : Option Editions) (number : ℕ) : Type 0 where
+  pub taken : TakesUpTo old new (blocks hash limit [] script) (blocks hash limit before rest)
   pub stands : Stands limit before desk
   pub number_is : number ≡ length before
   pub short : length before + length rest ≤ 1048577
 
-pub reached_start : (told : Option (List ℕ)) (limit : ℕ) (script : List (List ℕ)) → length script ≤ 1048577 → Reached told told limit [] script script None 0
-reached_start told limit script short = record {
-  taken = takes_start told (blocks limit [] script);
+pub reached_start : (told : Option (List ℕ)) (hash : Cell → ℕ) (limit : ℕ) (script : List (List ℕ)) → length script ≤ 1048577 → Reached told told hash limit [] script script None 0
+reached_start told hash limit script short = record {
+  taken = takes_start told (blocks hash limit [] script);
   stands = refl;
   number_is = refl;
   short = omega arith;
 }
 
-module _ (old new : Option (List ℕ)) (limit : ℕ) (before left script : List (List ℕ)) (desk : Option Editions) (number : ℕ) (reached : Reached old new limit before left script desk number) where
-  module _ (line : List ℕ) (rest : List (List ℕ)) (after : Option Editions) (piece : List ℕ) (is : left ≡ line ∷ rest) (executes : Executes limit line (number + 1) desk after piece) where
+module _ (old new : Option (List ℕ)) (hash : Cell → ℕ) (limit : ℕ) (before left script : List (List ℕ)) (desk : Option Editions) (number : ℕ) (reached : Reached old new hash limit before left script desk number) where
+  module _ (line : List ℕ) (rest : List (List ℕ)) (after : Option Editions) (piece : List ℕ) (is : left ≡ line ∷ rest) (executes : Executes hash limit line (number + 1) desk after piece) where
     -- the piece that comes next
-    next_piece : TakesUpTo old new (blocks limit [] script) (piece ++ blocks limit (line ∷ before) rest)
+    next_piece : TakesUpTo old new (blocks hash limit [] script) (piece ++ blocks hash limit (line ∷ before) rest)
     next_piece =
         let counted : number + 1 ≡ length before + 1 = ap (λ n. n + 1) reached.number_is in
-        rw (executes.block before reached.stands counted) (subst (λ ls. TakesUpTo old new (blocks limit [] script) (blocks limit before ls)) is reached.taken)
+        rw (executes.block before reached.stands counted) (subst (λ ls. TakesUpTo old new (blocks hash limit [] script) (blocks hash limit before ls)) is reached.taken)
 
     -- one line more
-    pub reached_more : (newer : Option (List ℕ)) → Appends new newer piece → Reached old newer limit (line ∷ before) rest script after (number + 1)
+    pub reached_more : (newer : Option (List ℕ)) → Appends new newer piece → Reached old newer hash limit (line ∷ before) rest script after (number + 1)
     reached_more newer appends = record {
-      taken = takes_more old new newer (blocks limit [] script) piece (blocks limit (line ∷ before) rest) next_piece appends;
+      taken = takes_more old new newer (blocks hash limit [] script) piece (blocks hash limit (line ∷ before) rest) next_piece appends;
       stands = executes.stands before reached.stands;
       number_is = omega (arith, reached.number_is);
       short = omega (arith, reached.short, ap length is);
     }
 
     -- a beginning of the next piece
-    pub reached_beginning : (newer : Option (List ℕ)) → TakesBeginning new newer piece → TakesBeginning old newer (blocks limit [] script)
-    reached_beginning newer beginning = takes_beginning old new newer (blocks limit [] script) piece (blocks limit (line ∷ before) rest) next_piece beginning
+    pub reached_beginning : (newer : Option (List ℕ)) → TakesBeginning new newer piece → TakesBeginning old newer (blocks hash limit [] script)
+    reached_beginning newer beginning = takes_beginning old new newer (blocks hash limit [] script) piece (blocks hash limit (line ∷ before) rest) next_piece beginning
 
   -- the pieces so far
-  pub reached_so_far : TakesBeginning old new (blocks limit [] script)
-  reached_so_far = takes_so_far old new (blocks limit [] script) (blocks limit before left) reached.taken
+  pub reached_so_far : TakesBeginning old new (blocks hash limit [] script)
+  reached_so_far = takes_so_far old new (blocks hash limit [] script) (blocks hash limit before left) reached.taken
 
   -- no line is left
-  pub reached_end : left ≡ [] → Appends old new (blocks limit [] script)
-  reached_end is = takes_whole old new (blocks limit [] script) (subst (λ ls. TakesUpTo old new (blocks limit [] script) (blocks limit before ls)) is reached.taken)
+  pub reached_end : left ≡ [] → Appends old new (blocks hash limit [] script)
+  reached_end is = takes_whole old new (blocks hash limit [] script) (subst (λ ls. TakesUpTo old new (blocks hash limit [] script) (blocks hash limit before ls)) is reached.taken)
 
 -- ---- numbers stay small
 
@@ -97,11 +98,11 @@ length-lines bs = omega (arith, length-lines_of_parts (slice_split (λ b. b == 1
 
 -- ---- a script beyond a limit, and one within them
 
-pub output_long : (limit : ℕ) (script : List ℕ) (parts : ℕ) → 1048576 < length script → output limit script parts ≡ refusal 0 Limit
-output_long limit script parts h = grind (arith, nat_tests)
+pub output_long : (hash : Cell → ℕ) (limit : ℕ) (script : List ℕ) (parts : ℕ) → 1048576 < length script → output hash limit script parts ≡ refusal 0 Limit
+output_long hash limit script parts h = grind (arith, nat_tests)
 
-pub output_many : (limit : ℕ) (script : List ℕ) (parts : ℕ) → 64 < parts → output limit script parts ≡ refusal 0 Limit
-output_many limit script parts h = grind (arith, nat_tests)
+pub output_many : (hash : Cell → ℕ) (limit : ℕ) (script : List ℕ) (parts : ℕ) → 64 < parts → output hash limit script parts ≡ refusal 0 Limit
+output_many hash limit script parts h = grind (arith, nat_tests)
 
-pub output_within : (limit : ℕ) (script : List ℕ) (parts : ℕ) → length script ≤ 1048576 → parts ≤ 64 → output limit script parts ≡ blocks limit [] (lines script)
-output_within limit script parts h i = grind (arith, nat_tests)
+pub output_within : (hash : Cell → ℕ) (limit : ℕ) (script : List ℕ) (parts : ℕ) → length script ≤ 1048576 → parts ≤ 64 → output hash limit script parts ≡ blocks hash limit [] (lines script)
+output_within hash limit script parts h i = grind (arith, nat_tests)

@@ -3,6 +3,7 @@ pub mod Deeds
 pub mod Endings
 pub mod Hows
 pub mod Jobs
+pub mod Keys
 pub mod Output
 pub mod Queries
 pub mod Reads

@@ -28,9 +28,9 @@ use crate::ended::Ended;
 use crate::gate::Open;
 use crate::how::{Cutting, How};
 use crate::input::{Input, read_input};
-use crate::job::WordsFault;
+use crate::job::{HashChoice, WordsFault};
 use crate::out::Pour;
-use crate::run::run;
+use crate::run::run_by;
 use crate::words::job_of;
 use std::env;
 use std::io::{self, Read};
@@ -84,7 +84,7 @@ fn run_standard_input(rt: &HostRuntime) -> u8
         return cannot_read(rt, "-");
     }
     let parts = Vec::new(rt.alloc());
-    run_input(rt, &how, &Input { script, parts })
+    run_input(rt, &how, HashChoice::Fnv, &Input { script, parts })
 }
 
 /// Runs what the words ask for.
@@ -96,21 +96,22 @@ fn run_words(rt: &HostRuntime, given: &[String]) -> u8
         Err(fault) => return refuse(rt, &fault),
     };
     match read_input(rt, &job) {
-        Ok(input) => run_input(rt, &job.how, &input),
+        Ok(input) => run_input(rt, &job.how, job.hash, &input),
         Err(name) => cannot_read(rt, name),
     }
 }
 
 /// Runs the script over the parts, and flushes what it wrote.
-fn run_input(rt: &HostRuntime, how: &How, input: &Input) -> u8
+fn run_input(rt: &HostRuntime, how: &How, hash: HashChoice, input: &Input) -> u8
     ensures { (result ≡ 0) ⊎ (result ≡ 3) }
 {
     let Ok(writer) = io::BufWriter::new(rt.alloc(), io::writer(rt)) else {
         return close_run(Err(Ended::OutOfMemory), &mut rt.stdout(), &mut rt.stderr());
     };
     let mut out = Pour::new(writer);
-    let ended = run(
+    let ended = run_by(
         rt.alloc(),
+        hash,
         input.script.as_slice(),
         input.parts.as_slice(),
         how,

@@ -10,4 +10,4 @@ returns-in-Ok-Put-clause-step g c =
     let does =
     ap (λ t. deed (Some t) c.args.line.bytes.now) (sym c.schema.ensures) ∙ c.in-Ok-Put.ensures
     ∙ ap (λ s. Ok (deed_of_statement s)) c.in-Ok-Put.field-0-is in
-    executes_puts c.args.line.bytes.now c.args.line.number c.args.keeper.now c.put.new.keeper c.in-Ok-Put.row string_bytes c.put.result does c.put.ensures.step
+    executes_puts g.H.KeyHash.hash_of c.args.line.bytes.now c.args.line.number c.args.keeper.now c.put.new.keeper c.in-Ok-Put.row string_bytes c.put.result does c.put.ensures.step

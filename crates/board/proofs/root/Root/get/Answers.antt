@@ -1,15 +1,6 @@
-use Rattle.std.proofs.Common.{rules, ◌≡◌, ap, sym, ◌∙◌, Some, Option}
-use Rattle.std.specs.Prelude.{option_map}
-use Rattle.std.specs.declared.sync.Arc.{Arc}
-use Rattle.std.specs.declared.alloc.Global.{Global}
-use Rattle.cells.specs.Values.{Entry}
-use Rattle.board.proofs.RootsLemmas.{get_values}
+use Rattle.std.proofs.Common.{◌∙◌}
+use Rattle.board.proofs.RootsLemmas.{get_held}
 use Rattle.board.proofs.root.Root.get.Goals as goal
 
-pub returns-in-Some : goal.returns-in-Some
-returns-in-Some c =
-    let there = get_values c.self.inside.rows.value.items c.args.key.now in
-    let found : ◌≡◌ {A = Option (Arc Entry Global)} (Some c.in-Some.row.now) _ = c.in-Some.ensures in
-    let value = ap (option_map (λ r. r.value)) found in
-    let shared : c.as_slice.result.now ≡ c.self.inside.rows.value.items = search rules in
-    cc
+pub returns : goal.returns
+returns g c = c.get.ensures ∙ get_held g.H.KeyHash.hash_of g.met.H.KeyHash.respects_eq c.args.self.now c.self.inside.rows c.args.key.now c.self.view_is
