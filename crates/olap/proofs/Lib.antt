@@ -2,11 +2,6 @@ pub mod BlocksLemmas
 pub mod CommandsLemmas
 pub mod CommandLineLemmas
 pub mod DepthLemmas
-pub mod FieldsLemmas
 pub mod LinesLemmas
 pub mod ProgressLemmas
-pub mod ReaderLemmas
-pub mod RecordsLemmas
-pub mod StatesLemmas
 pub mod StepsLemmas
-pub mod TakenLemmas

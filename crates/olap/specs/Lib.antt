@@ -1,14 +1,14 @@
 pub mod CommandLine
 pub mod Deeds
 pub mod Endings
+pub mod Faults
+pub mod Givens
 pub mod Hows
 pub mod Jobs
 pub mod Keys
+pub mod Limits
 pub mod Output
 pub mod Queries
 pub mod Reads
-pub mod Records
 pub mod Stands
 pub mod Statements
-pub mod Taken
-pub mod Tapes

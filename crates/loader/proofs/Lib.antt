@@ -1,0 +1,4 @@
+pub mod FieldsLemmas
+pub mod ReaderLemmas
+pub mod RecordsLemmas
+pub mod StatesLemmas

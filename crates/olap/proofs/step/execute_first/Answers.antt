@@ -1,0 +1,10 @@
+use Rattle.std.proofs.Common.{◌∙◌, Ok, ap}
+use Rattle.olap.specs.Givens.{givens}
+use Rattle.olap.specs.Statements.{first_deed}
+use Rattle.olap.proofs.StepsLemmas.{executes_declare}
+use Rattle.olap.proofs.step.execute_first.Goals as goal
+
+pub returns-in-Ok-clause-step : goal.returns-in-Ok-clause-step
+returns-in-Ok-clause-step g c =
+    executes_declare g.H.KeyHash.hash_of (givens c.args.setup.now.limit c.args.setup.now.parts.now) c.args.line.bytes.now c.args.line.number c.in-Ok-Some.schema c.in-Ok.keeper _
+    (c.in-Ok-Some.ensures ∙ ap (λ o. Ok (first_deed o)) c.in-Ok-Some.field-0-is) c.in-Ok.ensures.begun c.new-in-Ok.ensures.bytes

@@ -1,0 +1,83 @@
+//! The blocks of lines: reports, shapes and refusals.
+ghost use Rattle.std.specs.Prelude.{◌≡◌, ◌++◌, IfErr, IfOk, IsErr, OnOk, string_bytes};
+ghost use Rattle.std.specs.FinMap.{keys, len};
+ghost use Rattle.std.specs.List.{flat_map};
+ghost use Rattle.trie.specs.Shapes.{shape_of};
+ghost use Rattle.board.specs.Editions as editions;
+ghost use Rattle.olap.specs.Output.{refusal, report, shape_line, shape_text};
+ghost use Rattle.olap.specs.declared.fault.Fault.TheVariants.{Line};
+
+use crate::ended::Ended;
+use crate::fault::Fault;
+use board::Keeper;
+use cells::{Cell, KeyHash, Refused};
+use std::alloc::{AllocError, Global};
+use trie::Prefix;
+
+/// The block of a report on the last published edition.
+pub fn report_text<H: KeyHash<Cell>>(
+    alloc: Global,
+    keeper: &Keeper<H>,
+    number: u64,
+) -> Result<String, Ended>
+    ensures text { IfOk result (λ text. string_bytes text ≡ report number (editions.edition keeper.now) (len (editions.published keeper.now))) }
+    ensures ended { IfErr result (λ e. e ≡ Ended.OutOfMemory) }
+{
+    let Ok(snapshot) = keeper.snapshot() else {
+        return Err(Ended::OutOfMemory);
+    };
+    let edition = snapshot.edition();
+    let count = snapshot.root().len();
+    let text = format!(in alloc; "line {number} edition {edition}\nCOUNT(*)\n{count}\n")?;
+    Ok(text)
+}
+
+/// The block of a shape of the last published edition.
+pub fn shape_block<H: KeyHash<Cell>>(
+    alloc: Global,
+    keeper: &Keeper<H>,
+    number: u64,
+) -> Result<String, Ended>
+    ensures text { IfOk result (λ text. string_bytes text ≡ shape_text number (editions.edition keeper.now) (shape_of H.hash_of (keys (editions.published keeper.now)))) }
+    ensures ended { IfErr result (λ e. e ≡ Ended.OutOfMemory) }
+{
+    let Ok(snapshot) = keeper.snapshot() else {
+        return Err(Ended::OutOfMemory);
+    };
+    let published = snapshot.edition();
+    let shape = snapshot.root().shape()?;
+    let mut text = format!(in alloc; "line {number} edition {published}\n")?;
+    push_lines(&mut text, shape.as_slice())?;
+    Ok(text)
+}
+
+/// The text with a line for each prefix behind it.
+fn push_lines(text: &mut String, shape: &[(Prefix, u64)]) -> Result<(), AllocError>
+    ensures { OnOk result (string_bytes text.new ≡ string_bytes text.old ++ flat_map shape_line shape.now) }
+{
+    for line in shape {
+        push_line(text, line)?;
+    }
+    Ok(())
+}
+
+/// The text with a prefix and its number of keys behind it.
+fn push_line(text: &mut String, line: &(Prefix, u64)) -> Result<(), AllocError>
+    ensures { OnOk result (string_bytes text.new ≡ string_bytes text.old ++ shape_line line.now) }
+{
+    let (prefix, keys) = line;
+    write!(text, "{prefix} {keys}\n")
+}
+
+/// The block of a refused line. Want of memory is no refusal of a line: it ends the run.
+pub fn refusal_text(alloc: Global, number: u64, fault: Fault) -> Result<String, Ended>
+    ensures text { IfOk result (λ text. string_bytes text ≡ refusal number fault) }
+    ensures memory { fault ≡ Line Refused.OutOfMemory → IsErr result }
+    ensures ended { IfErr result (λ e. e ≡ Ended.OutOfMemory) }
+{
+    if fault == Fault::Line(Refused::OutOfMemory) {
+        return Err(Ended::OutOfMemory);
+    }
+    let text = format!(in alloc; "line {number} refused {fault}\n")?;
+    Ok(text)
+}

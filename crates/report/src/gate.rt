@@ -1,0 +1,23 @@
+//! Gates, by which tests hold and watch a run.
+
+/// What a run tells of its steps, from any of its threads, which share the gate. A gate may wait before
+/// it returns, and so holds the thread that called it there; what a run writes does not depend on its
+/// gate. Each method does nothing unless an implementation says otherwise.
+pub trait Gate: Sync {
+    /// A worker is about to work on the piece of this number, counted from 0. Called by the worker,
+    /// and only where there are workers.
+    fn entered(&self, _piece: u64) {}
+
+    /// The worker is done with the piece of this number. Called by the worker that entered it.
+    fn left(&self, _piece: u64) {}
+
+    /// The edition of this number, counted from 1, is the last published one now. Called after each
+    /// publish that is accepted, by the thread of the keeper.
+    fn published(&self, _edition: u64) {}
+}
+
+/// A gate that always stands open: it does nothing.
+#[derive(Clone, Copy, Debug, PartialEq, Eq, Drop)]
+pub struct Open;
+
+impl Gate for Open {}
