@@ -6,7 +6,6 @@ pub mod Jobs
 pub mod Keys
 pub mod Output
 pub mod Queries
-pub mod Reads
 pub mod Records
 pub mod Stands
 pub mod Statements
