@@ -14,6 +14,7 @@ use Rattle.cells.specs.declared.schema.ColumnDefinition.{ColumnDefinition}
 use Rattle.cells.specs.declared.schema.ColumnType.TheVariants.{Int}
 use Rattle.cells.specs.declared.token.Mark.TheVariants.{Comma, LeftParen, RightParen}
 use Rattle.cells.specs.declared.token.Token.{Token}
+use Rattle.cells.specs.declared.token.TokenFault.TheVariants.{Bad, Memory}
 use Rattle.cells.specs.declared.token.Token.TheVariants.{Word, Number, Mark}
 use Rattle.cells.specs.Limits.{column_limit}
 use Rattle.cells.specs.Reading.{are_different, defined, definitions_within, may_define, schema_of, table_of, tokens_of, tokens_within, with_others}
@@ -179,3 +180,8 @@ pub tokens_answer : {X : Type 0} (view : X → List Token) (bad : Refused) (text
     → AnswersBy view bad (tokens_of text) result
 tokens_answer view bad text (Ok v) found only refused = spelt_tokens text (view v) found
 tokens_answer view bad text (Err e) found only refused = fault_answers bad e (tokens_of text) refused (λ ts is. only ts (tokens_spelt text ts is))
+
+-- a fault that is no want of memory says that there is no value
+pub none_where_bad : {Y : Type 0} (o : Option Y) → (Bad ≡ Memory) ⊎ ((Bad ≡ Bad) × (o ≡ None)) → o ≡ None
+none_where_bad o (inl e) = cc
+none_where_bad o (inr bad) = bad.1

@@ -1,5 +1,5 @@
 -- The token at the front of a text, and the tokens of a text: what is read is what the definitions say.
-use Rattle.std.proofs.Common.{◌≡◌, ℕ, ◌<◌, true, false, ◌||◌, ◌==◌, List, [], ◌∷◌, ◌++◌, length, drop, Option, Some, None, refl, sym, ap, ◌∙◌, subst, arith, append_assoc, append-nil, length-append, slice_index}
+use Rattle.std.proofs.Common.{◌≡◌, ◌⊎◌, inl, inr, ℕ, ◌<◌, true, false, ◌||◌, ◌==◌, List, [], ◌∷◌, ◌++◌, length, drop, Option, Some, None, refl, sym, ap, ◌∙◌, subst, arith, append_assoc, append-nil, length-append, slice_index}
 use Rattle.std.specs.Char.{is_ascii_digit}
 use Rattle.std.proofs.lemmas.Bool.Decides.{nat_tests}
 use Rattle.std.proofs.lemmas.Option.{none-some, some_pair_parts}
@@ -9,7 +9,6 @@ use Rattle.cells.specs.declared.token.Token.{Token}
 use Rattle.cells.specs.declared.token.Token.TheVariants.{Word, Number, Quoted, Mark}
 use Rattle.cells.specs.declared.token.TokenFault.{TokenFault}
 use Rattle.cells.specs.declared.token.TokenFault.TheVariants.{Bad, Memory}
-use Rattle.cells.specs.Refusals.{Fails}
 use Rattle.cells.specs.Scanning.{mark_at, number_at, quoted_at, token_at, word_at}
 use Rattle.cells.specs.Spelling.{Begins, IsApart, IsForm, Spells, SpellsRest, doubled, is_blank, is_letter, sign, without_blanks}
 use Rattle.cells.proofs.BeginsLemmas.{begins_along}
@@ -152,6 +151,7 @@ kept_only text rest found kept e ts h =
     ap Some (all.1 ∙ ap (λ v. found ++ v) (spells_nothing all.0 (subst (λ r. SpellsRest r all.0) e all.2)) ∙ append-nil found)
 
 -- where no token is read, the text spells none, or memory is wanting
-pub kept_fails : (text rest : List ℕ) (found : List Token) (e : TokenFault) → Kept text found rest → 0 < length rest → Fails e (token_at rest) → (ts : List Token) → Spells text ts → Fails e (Some ts)
-kept_fails text rest found Bad kept some f ts h = let all = kept.complete ts h in absurd (spells_none rest all.0 some f all.2)
-kept_fails text rest found Memory kept some f ts h = tt
+pub kept_fails : (text rest : List ℕ) (found : List Token) (e : TokenFault) → Kept text found rest → 0 < length rest
+    → (e ≡ Memory) ⊎ ((e ≡ Bad) × (token_at rest ≡ None)) → (ts : List Token) → Spells text ts → (e ≡ Memory) ⊎ ((e ≡ Bad) × (◌≡◌ {A = Option (List Token)} (Some ts) None))
+kept_fails text rest found e kept some (inl memory) ts h = inl memory
+kept_fails text rest found e kept some (inr bad) ts h = let all = kept.complete ts h in absurd (spells_none rest all.0 some bad.1 all.2)

@@ -1,8 +1,9 @@
 -- The two hashes of cells and tuples.
-use Rattle.std.specs.Prelude.{ℕ, List, [], ◌∷◌, ◌++◌, ◌*◌, ◌%◌, ◌^◌, fold, length}
+use Rattle.std.specs.Prelude.{ℕ, List, [], ◌∷◌, ◌++◌, ◌*◌, ◌%◌, fold, length}
 use Rattle.std.specs.Int.{cast_unsigned, to_le_bytes, w64}
 use Rattle.std.specs.Int.Bits.{bit_xor}
 use Rattle.std.specs.List.{sum_by}
+use Rattle.cells.specs.Limits.{whole_limit}
 use Rattle.cells.specs.declared.cell.Cell.{Cell}
 use Rattle.cells.specs.declared.cell.Cell.TheVariants.{Null, Int, Text}
 
@@ -12,7 +13,7 @@ fnv_start = 14695981039346656037
 
 -- one byte more: exclusive-or into the low byte, then a multiplication
 abbrev pub fnv_step : ℕ → ℕ → ℕ
-fnv_step hash byte = (bit_xor hash byte * 1099511628211) % 2 ^ 64
+fnv_step hash byte = (bit_xor hash byte * 1099511628211) % whole_limit
 
 -- FNV-1a with 64 bits, of Fowler, Noll and Vo
 abbrev pub fnv1a : List ℕ → ℕ
@@ -47,4 +48,4 @@ plain_hash (Text t) = length t
 
 -- the sum of its cells' hashes
 abbrev pub plain_tuple_hash : List Cell → ℕ
-plain_tuple_hash cs = sum_by plain_hash cs % 2 ^ 64
+plain_tuple_hash cs = sum_by plain_hash cs % whole_limit

@@ -27,21 +27,29 @@ number_of NoWorker = 91
 number_of WriteFailed = 92
 number_of NotShown = 93
 
--- the answer is the value that is there, and the fault only where there is none; memory may be wanting
-abbrev pub Answers : {T : Type 0} → Refused → Option T → Result T Refused → Type 0
-Answers fault o (Ok x) = o ≡ Some x
-Answers fault o (Err e) = (e ≡ OutOfMemory) ⊎ ((e ≡ fault) × (o ≡ None))
+-- What a reader answers, beside what it is said to read. `view` is how its value is seen, and `want` the fault that comes
+-- where memory is wanting, whatever is said.
 
--- the same of an answer that is seen by view
+-- the value that is said, or the fault that is said
+abbrev pub ReadsBy : {X Y E : Type 0} → E → (X → Y) → Result Y E → Result X E → Type 0
+ReadsBy want view said (Ok x) = said ≡ Ok (view x)
+ReadsBy want view said (Err e) = (e ≡ want) ⊎ (said ≡ Err e)
+
+-- the value that is there, or the one fault, which comes only where there is none
+abbrev pub AnswersOr : {X Y E : Type 0} → E → (X → Y) → E → Option Y → Result X E → Type 0
+AnswersOr want view fault o (Ok x) = o ≡ Some (view x)
+AnswersOr want view fault o (Err e) = (e ≡ want) ⊎ ((e ≡ fault) × (o ≡ None))
+
+-- the same of faults that are refusals: as the value itself is (Reads, Answers), and as it is seen by view (AnswersBy)
+abbrev pub Reads : {X : Type 0} → Result X Refused → Result X Refused → Type 0
+Reads said result = ReadsBy OutOfMemory (λ x. x) said result
+
 abbrev pub AnswersBy : {X Y : Type 0} → (X → Y) → Refused → Option Y → Result X Refused → Type 0
-AnswersBy view fault o (Ok x) = o ≡ Some (view x)
-AnswersBy view fault o (Err e) = (e ≡ OutOfMemory) ⊎ ((e ≡ fault) × (o ≡ None))
+AnswersBy view fault o result = AnswersOr OutOfMemory view fault o result
 
--- The same of a reader of tokens, whose answer is seen by view.
-abbrev pub Fails : {Y : Type 0} → TokenFault → Option Y → Type 0
-Fails Bad o = o ≡ None
-Fails Memory o = Unit {0}
+abbrev pub Answers : {T : Type 0} → Refused → Option T → Result T Refused → Type 0
+Answers fault o result = AnswersBy (λ x. x) fault o result
 
-abbrev pub Gives : {X Y : Type 0} → (X → Y) → Result X TokenFault → Option Y → Type 0
-Gives view (Ok x) o = o ≡ Some (view x)
-Gives view (Err e) o = Fails e o
+-- the same of a reader of tokens, whose one fault is that the text is bad
+abbrev pub Gives : {X Y : Type 0} → (X → Y) → Option Y → Result X TokenFault → Type 0
+Gives view o result = AnswersOr Memory view Bad o result

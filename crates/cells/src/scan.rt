@@ -24,7 +24,7 @@ pub fn tokens(alloc: Global, text: &str) -> Result<Vec<Token>, TokenFault>
     // What is read is spelt so.
     ensures found { IfOk result (λ v. Spells text.now v.items) }
     // What is spelt so is read, unless memory is wanting: the text spells no other list, and none where it is bad.
-    ensures only { (ts : List Token) → Spells text.now ts → Gives (λ v. v.items) result (Some ts) }
+    ensures only { (ts : List Token) → Spells text.now ts → Gives (λ v. v.items) (Some ts) result }
 {
     let mut found = Vec::new(alloc);
     let mut rest = without_blanks(text);
@@ -62,7 +62,7 @@ fn without_blanks(text: &str) -> &str
 /// The token at the front, and what follows it.
 #[tactic(auto, unfolding(crate::specs::Scanning::token_at))]
 fn token_at(alloc: Global, text: &str) -> Result<(Token, &str), TokenFault>
-    ensures { Gives (λ x. (x.0, x.1.now)) result (token_at text.now) }
+    ensures { Gives (λ x. (x.0, x.1.now)) (token_at text.now) result }
 {
     if begins(text, Class::Letter) {
         word_at(alloc, text)
@@ -78,7 +78,7 @@ fn token_at(alloc: Global, text: &str) -> Result<(Token, &str), TokenFault>
 /// The word at the front, in upper case.
 #[tactic(auto, unfolding(crate::specs::Scanning::word_at))]
 fn word_at(alloc: Global, text: &str) -> Result<(Token, &str), TokenFault>
-    ensures { Gives (λ x. (x.0, x.1.now)) result (word_at text.now) }
+    ensures { Gives (λ x. (x.0, x.1.now)) (word_at text.now) result }
 {
     let (word, rest) = split_run(text, Class::InWord);
     let name = word.to_ascii_uppercase(alloc)?;
@@ -88,7 +88,7 @@ fn word_at(alloc: Global, text: &str) -> Result<(Token, &str), TokenFault>
 /// The number at the front, which nothing may touch.
 #[tactic(auto, unfolding(crate::specs::Scanning::number_at))]
 fn number_at(text: &str) -> Result<(Token, &str), TokenFault>
-    ensures { Gives (λ x. (x.0, x.1.now)) result (number_at text.now) }
+    ensures { Gives (λ x. (x.0, x.1.now)) (number_at text.now) result }
 {
     let (form, rest) = split_number(text);
     if begins(rest, Class::InWord) {
@@ -121,7 +121,7 @@ fn number_len(bytes: &[u8]) -> usize
 /// The quoted text behind its first quote, and what follows it.
 #[tactic(auto, unfolding(crate::specs::Scanning::quoted_at))]
 fn quoted_at(alloc: Global, text: &str) -> Result<(Token, &str), TokenFault>
-    ensures { Gives (λ x. (x.0, x.1.now)) result (quoted_at text.now) }
+    ensures { Gives (λ x. (x.0, x.1.now)) (quoted_at text.now) result }
 {
     let (string, rest) = unquoted(alloc, text)?;
     if string.len() > MAX_TEXT_BYTES {
@@ -132,7 +132,7 @@ fn quoted_at(alloc: Global, text: &str) -> Result<(Token, &str), TokenFault>
 
 /// What stands before the quote that ends the text, with doubled quotes undone, and what follows it.
 fn unquoted(alloc: Global, text: &str) -> Result<(String, &str), TokenFault>
-    ensures { Gives (λ x. (string_bytes x.0, x.1.now)) result (unquoted text.now) }
+    ensures { Gives (λ x. (string_bytes x.0, x.1.now)) (unquoted text.now) result }
 {
     let mut front = String::new(alloc);
     let mut rest = text;
@@ -150,7 +150,7 @@ fn unquoted(alloc: Global, text: &str) -> Result<(String, &str), TokenFault>
 /// The sign at the front.
 #[tactic(auto, unfolding(crate::specs::Scanning::mark_at))]
 fn mark_at(text: &str) -> Result<(Token, &str), TokenFault>
-    ensures { Gives (λ x. (x.0, x.1.now)) result (mark_at text.now) }
+    ensures { Gives (λ x. (x.0, x.1.now)) (mark_at text.now) result }
 {
     let Some((mark, len)) = mark_of(byte_at(text, 0), byte_at(text, 1)) else {
         return Err(TokenFault::Bad);

@@ -30,7 +30,8 @@ pub struct Column {
     pub kind: ColumnType,
 }
 
-/// A table's name, its 1 to 16 columns of different names, and the place of the key column.
+/// A table's name, its columns of different names, of which there are 1 to [`MAX_COLUMNS`], and the
+/// place of the key column.
 #[derive(Debug, Drop)]
 pub struct Schema {
     name: Text,
@@ -58,8 +59,8 @@ struct ColumnDefinition {
 
 impl Schema {
     /// Reads the text of a `table` line behind its command word: `NAME (COLUMN TYPE [KEY], ..)`
-    /// with 1 to 16 columns of different names, types INT and TEXT, and KEY at exactly one column.
-    /// The table's name may equal a column's name. A reserved word is no name.
+    /// with 1 to [`MAX_COLUMNS`] columns of different names, types INT and TEXT, and KEY at exactly one
+    /// column. The table's name may equal a column's name. A reserved word is no name.
     ///
     /// [`Refused::BadSchema`] exactly where the text spells no schema, [`Refused::OutOfMemory`]
     /// where a growth was refused.

@@ -9,6 +9,5 @@ pub mod Keys
 pub mod Limits
 pub mod Output
 pub mod Queries
-pub mod Reads
 pub mod Stands
 pub mod Statements

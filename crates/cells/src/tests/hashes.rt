@@ -1,17 +1,14 @@
 //! The hashes of cells and tuples, and the order of tuples. The hashes of the tables were computed
 //! by a program outside the project.
 
-use crate::{Cell, Fnv, KeyHash, Plain, Text, Tuple, worked_hashes};
-use std::alloc::Global;
-use std::cmp::Ordering;
+use super::Written::{self, Int, Null, Text};
+use super::{cell_of, cells_of, compare};
+use crate::{Cell, Fnv, KeyHash, Plain, Tuple, worked_hashes};
+use std::alloc::{AllocError, Global};
 use std::test::Fail;
 
-fn text(alloc: Global, characters: &str) -> Result<Cell, Fail> {
-    Ok(Cell::Text(Text::copied(alloc, characters)?))
-}
-
-fn tuple<const N: usize>(alloc: Global, cells: [Cell; N]) -> Result<Tuple, Fail> {
-    Ok(Tuple::new(Vec::from_array(alloc, cells)?))
+fn tuple_of(alloc: Global, written: &[Written]) -> Result<Tuple, AllocError> {
+    Ok(Tuple::new(cells_of(alloc, written)?))
 }
 
 /// Reached through the bound, as a map by hashes reaches it.
@@ -19,28 +16,19 @@ fn hash_by<K: Eq, H: KeyHash<K>>(key: &K) -> u64 {
     H::hash(key)
 }
 
-/// Reached through the bound, as the crates above reach it.
-fn compare<K: Ord>(a: &K, b: &K) -> Ordering {
-    a.cmp(b)
-}
-
 #[test]
 fn cells_have_hashes(rt: HostRuntime) -> Result<(), Fail> {
-    let alloc = rt.alloc();
     let table = [
-        (Cell::Null, 0xaf63_bd4c_8601_b7df, 0),
-        (Cell::Int(5), 0xf5a9_d7c1_6f27_5549, 5),
-        (Cell::Int(-2), 0xffdb_5807_47cc_f645, 0xffff_ffff_ffff_fffe),
-        (
-            Cell::Int(i64::MIN),
-            0x5299_acdc_8ff4_5a2c,
-            0x8000_0000_0000_0000,
-        ),
-        (text(alloc, "")?, 0x0cd9_2cf5_4dc6_15e5, 0),
-        (text(alloc, "pen")?, 0x3b25_8e15_1a7a_cf51, 3),
-        (text(alloc, "é")?, 0x5dc5_79d3_4eb0_21bf, 2),
+        (Null, 0xaf63_bd4c_8601_b7df, 0),
+        (Int(5), 0xf5a9_d7c1_6f27_5549, 5),
+        (Int(-2), 0xffdb_5807_47cc_f645, 0xffff_ffff_ffff_fffe),
+        (Int(i64::MIN), 0x5299_acdc_8ff4_5a2c, 0x8000_0000_0000_0000),
+        (Text(""), 0x0cd9_2cf5_4dc6_15e5, 0),
+        (Text("pen"), 0x3b25_8e15_1a7a_cf51, 3),
+        (Text("é"), 0x5dc5_79d3_4eb0_21bf, 2),
     ];
-    for (cell, fnv, plain) in table {
+    for (written, fnv, plain) in table {
+        let cell = cell_of(rt.alloc(), &written)?;
         assert_eq!(rt; hash_by::<Cell, Fnv>(&cell), fnv);
         assert_eq!(rt; hash_by::<Cell, Plain>(&cell), plain);
     }
@@ -50,56 +38,52 @@ fn cells_have_hashes(rt: HostRuntime) -> Result<(), Fail> {
 
 #[test]
 fn tuples_have_hashes(rt: HostRuntime) -> Result<(), Fail> {
-    let alloc = rt.alloc();
-    let table = [
-        (tuple(alloc, [])?, 0xcbf2_9ce4_8422_2325, 0),
-        (tuple(alloc, [Cell::Null])?, 0xaf63_bd4c_8601_b7df, 0),
-        (
-            tuple(alloc, [Cell::Null, Cell::Null])?,
-            0x0832_8807_b4eb_6fed,
-            0,
-        ),
-        (tuple(alloc, [Cell::Int(5)])?, 0xf5a9_d7c1_6f27_5549, 5),
-        (
-            tuple(alloc, [Cell::Null, text(alloc, "pen")?, Cell::Int(-2)])?,
-            0x1499_7b01_2c84_b963,
-            1,
-        ),
-        (
-            tuple(alloc, [Cell::Int(-2), text(alloc, "pen")?, Cell::Null])?,
-            0x22e1_84ef_a9dc_cc43,
-            1,
-        ),
+    let table: [(&[Written], u64, u64); 6] = [
+        (&[], 0xcbf2_9ce4_8422_2325, 0),
+        (&[Null], 0xaf63_bd4c_8601_b7df, 0),
+        (&[Null, Null], 0x0832_8807_b4eb_6fed, 0),
+        (&[Int(5)], 0xf5a9_d7c1_6f27_5549, 5),
+        (&[Null, Text("pen"), Int(-2)], 0x1499_7b01_2c84_b963, 1),
+        (&[Int(-2), Text("pen"), Null], 0x22e1_84ef_a9dc_cc43, 1),
     ];
-    for (key, fnv, plain) in table {
+    for (written, fnv, plain) in table {
+        let key = tuple_of(rt.alloc(), written)?;
         assert_eq!(rt; hash_by::<Tuple, Fnv>(&key), fnv);
         assert_eq!(rt; hash_by::<Tuple, Plain>(&key), plain);
     }
     Ok(())
 }
 
+fn tuples_of(alloc: Global, table: &[&[Written]]) -> Result<Vec<Tuple>, AllocError> {
+    let mut tuples = Vec::new(alloc);
+    for written in table {
+        tuples.push(tuple_of(alloc, written)?)?;
+    }
+    Ok(tuples)
+}
+
 #[test]
 fn tuples_have_one_order(rt: HostRuntime) -> Result<(), Fail> {
-    let alloc = rt.alloc();
-    let rising = [
-        tuple(alloc, [])?,
-        tuple(alloc, [Cell::Null])?,
-        tuple(alloc, [Cell::Null, Cell::Null])?,
-        tuple(alloc, [Cell::Null, text(alloc, "pen")?])?,
-        tuple(alloc, [Cell::Int(-1), Cell::Int(9)])?,
-        tuple(alloc, [Cell::Int(2)])?,
-        tuple(alloc, [Cell::Int(2), Cell::Null, Cell::Int(1)])?,
-        tuple(alloc, [Cell::Int(2), Cell::Int(0)])?,
-        tuple(alloc, [text(alloc, "ink")?])?,
+    let table: [&[Written]; 9] = [
+        &[],
+        &[Null],
+        &[Null, Null],
+        &[Null, Text("pen")],
+        &[Int(-1), Int(9)],
+        &[Int(2)],
+        &[Int(2), Null, Int(1)],
+        &[Int(2), Int(0)],
+        &[Text("ink")],
     ];
+    let rising = tuples_of(rt.alloc(), table.as_slice())?;
     for (i, a) in rising.iter().enumerate() {
         for (j, b) in rising.iter().enumerate() {
-            assert_eq!(rt; compare(a, b), i.cmp(&j), "at {i} and {j}");
-            assert_eq!(rt; a == b, i == j, "at {i} and {j}");
+            assert!(rt; compare(a, b) == i.cmp(&j), "at {i} and {j}");
+            assert!(rt; (a == b) == (i == j), "at {i} and {j}");
         }
         let again = a.clone()?;
-        assert!(rt; again == *a);
-        assert_eq!(rt; again.cells().len(), a.cells().len());
+        assert!(rt; again == *a, "at {i}");
+        assert!(rt; again.cells().len() == a.cells().len(), "at {i}");
     }
     Ok(())
 }
@@ -115,7 +99,7 @@ fn hashes_are_values(rt: HostRuntime) -> Result<(), Fail> {
         format!(in alloc; "{:?} {:?}", fnv, plain)?.as_str(),
         "Fnv Plain"
     );
-    let key = tuple(alloc, [Cell::Null])?;
+    let key = tuple_of(alloc, &[Null])?;
     assert_eq!(rt;
         format!(in alloc; "{:?}", key)?.as_str(),
         "Tuple { cells: [Null] }"

@@ -1,46 +1,48 @@
 //! Fields and the rows that they spell.
 
-use crate::{Cell, Refused, Row, Schema, Text};
+use super::Written::{self, Int, Null, Text};
+use super::{cell_of, cells_of};
+use crate::{Cell, Refused, Row, Schema};
 use std::alloc::Global;
 use std::test::Fail;
 
-/// The cells of a row, each between bars, behind the key; or the number of its refusal.
-fn shown(alloc: Global, schema: &str, fields: &[&[u8]]) -> Result<String, Fail> {
-    let schema = Schema::read(alloc, schema)?;
-    let row = match Row::read(alloc, fields, &schema) {
-        Ok(row) => row,
-        Err(Refused::OutOfMemory) => return Err(Fail::from("memory")),
-        Err(refused) => return Ok(format!(in alloc; "refused {}", refused.number())?),
-    };
-    let mut all = String::new(alloc);
-    push_cell(&mut all, row.key())?;
-    all.push_str(" |")?;
-    for cell in row.cells() {
-        push_cell(&mut all, cell)?;
-        all.push_str("|")?;
+/// Whether the fields are refused as those of a bad record. Want of memory is an error.
+fn is_bad(alloc: Global, schema: &Schema, fields: &[&[u8]]) -> Result<bool, Refused> {
+    match Row::read(alloc, fields, schema) {
+        Ok(_) => Ok(false),
+        Err(Refused::OutOfMemory) => Err(Refused::OutOfMemory),
+        Err(refused) => Ok(refused == Refused::BadRecord),
     }
-    Ok(all)
-}
-
-fn push_cell(all: &mut String, cell: &Cell) -> Result<(), Fail> {
-    match cell {
-        Cell::Null => all.push_str("null")?,
-        Cell::Int(n) => write!(all, "{n}")?,
-        Cell::Text(text) => all.push_str(text.as_str())?,
-    }
-    Ok(())
 }
 
 #[test]
 fn fields_spell_rows(rt: HostRuntime) -> Result<(), Fail> {
     let alloc = rt.alloc();
-    let sales = "SALES (ID INT KEY, REGION TEXT, ITEM TEXT, UNITS INT)";
-    let rows: [([&[u8]; 4], &str); 8] = [
-        ([b"1", b"north", b"pen", b"10"], "1 |1|north|pen|10|"),
-        ([b"2", b"north", b"ink", b""], "2 |2|north|ink|null|"),
-        ([b"3", b"", b"pen", b"5"], "3 |3|null|pen|5|"),
-        ([b"4", b"south", b"pen", b"-2"], "4 |4|south|pen|-2|"),
-        ([b"007", b" ", b"'", b"-0"], "7 |7| |'|0|"),
+    let sales = Schema::read(
+        alloc,
+        "SALES (ID INT KEY, REGION TEXT, ITEM TEXT, UNITS INT)",
+    )?;
+    let table: [([&[u8]; 4], [Written; 4]); 6] = [
+        (
+            [b"1", b"north", b"pen", b"10"],
+            [Int(1), Text("north"), Text("pen"), Int(10)],
+        ),
+        (
+            [b"2", b"north", b"ink", b""],
+            [Int(2), Text("north"), Text("ink"), Null],
+        ),
+        (
+            [b"3", b"", b"pen", b"5"],
+            [Int(3), Null, Text("pen"), Int(5)],
+        ),
+        (
+            [b"4", b"south", b"pen", b"-2"],
+            [Int(4), Text("south"), Text("pen"), Int(-2)],
+        ),
+        (
+            [b"007", b" ", b"'", b"-0"],
+            [Int(7), Text(" "), Text("'"), Int(0)],
+        ),
         (
             [
                 "-9223372036854775808".as_bytes(),
@@ -48,20 +50,32 @@ fn fields_spell_rows(rt: HostRuntime) -> Result<(), Fail> {
                 b"\n",
                 b"9223372036854775807",
             ],
-            "-9223372036854775808 |-9223372036854775808|é€𝄞|\n|9223372036854775807|",
+            [
+                Int(-9223372036854775808),
+                Text("é€𝄞"),
+                Text("\n"),
+                Int(9223372036854775807),
+            ],
         ),
-        ([b"", b"north", b"pen", b"10"], "refused 7"),
-        ([b"1", b"\xff", b"pen", b"10"], "refused 7"),
     ];
-    for (fields, wanted) in rows {
-        assert_eq!(rt; shown(alloc, sales, fields.as_slice())?.as_str(), wanted);
+    for (fields, written) in table {
+        let row = Row::read(alloc, fields.as_slice(), &sales)?;
+        let cells = cells_of(alloc, written.as_slice())?;
+        assert!(rt; row.cells() == cells.as_slice(), "for {fields:?}");
+        assert!(rt;
+            *row.key() == cell_of(alloc, &written[0])?,
+            "for {fields:?}"
+        );
     }
+    assert!(rt; is_bad(alloc, &sales, &[b"", b"north", b"pen", b"10"])?);
+    assert!(rt; is_bad(alloc, &sales, &[b"1", b"\xff", b"pen", b"10"])?);
     Ok(())
 }
 
 #[test]
 fn fields_that_spell_no_row(rt: HostRuntime) -> Result<(), Fail> {
     let alloc = rt.alloc();
+    let schema = Schema::read(alloc, "T (K INT KEY)")?;
     let keys: [&[u8]; 14] = [
         b"",
         b"+1",
@@ -79,29 +93,23 @@ fn fields_that_spell_no_row(rt: HostRuntime) -> Result<(), Fail> {
         b"1\x00",
     ];
     for key in keys {
-        assert_eq!(rt;
-            shown(alloc, "T (K INT KEY)", &[key])?.as_str(),
-            "refused 7",
-            "for {key:?}"
-        );
+        assert!(rt; is_bad(alloc, &schema, &[key])?, "for {key:?}");
     }
-    assert_eq!(rt; shown(alloc, "T (K INT KEY)", &[])?.as_str(), "refused 7");
-    assert_eq!(rt;
-        shown(alloc, "T (K INT KEY)", &[b"1", b"2"])?.as_str(),
-        "refused 7"
-    );
-    assert_eq!(rt;
-        shown(alloc, "T (K INT KEY, V INT)", &[b"1"])?.as_str(),
-        "refused 7"
-    );
-    assert_eq!(rt;
-        shown(alloc, "T (V INT, K TEXT KEY)", &[b"1", b""])?.as_str(),
-        "refused 7"
-    );
-    assert_eq!(rt;
-        shown(alloc, "T (V INT, K TEXT KEY)", &[b"1", b"0"])?.as_str(),
-        "0 |1|0|"
-    );
+    assert!(rt; is_bad(alloc, &schema, &[])?);
+    assert!(rt; is_bad(alloc, &schema, &[b"1", b"2"])?);
+    Ok(())
+}
+
+#[test]
+fn rows_have_a_field_for_each_column(rt: HostRuntime) -> Result<(), Fail> {
+    let alloc = rt.alloc();
+    let schema = Schema::read(alloc, "T (K INT KEY, V INT)")?;
+    assert!(rt; is_bad(alloc, &schema, &[b"1"])?);
+    let schema = Schema::read(alloc, "T (V INT, K TEXT KEY)")?;
+    assert!(rt; is_bad(alloc, &schema, &[b"1", b""])?);
+    let row = Row::read(alloc, &[b"1", b"0"], &schema)?;
+    assert!(rt; row.cells() == cells_of(alloc, &[Int(1), Text("0")])?.as_slice());
+    assert!(rt; *row.key() == cell_of(alloc, &Text("0"))?);
     Ok(())
 }
 
@@ -109,16 +117,10 @@ fn fields_that_spell_no_row(rt: HostRuntime) -> Result<(), Fail> {
 fn text_cells_have_a_limit(rt: HostRuntime) -> Result<(), Fail> {
     let alloc = rt.alloc();
     let schema = Schema::read(alloc, "T (K TEXT KEY)")?;
-    let at_limit = vec![in alloc; b'x'; 1024]?;
-    let beyond = vec![in alloc; b'x'; 1025]?;
-    let row = Row::read(alloc, &[at_limit.as_slice()], &schema)?;
-    let text = str::from_utf8(at_limit.as_slice())?;
-    assert!(rt; *row.key() == Cell::Text(Text::copied(alloc, text)?));
-    assert!(rt;
-        matches!(
-            Row::read(alloc, &[beyond.as_slice()], &schema),
-            Err(Refused::BadRecord)
-        )
-    );
+    let at_limit = "x".repeat(alloc, 1024)?;
+    let row = Row::read(alloc, &[at_limit.as_str().as_bytes()], &schema)?;
+    assert!(rt; matches!(row.key(), Cell::Text(text) if text.as_str() == at_limit.as_str()));
+    let beyond = "x".repeat(alloc, 1025)?;
+    assert!(rt; is_bad(alloc, &schema, &[beyond.as_str().as_bytes()])?);
     Ok(())
 }

@@ -1,49 +1,68 @@
 //! Texts and the schemas that they spell.
 
-use crate::{ColumnType, Refused, Schema};
+use crate::ColumnType::{self, Int, Text};
+use crate::{Refused, Schema};
 use std::alloc::Global;
 use std::test::Fail;
 
-/// A schema written out, or the number of its refusal. Want of memory is an error.
-fn shown(alloc: Global, text: &str) -> Result<String, Fail> {
-    let schema = match Schema::read(alloc, text) {
-        Ok(schema) => schema,
-        Err(Refused::OutOfMemory) => return Err(Fail::from("memory")),
-        Err(refused) => return Ok(format!(in alloc; "refused {}", refused.number())?),
-    };
-    let mut all = String::from_str(alloc, schema.name())?;
-    for column in schema.columns() {
-        let kind = match column.kind {
-            ColumnType::Int => "INT",
-            ColumnType::Text => "TEXT",
-        };
-        all.push_str(" ")?;
-        all.push_str(column.name.as_str())?;
-        all.push_str(":")?;
-        all.push_str(kind)?;
+fn has_columns(schema: &Schema, columns: &[(&str, ColumnType)]) -> bool {
+    if schema.columns().len() != columns.len() {
+        return false;
     }
-    let key = schema.key();
-    write!(all, " key {key}")?;
-    Ok(all)
+    for (column, (name, kind)) in schema.columns().iter().zip(columns) {
+        if column.name.as_str() != *name || column.kind != *kind {
+            return false;
+        }
+    }
+    true
+}
+
+/// Whether the text is refused as one that spells no schema. Want of memory is an error.
+fn is_bad(alloc: Global, text: &str) -> Result<bool, Refused> {
+    match Schema::read(alloc, text) {
+        Ok(_) => Ok(false),
+        Err(Refused::OutOfMemory) => Err(Refused::OutOfMemory),
+        Err(refused) => Ok(refused == Refused::BadSchema),
+    }
 }
 
 #[test]
 fn texts_spell_schemas(rt: HostRuntime) -> Result<(), Fail> {
-    let table = [
-        ("T (K INT KEY)", "T K:INT key 0"),
-        ("t(k int key)", "T K:INT key 0"),
+    let table: [(&str, &str, &[(&str, ColumnType)], usize); 8] = [
+        ("T (K INT KEY)", "T", &[("K", Int)], 0),
+        ("t(k int key)", "T", &[("K", Int)], 0),
         (
             "SALES (ID INT KEY, REGION TEXT, ITEM TEXT, UNITS INT)",
-            "SALES ID:INT REGION:TEXT ITEM:TEXT UNITS:INT key 0",
+            "SALES",
+            &[
+                ("ID", Int),
+                ("REGION", Text),
+                ("ITEM", Text),
+                ("UNITS", Int),
+            ],
+            0,
         ),
-        ("T (A INT, B TEXT KEY, C INT)", "T A:INT B:TEXT C:INT key 1"),
-        ("T (T TEXT KEY)", "T T:TEXT key 0"),
-        (" T\t(\r\nK   INT KEY ) ", "T K:INT key 0"),
-        ("_ (_1 INT KEY, INT_ TEXT)", "_ _1:INT INT_:TEXT key 0"),
-        ("TABLE (PUT INT KEY)", "TABLE PUT:INT key 0"),
+        (
+            "T (A INT, B TEXT KEY, C INT)",
+            "T",
+            &[("A", Int), ("B", Text), ("C", Int)],
+            1,
+        ),
+        ("T (T TEXT KEY)", "T", &[("T", Text)], 0),
+        (" T\t(\r\nK   INT KEY ) ", "T", &[("K", Int)], 0),
+        (
+            "_ (_1 INT KEY, INT_ TEXT)",
+            "_",
+            &[("_1", Int), ("INT_", Text)],
+            0,
+        ),
+        ("TABLE (PUT INT KEY)", "TABLE", &[("PUT", Int)], 0),
     ];
-    for (text, wanted) in table {
-        assert_eq!(rt; shown(rt.alloc(), text)?.as_str(), wanted, "for {text:?}");
+    for (text, name, columns, key) in table {
+        let schema = Schema::read(rt.alloc(), text)?;
+        assert!(rt; schema.name() == name, "for {text:?}");
+        assert!(rt; has_columns(&schema, columns), "for {text:?}");
+        assert!(rt; schema.key() == key, "for {text:?}");
     }
     Ok(())
 }
@@ -80,42 +99,24 @@ fn texts_that_spell_no_schema(rt: HostRuntime) -> Result<(), Fail> {
         "T (K 'INT' KEY)",
     ];
     for text in table {
-        assert_eq!(rt;
-            shown(rt.alloc(), text)?.as_str(),
-            "refused 4",
-            "for {text:?}"
-        );
+        assert!(rt; is_bad(rt.alloc(), text)?, "for {text:?}");
     }
     Ok(())
-}
-
-/// `T` with as many INT columns, `C1` the key.
-fn wide(alloc: Global, columns: usize) -> Result<String, Fail> {
-    let mut text = String::from_str(alloc, "T (C1 INT KEY")?;
-    for n in 2..=columns {
-        write!(text, ", C{n} INT")?;
-    }
-    text.push_str(")")?;
-    Ok(text)
 }
 
 #[test]
 fn tables_have_1_to_16_columns(rt: HostRuntime) -> Result<(), Fail> {
     let alloc = rt.alloc();
-    assert_eq!(rt;
-        shown(alloc, wide(alloc, 1)?.as_str())?.as_str(),
-        "T C1:INT key 0"
-    );
-    assert_eq!(rt;
-        Schema::read(alloc, wide(alloc, 16)?.as_str())?
-            .columns()
-            .len(),
-        16
-    );
-    assert_eq!(rt;
-        shown(alloc, wide(alloc, 17)?.as_str())?.as_str(),
-        "refused 4"
-    );
+    let one = Schema::read(alloc, "T (C1 INT KEY)")?;
+    assert!(rt; has_columns(&one, &[("C1", Int)]));
+    let sixteen = Schema::read(
+        alloc,
+        "T (C1 INT KEY, C2 INT, C3 INT, C4 INT, C5 INT, C6 INT, C7 INT, C8 INT, C9 INT, C10 INT, C11 INT, C12 INT, C13 INT, C14 INT, C15 INT, C16 INT)",
+    )?;
+    assert_eq!(rt; sixteen.columns().len(), 16);
+    let seventeen =
+        "T (C1 INT KEY, C2 INT, C3 INT, C4 INT, C5 INT, C6 INT, C7 INT, C8 INT, C9 INT, C10 INT, C11 INT, C12 INT, C13 INT, C14 INT, C15 INT, C16 INT, C17 INT)";
+    assert!(rt; is_bad(alloc, seventeen)?);
     Ok(())
 }
 
@@ -125,12 +126,9 @@ fn reserved_words_are_no_names(rt: HostRuntime) -> Result<(), Fail> {
     let words =
         "SELECT FROM WHERE GROUP BY HAVING ROLLUP CUBE GROUPING SETS COUNT SUM MIN MAX DISTINCT AND OR NOT IS NULL BETWEEN IN INT TEXT KEY";
     for word in words.split(' ') {
-        let text = format!(in alloc; "{word} (K INT KEY)")?;
-        assert_eq!(rt;
-            shown(alloc, text.as_str())?.as_str(),
-            "refused 4",
-            "for {word}"
-        );
+        let mut text = String::from_str(alloc, word)?;
+        text.push_str(" (K INT KEY)")?;
+        assert!(rt; is_bad(alloc, text.as_str())?, "for {word}");
     }
     Ok(())
 }

@@ -1,79 +1,129 @@
 //! Texts and the tokens that they spell.
 
 use crate::{Mark, Refused, Token, TokenFault, tokens, tokens_or};
-use std::alloc::Global;
+use std::alloc::{AllocError, Global};
 use std::test::Fail;
 
-/// A name for a sign that is not its spelling.
-fn mark_name(mark: Mark) -> &'static str {
-    match mark {
-        Mark::LeftParen => "open",
-        Mark::RightParen => "close",
-        Mark::Comma => "comma",
-        Mark::Asterisk => "star",
-        Mark::Equals => "eq",
-        Mark::NotEquals => "ne",
-        Mark::LessThanOrEquals => "le",
-        Mark::GreaterThanOrEquals => "ge",
-        Mark::LessThan => "lt",
-        Mark::GreaterThan => "gt",
+/// A token as the tables write it.
+#[derive(Clone, Copy)]
+enum Written {
+    Word(&'static str),
+    Number(i64),
+    Quoted(&'static str),
+    Sign(Mark),
+}
+
+use Mark::*;
+use Written::*;
+
+fn is_as(token: &Token, written: &Written) -> bool {
+    match token {
+        Token::Word(text) => matches!(written, Word(characters) if text.as_str() == *characters),
+        Token::Number(n) => matches!(written, Number(number) if n == number),
+        Token::Quoted(text) =>
+            matches!(written, Quoted(characters) if text.as_str() == *characters),
+        Token::Mark(mark) => matches!(written, Sign(sign) if mark == sign),
     }
 }
 
-/// The tokens of a text, each between bars, or `bad`. Want of memory is an error.
-fn shown(alloc: Global, text: &str) -> Result<String, Fail> {
-    let found = match tokens(alloc, text) {
-        Ok(found) => found,
-        Err(TokenFault::Bad) => return Ok(String::from_str(alloc, "bad")?),
-        Err(TokenFault::Memory) => return Err(Fail::from("memory")),
-    };
-    let mut all = String::from_str(alloc, "|")?;
-    for token in &found {
-        match token {
-            Token::Word(word) => {
-                all.push_str("w:")?;
-                all.push_str(word.as_str())?;
-            }
-            Token::Number(n) => write!(all, "n:{n}")?,
-            Token::Quoted(text) => {
-                all.push_str("q:")?;
-                all.push_str(text.as_str())?;
-            }
-            Token::Mark(mark) => all.push_str(mark_name(*mark))?,
-        }
-        all.push_str("|")?;
+fn are_as(tokens: &[Token], written: &[Written]) -> bool {
+    if tokens.len() != written.len() {
+        return false;
     }
-    Ok(all)
+    for (token, each) in tokens.iter().zip(written) {
+        if !is_as(token, each) {
+            return false;
+        }
+    }
+    true
+}
+
+/// Whether the text spells no tokens. Want of memory is an error.
+fn is_bad(alloc: Global, text: &str) -> Result<bool, TokenFault> {
+    match tokens(alloc, text) {
+        Ok(_) => Ok(false),
+        Err(TokenFault::Bad) => Ok(true),
+        Err(TokenFault::Memory) => Err(TokenFault::Memory),
+    }
 }
 
 #[test]
 fn texts_spell_tokens(rt: HostRuntime) -> Result<(), Fail> {
-    let table = [
-        ("", "|"),
-        (" \t\r\n", "|"),
-        ("(),*=<><=>=<>", "|open|close|comma|star|eq|ne|le|ge|ne|"),
-        ("< > < = >=<", "|lt|gt|lt|eq|ge|lt|"),
-        ("<<>>==<=>", "|lt|ne|ge|eq|le|gt|"),
-        ("select_1 _x Zz9", "|w:SELECT_1|w:_X|w:ZZ9|"),
-        ("a-5", "|w:A|n:-5|"),
-        ("5-5", "|n:5|n:-5|"),
-        ("5*(7)", "|n:5|star|open|n:7|close|"),
-        ("007 -007 -0 0", "|n:7|n:-7|n:0|n:0|"),
-        ("9223372036854775807", "|n:9223372036854775807|"),
-        ("-9223372036854775808", "|n:-9223372036854775808|"),
+    let table: [(&str, &[Written]); 19] = [
+        ("", &[]),
+        (" \t\r\n", &[]),
+        (
+            "(),*=<><=>=<>",
+            &[
+                Sign(LeftParen),
+                Sign(RightParen),
+                Sign(Comma),
+                Sign(Asterisk),
+                Sign(Equals),
+                Sign(NotEquals),
+                Sign(LessThanOrEquals),
+                Sign(GreaterThanOrEquals),
+                Sign(NotEquals),
+            ],
+        ),
+        (
+            "< > < = >=<",
+            &[
+                Sign(LessThan),
+                Sign(GreaterThan),
+                Sign(LessThan),
+                Sign(Equals),
+                Sign(GreaterThanOrEquals),
+                Sign(LessThan),
+            ],
+        ),
+        (
+            "<<>>==<=>",
+            &[
+                Sign(LessThan),
+                Sign(NotEquals),
+                Sign(GreaterThanOrEquals),
+                Sign(Equals),
+                Sign(LessThanOrEquals),
+                Sign(GreaterThan),
+            ],
+        ),
+        (
+            "select_1 _x Zz9",
+            &[Word("SELECT_1"), Word("_X"), Word("ZZ9")],
+        ),
+        ("a-5", &[Word("A"), Number(-5)]),
+        ("5-5", &[Number(5), Number(-5)]),
+        (
+            "5*(7)",
+            &[
+                Number(5),
+                Sign(Asterisk),
+                Sign(LeftParen),
+                Number(7),
+                Sign(RightParen),
+            ],
+        ),
+        (
+            "007 -007 -0 0",
+            &[Number(7), Number(-7), Number(0), Number(0)],
+        ),
+        ("9223372036854775807", &[Number(9223372036854775807)]),
+        ("-9223372036854775808", &[Number(-9223372036854775808)]),
         (
             "0000000000000000000000000000009223372036854775807",
-            "|n:9223372036854775807|",
+            &[Number(9223372036854775807)],
         ),
-        ("'a''b'", "|q:a'b|"),
-        ("''", "|q:|"),
-        ("''''", "|q:'|"),
-        ("'a' 'b'", "|q:a|q:b|"),
-        ("'é\n,(' x", "|q:é\n,(|w:X|"),
-        ("a'b'1", "|w:A|q:b|n:1|"),
+        ("'a''b'", &[Quoted("a'b")]),
+        ("''", &[Quoted("")]),
+        ("''''", &[Quoted("'")]),
+        ("'a' 'b'", &[Quoted("a"), Quoted("b")]),
+        ("'é\n,(' x", &[Quoted("é\n,("), Word("X")]),
+        ("a'b'1", &[Word("A"), Quoted("b"), Number(1)]),
     ];
-    for (text, wanted) in table {
-        assert_eq!(rt; shown(rt.alloc(), text)?.as_str(), wanted, "for {text:?}");
+    for (text, written) in table {
+        let found = tokens(rt.alloc(), text)?;
+        assert!(rt; are_as(found.as_slice(), written), "for {text:?}");
     }
     Ok(())
 }
@@ -105,32 +155,38 @@ fn texts_that_spell_no_tokens(rt: HostRuntime) -> Result<(), Fail> {
         "\0",
     ];
     for text in table {
-        assert_eq!(rt; shown(rt.alloc(), text)?.as_str(), "bad", "for {text:?}");
+        assert!(rt; is_bad(rt.alloc(), text)?, "for {text:?}");
     }
     Ok(())
 }
 
-/// `n` letters between quotes.
-fn quoted(alloc: Global, n: usize) -> Result<String, Fail> {
+/// Letters between quotes.
+fn quoted(alloc: Global, letters: &str) -> Result<String, AllocError> {
     let mut text = String::from_str(alloc, "'")?;
-    for _ in 0..n {
-        text.push('x')?;
-    }
-    text.push('\'')?;
+    text.push_str(letters)?;
+    text.push_str("'")?;
     Ok(text)
 }
 
 #[test]
 fn quoted_texts_have_a_limit(rt: HostRuntime) -> Result<(), Fail> {
     let alloc = rt.alloc();
-    assert_eq!(rt;
-        shown(alloc, quoted(alloc, 1024)?.as_str())?.len(),
-        1024 + 4
-    );
-    assert_eq!(rt;
-        shown(alloc, quoted(alloc, 1025)?.as_str())?.as_str(),
-        "bad"
-    );
+    let at_limit = "x".repeat(alloc, 1024)?;
+    let found = tokens(alloc, quoted(alloc, at_limit.as_str())?.as_str())?;
+    assert_eq!(rt; found.len(), 1);
+    assert!(rt; matches!(&found[0], Token::Quoted(text) if text.as_str() == at_limit.as_str()));
+    let beyond = "x".repeat(alloc, 1025)?;
+    assert!(rt; is_bad(alloc, quoted(alloc, beyond.as_str())?.as_str())?);
+    Ok(())
+}
+
+#[test]
+fn texts_may_have_many_tokens(rt: HostRuntime) -> Result<(), Fail> {
+    let alloc = rt.alloc();
+    for sign in ["(", ", "] {
+        let text = sign.repeat(alloc, 100_001)?;
+        assert_eq!(rt; tokens(alloc, text.as_str())?.len(), 100_001);
+    }
     Ok(())
 }
 

@@ -1,43 +1,34 @@
 //! The order of cells, and refusals.
 
-use crate::{Cell, Refused, Text};
-use std::alloc::Global;
-use std::cmp::Ordering;
+use super::Written::{Int, Null, Text};
+use super::{cells_of, compare};
+use crate::Refused;
 use std::test::Fail;
-
-fn text(alloc: Global, characters: &str) -> Result<Cell, Fail> {
-    Ok(Cell::Text(Text::copied(alloc, characters)?))
-}
-
-/// Reached through the bound, as the crates above reach it.
-fn compare<K: Ord>(a: &K, b: &K) -> Ordering {
-    a.cmp(b)
-}
 
 #[test]
 fn cells_have_one_order(rt: HostRuntime) -> Result<(), Fail> {
-    let alloc = rt.alloc();
-    let rising = [
-        Cell::Null,
-        Cell::Int(i64::MIN),
-        Cell::Int(-1),
-        Cell::Int(0),
-        Cell::Int(i64::MAX),
-        text(alloc, "")?,
-        text(alloc, "Z")?,
-        text(alloc, "a")?,
-        text(alloc, "a\0")?,
-        text(alloc, "ab")?,
-        text(alloc, "b")?,
-        text(alloc, "é")?,
+    let written = [
+        Null,
+        Int(i64::MIN),
+        Int(-1),
+        Int(0),
+        Int(i64::MAX),
+        Text(""),
+        Text("Z"),
+        Text("a"),
+        Text("a\0"),
+        Text("ab"),
+        Text("b"),
+        Text("é"),
     ];
+    let rising = cells_of(rt.alloc(), written.as_slice())?;
     for (i, a) in rising.iter().enumerate() {
         for (j, b) in rising.iter().enumerate() {
-            assert_eq!(rt; compare(a, b), i.cmp(&j), "at {i} and {j}");
-            assert_eq!(rt; a == b, i == j, "at {i} and {j}");
+            assert!(rt; compare(a, b) == i.cmp(&j), "at {i} and {j}");
+            assert!(rt; (a == b) == (i == j), "at {i} and {j}");
         }
-        assert!(rt; a.clone()? == *a);
-        assert_eq!(rt; a.is_null(), i == 0);
+        assert!(rt; a.clone()? == *a, "at {i}");
+        assert!(rt; a.is_null() == (i == 0), "at {i}");
     }
     Ok(())
 }

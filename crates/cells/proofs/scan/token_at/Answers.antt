@@ -16,4 +16,4 @@ returns-in_default c =
       | else-begins-2 w ↦ or_from _ _ (sym c.begins-else-begins.ensures ∙ w.if-begins-2.false) (ap (λ v. v == 45) (sym w.byte_at.ensures) ∙ sym w.value-is ∙ c.if-byte_at-eq45.false)
     ] in
     let no_quote = strip_prefix_char 39 c.args.text.now None c.in_default.ensures.cases (lit< tt) in
-    subst (Gives (λ x. (x.0, x.1.now)) c.mark_at.result) (sym (token_mark c.args.text.now no_word no_number no_quote)) c.mark_at.ensures
+    subst (λ o. Gives (λ x. (x.0, x.1.now)) o c.mark_at.result) (sym (token_mark c.args.text.now no_word no_number no_quote)) c.mark_at.ensures

@@ -1,4 +1,4 @@
-use Rattle.std.proofs.Common.{◌∙◌, ◌++◌, ◌∷◌, [], Some, None, sym, ap, lit<, rules}
+use Rattle.std.proofs.Common.{◌∙◌, ◌++◌, ◌∷◌, [], Some, None, inr, refl, sym, ap, lit<, rules}
 use Rattle.std.specs.Prelude.{string_bytes}
 use Rattle.std.proofs.lemmas.Str.Pattern.{split_parts, strip_prefix_char}
 use Rattle.cells.specs.Scanning.{after, unquoted}
@@ -28,4 +28,4 @@ loop-part-preserved c =
 pub returns : goal.returns
 returns c =
     let none = split_parts 39 c.loop-part.rest.now None c.in_default.ensures.cases (lit< tt) in
-    sym c.loop-part.invariant.same ∙ ap (after (string_bytes c.loop-part.front)) (unquoted_none c.loop-part.rest.now none)
+    inr (refl, sym c.loop-part.invariant.same ∙ ap (after (string_bytes c.loop-part.front)) (unquoted_none c.loop-part.rest.now none))
