@@ -7,6 +7,7 @@ pub mod LinesLemmas
 pub mod ProgressLemmas
 pub mod ReaderLemmas
 pub mod RecordsLemmas
+pub mod StatementsLemmas
 pub mod StatesLemmas
 pub mod StepsLemmas
 pub mod TakenLemmas

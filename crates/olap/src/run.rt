@@ -3,6 +3,7 @@ ghost use Rattle.std.specs.Prelude.{◌≡◌, ℕ, ◌+◌, ◌<◌, ◌≤◌,
 ghost use Rattle.std.specs.FinMap.{keys, len, remove};
 ghost use Rattle.std.specs.List.{flat_map};
 ghost use Rattle.trie.specs.Shapes.{shape_of};
+ghost use Rattle.cells.specs.Fitting.{IsRowOf};
 ghost use Rattle.cells.specs.Hashes.{plain_hash};
 ghost use Rattle.cells.specs.declared.cell.Cell.{Cell as CellValue};
 ghost use Rattle.std.specs.Io.KnownBytes.{Appends};
@@ -22,7 +23,7 @@ use crate::job::HashChoice;
 use crate::lines::lines_of;
 use crate::out::{Out, write_whole};
 use crate::statement::{Statement, read_first, read_statement};
-use board::Keeper;
+use board::{Keeper, rows_have_the_shape_of_their_keys};
 use cells::{Cell, Fnv, KeyHash, Plain, Refused, Row};
 use std::alloc::{AllocError, Global};
 use trie::Prefix;
@@ -165,7 +166,7 @@ fn execute_first<H: KeyHash<Cell>>(
 }
 
 /// The same once there is a table.
-#[tactic(auto, using(crate::proofs::StepsLemmas::executes_nothing, crate::proofs::StepsLemmas::executes_refused, crate::proofs::StepsLemmas::executes_report, crate::proofs::StepsLemmas::executes_put, crate::proofs::StepsLemmas::executes_overflow, crate::proofs::StepsLemmas::executes_publish, crate::proofs::StepsLemmas::executes_delete, crate::proofs::StepsLemmas::executes_shape))]
+#[tactic(auto, using(crate::proofs::StepsLemmas::executes_nothing, crate::proofs::StepsLemmas::executes_refused, crate::proofs::StepsLemmas::executes_report, crate::proofs::StepsLemmas::executes_put, crate::proofs::StepsLemmas::executes_overflow, crate::proofs::StepsLemmas::executes_publish, crate::proofs::StepsLemmas::executes_delete))]
 fn execute_kept<H: KeyHash<Cell>, G: Gate>(
     alloc: Global,
     gate: &G,
@@ -182,7 +183,11 @@ fn execute_kept<H: KeyHash<Cell>, G: Gate>(
         Ok(Statement::Delete(key)) => delete(alloc, keeper, &key),
         Ok(Statement::Publish) => publish(alloc, gate, keeper),
         Ok(Statement::Report) => report_text(alloc, keeper, line.number),
-        Ok(Statement::Shape) => shape_block(alloc, keeper, line.number),
+        Ok(Statement::Shape) => {
+            // The law by which the block is that of the published rows; it does nothing.
+            rows_have_the_shape_of_their_keys::<H>();
+            shape_block(alloc, keeper, line.number)
+        }
         Err(refused) => refusal_text(alloc, line.number, refused),
     }
 }
@@ -194,6 +199,7 @@ fn put<H: KeyHash<Cell>>(
     row: Row,
     number: u64,
 ) -> Result<String, Ended>
+    requires row { IsRowOf (editions.schema keeper.old) row }
     ensures step { IfOk result (λ text. PutsRow keeper.old keeper.new row number (string_bytes text)) }
     ensures ended { IfErr result (λ e. e ≡ Ended.OutOfMemory) }
 {
