@@ -1,3 +1,3 @@
 pub mod EditionsLemmas
-pub mod RootsLemmas
+pub mod FittingLemmas
 pub mod ShapesLemmas

@@ -1,15 +1,23 @@
 -- What a keeper holds, and how its calls change it. These words name no list and no root.
-use Rattle.std.specs.Prelude.{◌≡◌, ℕ, ◌+◌, refl}
+use Rattle.std.specs.Prelude.{◌≡◌, ℕ, ◌+◌, ◌≤◌, Some, refl}
 use Rattle.std.specs.Coded.{Coded, code_by, coded×, coded_ℕ}
 use Rattle.std.specs.FinMap.{FinMap}
 use Rattle.std.specs.FinMap as map
 use Rattle.cells.specs.CellOrder.{cell_cmp}
 use Rattle.cells.specs.Codes.{coded_cell, coded_row, coded_table}
+use Rattle.cells.specs.Fitting.{IsRowOf}
 use Rattle.cells.specs.Values.{Entry, Table}
+use Rattle.cells.specs.declared.cell.Cell.{Cell}
+use Rattle.board.specs.Limits.{row_limit}
 
 -- a row at each key that has one
 abbrev pub Rows : Type 0
 Rows = FinMap cell_cmp Entry
+
+-- each row stands at its own key, and may stand in the table
+pub record AreRowsOf (table : Table) (rows : Rows) : Type 0 where
+  pub keyed : (key : Cell) (row : Entry) → map.get rows key ≡ Some row → row.key ≡ key
+  pub fit : (key : Cell) (row : Entry) → map.get rows key ≡ Some row → IsRowOf table row
 
 -- an edition: its number, its rows, and the schema of its table
 pub record Edition : Type 0 where
@@ -22,6 +30,11 @@ pub record Editions : Type 0 where
   pub drafted : Rows
   pub most : ℕ
   pub last : Edition
+
+-- the editions of a draft, its limit, and the parts of the last edition
+abbrev pub editions_of : Rows → ℕ → ℕ → Rows → Table → Editions
+editions_of drafted most number rows schema =
+    record { drafted = drafted; most = most; last = record { number = number; rows = rows; schema = schema } }
 
 -- the rows that updates have left so far
 abbrev pub draft : Editions → Rows
@@ -41,6 +54,15 @@ published k = k.last.rows
 
 abbrev pub schema : Editions → Table
 schema k = k.last.schema
+
+-- what is so of each keeper: its limit is in range, its draft keeps it, and the rows of the draft and
+-- of the last edition are rows of the table
+pub record IsKept (k : Editions) : Type 0 where
+  pub some : 1 ≤ limit k
+  pub most : limit k ≤ row_limit
+  pub within : map.len (draft k) ≤ limit k
+  pub drafted : AreRowsOf (schema k) (draft k)
+  pub published : AreRowsOf (schema k) (published k)
 
 -- a keeper as it begins: draft and edition 0 have no rows
 pub record Begins (most : ℕ) (table : Table) (k : Editions) : Type 0 where

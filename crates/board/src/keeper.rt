@@ -1,8 +1,10 @@
 //! The keeper, who alone changes the table.
 ghost use Rattle.std.specs.Prelude.{◌≡◌, ◌+◌, ◌<◌, ◌≤◌, ◌^◌, ◌⊎◌, ◌↔◌, IfOk, IfErr, IsErrOf, IsTrue, OnErr, OnOk};
 ghost use Rattle.std.specs.FinMap as map;
+ghost use Rattle.cells.specs.Fitting.{IsRowOf};
 ghost use Rattle.cells.specs.Values.{Entry};
-ghost use Rattle.board.specs.Editions.{Begins, ChangesDraft, Publishes, draft, edition, limit, published, schema};
+ghost use Rattle.board.specs.Editions.{AreRowsOf, Begins, ChangesDraft, Publishes, draft, edition, limit, published, schema};
+ghost use Rattle.board.specs.Limits.{place_limit, row_limit};
 
 use crate::root::Root;
 use crate::snapshot::Snapshot;
@@ -27,31 +29,25 @@ pub struct Keeper<H: KeyHash<Cell>> {
 }
 
 impl<H: KeyHash<Cell>> Model for Keeper<H> {
-    ghost use Rattle.std.specs.Prelude.{◌≤◌, ◌^◌};
-    ghost use Rattle.std.specs.FinMap.{len};
-    ghost use Rattle.board.specs.Editions.{Editions, coded_editions};
+    ghost use Rattle.board.specs.Editions.{Editions, IsKept, coded_editions, editions_of};
 
     ghost Value = { Editions };
 
     ghost coded = { coded_editions };
 
-    ghost view = { λ k. record {
-      drafted = k.draft;
-      most = k.limit;
-      last = record { number = k.edition; rows = k.published; schema = k.schema.value };
-    } };
+    ghost view = { λ k. editions_of k.draft k.limit k.edition k.published k.schema.value };
 
-    ghost invariant = { λ k. (len k.draft ≤ k.limit) × (k.limit ≤ 2 ^ 32) };
+    ghost invariant = { λ k. IsKept (editions_of k.draft k.limit k.edition k.published k.schema.value) };
 }
 
 impl<H: KeyHash<Cell>> Keeper<H> {
     /// A keeper of the table, whose draft and edition 0 have no rows. The draft may have at most
-    /// `limit` rows. `places` is how many viewers can be made; it has no effect before there are
+    /// `limit` rows, of which there are 1 to [`MAX_ROWS`](crate::MAX_ROWS). `places` is how many
+    /// viewers can be made, 1 to [`MAX_PLACES`](crate::MAX_PLACES); it has no effect before there are
     /// viewers.
-    #[tactic(auto, using(crate::proofs::EditionsLemmas::empty_within))]
     pub fn new(alloc: Global, schema: Schema, limit: u64, places: u64) -> Result<Keeper<H>, Refused>
-        requires limit { 1 ≤ limit × (limit ≤ 2 ^ 32) }
-        requires places { 1 ≤ places × (places ≤ 64) }
+        requires limit { 1 ≤ limit × (limit ≤ row_limit) }
+        requires places { 1 ≤ places × (places ≤ place_limit) }
         ensures begun { IfOk result (Begins limit schema) }
         ensures refused { IfErr result (λ e. e ≡ Refused.OutOfMemory) }
     {
@@ -68,10 +64,11 @@ impl<H: KeyHash<Cell>> Keeper<H> {
     }
 
     /// Lays the row over the draft. It takes the place of the row of its key, where there is one, and
-    /// so takes no new room.
+    /// so takes no new room. It has to be a row of the table, as `Row::read` gives them.
     ///
     /// [`Refused::TooManyRows`] exactly where the draft would have more rows than the limit.
     pub fn put(&mut self, row: Row) -> Result<(), Refused>
+        requires row { IsRowOf (schema self.old) row }
         ensures draft { OnOk result (ChangesDraft self.old self.new (map.insert (draft self.old) row.key row)) }
         ensures within { OnOk result (map.len (draft self.new) ≤ limit self.old) }
         ensures full { IsErrOf result Refused.TooManyRows → limit self.old < map.len (map.insert (draft self.old) row.key row) }
@@ -127,6 +124,15 @@ impl<H: KeyHash<Cell>> Keeper<H> {
         ensures { result.now ≡ schema self.now }
     {
         &self.schema
+    }
+
+    /// What is known of each keeper: the rows of the draft and of the last edition are rows of the
+    /// table. It does nothing.
+    pub fn rows_fit(&self)
+        ensures draft { AreRowsOf (schema self.now) (draft self.now) }
+        ensures published { AreRowsOf (schema self.now) (published self.now) }
+    {
+        let _ = &self.draft;
     }
 
     /// The draft, for tests.

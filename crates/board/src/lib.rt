@@ -3,10 +3,14 @@
 #![tactic(auto)]
 
 mod keeper;
+mod laws;
+mod limits;
 mod root;
 mod snapshot;
 
 pub use keeper::Keeper;
+pub use laws::rows_have_the_shape_of_their_keys;
+pub use limits::{MAX_PLACES, MAX_ROWS};
 pub use root::Root;
 pub use snapshot::Snapshot;
 

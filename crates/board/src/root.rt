@@ -2,12 +2,15 @@
 ghost use Rattle.std.specs.Prelude.{◌≡◌, ◌+◌, ◌<◌, ◌^◌, IfOk};
 ghost use Rattle.std.specs.Option.{option_copied};
 ghost use Rattle.std.specs.FinMap as map;
+ghost use Rattle.std.specs.Map.{keys_of};
+ghost use Rattle.cells.specs.CellOrder.{cell_cmp};
+ghost use Rattle.trie.specs.Maps.{RiseByHash, map_of};
 ghost use Rattle.trie.specs.Shapes.{shape_of};
 
 use cells::{Cell, KeyHash, Row};
 use std::alloc::{AllocError, Global};
 use std::marker::Model;
-use trie::{Shape, Ticks, Trie};
+use trie::{Shape, Ticks, Trie, entries_are_a_map, entries_still_rise};
 
 /// Rows by their keys, which never change once they are made: a trie of the rows. A change makes a new
 /// root, which shares the rows that stay and most of the nodes.
@@ -33,21 +36,29 @@ impl<H: KeyHash<Cell>> Model for Root<H> {
     ghost invariant = { λ r. RiseByHash H.hash_of cell_cmp (keys_of r.rows) };
 }
 
+// The calls of `entries_are_a_map` and `entries_still_rise` do nothing: they are the trie's laws, by
+// which its entries are a finite map.
 impl<H: KeyHash<Cell>> Root<H> {
+    /// The rows that a trie holds.
+    fn of(alloc: Global, rows: Trie<Cell, Row, H>) -> Root<H>
+        requires { RiseByHash H.hash_of cell_cmp (keys_of rows) }
+        ensures { result ≡ map_of cell_cmp rows }
+    {
+        Root { alloc, rows }
+    }
+
     /// No rows. It takes no memory.
     pub(crate) fn empty(alloc: Global) -> Root<H>
         ensures { result ≡ map.empty }
     {
-        Root {
-            alloc,
-            rows: Trie::empty(),
-        }
+        Root::of(alloc, Trie::empty())
     }
 
     /// How many rows there are. It takes no memory.
     pub fn len(&self) -> u64
         ensures { result ≡ map.len self.now }
     {
+        entries_are_a_map::<Cell, Row, H>();
         self.rows.len()
     }
 
@@ -55,6 +66,7 @@ impl<H: KeyHash<Cell>> Root<H> {
     pub fn get(&self, key: &Cell) -> Option<&Row>
         ensures { option_copied result ≡ map.get self.now key.now }
     {
+        entries_are_a_map::<Cell, Row, H>();
         self.rows.get(key)
     }
 
@@ -63,39 +75,45 @@ impl<H: KeyHash<Cell>> Root<H> {
         requires { map.len self.now + 1 < 2 ^ 64 }
         ensures { IfOk result (λ root. root ≡ map.insert self.now row.key row) }
     {
+        entries_are_a_map::<Cell, Row, H>();
+        entries_still_rise::<Cell, Row, H>();
         let key = row.key().clone()?;
         let rows = self.rows.put(self.alloc, key, row, &mut Ticks::new())?;
-        Ok(Root {
-            alloc: self.alloc,
-            rows,
-        })
+        Ok(Root::of(self.alloc, rows))
     }
 
     /// The rows without the row of the key; the same rows where there is none.
     pub(crate) fn remove(&self, key: &Cell) -> Result<Root<H>, AllocError>
         ensures { IfOk result (λ root. root ≡ map.remove self.now key.now) }
     {
+        entries_are_a_map::<Cell, Row, H>();
+        entries_still_rise::<Cell, Row, H>();
         let rows = self.rows.remove(self.alloc, key, &mut Ticks::new())?;
-        Ok(Root {
-            alloc: self.alloc,
-            rows,
-        })
+        Ok(Root::of(self.alloc, rows))
     }
 
     /// One owner more of the same rows.
     pub fn share(&self) -> Result<Root<H>, AllocError>
         ensures { IfOk result (λ root. root ≡ self.now) }
     {
-        Ok(Root {
-            alloc: self.alloc,
-            rows: self.rows.share()?,
-        })
+        let rows = self.rows.share()?;
+        Ok(Root::of(self.alloc, rows))
     }
+
+    /// The trie that holds the rows, for those who go through all of them. It takes no memory.
+    pub fn rows(&self) -> &Trie<Cell, Row, H>
+        ensures map { map_of cell_cmp result.now ≡ self.now }
+        ensures rise { RiseByHash H.hash_of cell_cmp (keys_of result.now) }
+    {
+        &self.rows
+    }
+
     /// The shape of the keys: each prefix of digits of their hashes that two keys or more share, with
     /// their number, in order, a prefix before those that extend it.
     pub fn shape(&self) -> Result<Shape, AllocError>
         ensures { IfOk result (λ v. v.items ≡ shape_of H.hash_of (map.keys self.now)) }
     {
+        entries_are_a_map::<Cell, Row, H>();
         self.rows.shape(self.alloc)
     }
 }

@@ -1,5 +1,6 @@
 //! One published edition, for good.
 ghost use Rattle.std.specs.Prelude.{◌≡◌};
+ghost use Rattle.board.specs.Editions.{AreRowsOf};
 
 use crate::root::Root;
 use cells::{Cell, KeyHash, Schema};
@@ -16,17 +17,21 @@ pub struct Snapshot<H: KeyHash<Cell>> {
 }
 
 impl<H: KeyHash<Cell>> Model for Snapshot<H> {
-    ghost use Rattle.board.specs.Editions.{Edition, coded_edition};
+    ghost use Rattle.board.specs.Editions.{AreRowsOf, Edition, coded_edition};
 
     ghost Value = { Edition };
 
     ghost coded = { coded_edition };
 
     ghost view = { λ s. record { number = s.edition; rows = s.root; schema = s.schema.value } };
+
+    // Its rows are rows of its schema.
+    ghost invariant = { λ s. AreRowsOf s.schema.value s.root };
 }
 
 impl<H: KeyHash<Cell>> Snapshot<H> {
     pub(crate) fn new(edition: u64, root: Root<H>, schema: Arc<Schema>) -> Snapshot<H>
+        requires { AreRowsOf schema.value root }
         ensures { result ≡ record { number = edition; rows = root; schema = schema.value } }
     {
         Snapshot {
@@ -43,9 +48,10 @@ impl<H: KeyHash<Cell>> Snapshot<H> {
         self.edition
     }
 
-    /// The edition's rows. It takes no memory.
+    /// The edition's rows, which are rows of its schema. It takes no memory.
     pub fn root(&self) -> &Root<H>
-        ensures { result.now ≡ self.now.rows }
+        ensures rows { result.now ≡ self.now.rows }
+        ensures fit { AreRowsOf self.now.schema result.now }
     {
         &self.root
     }

@@ -2,29 +2,42 @@
 //! caller makes of the contract alone.
 ghost use Rattle.std.specs.Prelude.{◌≡◌, IfOk};
 ghost use Rattle.std.specs.FinMap as map;
+ghost use Rattle.cells.specs.Fitting.{IsRowOf};
+ghost use Rattle.board.specs.Editions.{AreRowsOf, draft, published, schema};
+ghost use Rattle.board.specs.Limits.{place_limit, row_limit};
 
-use crate::{Keeper, Root, Snapshot};
+use crate::{Keeper, MAX_PLACES, MAX_ROWS, Root, Snapshot};
 use cells::{Cell, Fnv, KeyHash, Plain, Refused, Row, Schema};
-use std::alloc::Global;
+use std::alloc::{AllocError, Global};
 use std::process::Abort;
 use std::test::Fail;
+use std::thread::{self, Threads};
 
 /// A call that changes a keeper: the key and the value of a row, a key, or nothing.
 #[derive(Drop)]
 enum Step {
-    Put(i64, i64),
+    Put(&'static str, &'static str),
     Delete(i64),
     Publish,
 }
 
-fn schema(alloc: Global) -> Result<Schema, Refused> {
+/// The values of the keys 1 to 4, 0 where there is none, and the number of rows.
+#[derive(Clone, Copy, PartialEq, Eq, Drop)]
+struct Rows([i64; 4], u64);
+
+/// What a keeper holds: its draft, the number of the last edition and its rows.
+#[derive(Clone, Copy, PartialEq, Eq, Drop)]
+struct Held(Rows, u64, Rows);
+
+fn table(alloc: Global) -> Result<Schema, Refused> {
     Schema::read(alloc, "T (K INT KEY, V INT)")
 }
 
-fn row(alloc: Global, key: i64, value: i64) -> Result<Row, Refused> {
-    let key = key.to_string(alloc)?;
-    let value = value.to_string(alloc)?;
-    Row::read(alloc, &[key.as_bytes(), value.as_bytes()], &schema(alloc)?)
+/// A row of the table.
+fn row(alloc: Global, table: &Schema, key: &str, value: &str) -> Result<Row, Refused>
+    ensures { IfOk result (IsRowOf table.now) }
+{
+    Row::read(alloc, &[key.as_bytes(), value.as_bytes()], table)
 }
 
 fn apply<H: KeyHash<Cell>>(
@@ -34,7 +47,10 @@ fn apply<H: KeyHash<Cell>>(
     step: &Step,
 ) -> Result<(), Refused> {
     match step {
-        Step::Put(key, value) => keeper.put(row(alloc, *key, *value)?),
+        Step::Put(key, value) => {
+            let row = row(alloc, keeper.schema(), key, value)?;
+            keeper.put(row)
+        }
         Step::Delete(key) => keeper.delete(&Cell::Int(*key)),
         Step::Publish => {
             assert!(rt; keeper.edition() < 100);
@@ -43,27 +59,73 @@ fn apply<H: KeyHash<Cell>>(
     }
 }
 
-/// The values of the keys 1 to 4, with a dash where there is none, and the number of rows.
-fn shown<H: KeyHash<Cell>>(alloc: Global, root: &Root<H>) -> Result<String, Fail> {
-    let mut all = String::new(alloc);
-    for key in 1..5 {
-        match root.get(&Cell::Int(key)).map(|row| row.cells()) {
-            Some([_, Cell::Int(value)]) => write!(all, "{value} ")?,
-            _ => all.push_str("- ")?,
-        }
+/// The value of the key, 0 where there is none.
+fn value<H: KeyHash<Cell>>(root: &Root<H>, key: i64) -> i64 {
+    match root.get(&Cell::Int(key)).map(|row| row.cells()) {
+        Some([_, Cell::Int(value)]) => *value,
+        _ => 0,
     }
-    let len = root.len();
-    write!(all, "of {len}")?;
-    Ok(all)
 }
 
-/// What a keeper holds: its draft, and the last edition.
-fn held<H: KeyHash<Cell>>(alloc: Global, keeper: &Keeper<H>) -> Result<String, Fail> {
-    let draft = shown(alloc, keeper.draft())?;
+fn rows_in<H: KeyHash<Cell>>(root: &Root<H>) -> Rows {
+    let values = [
+        value(root, 1),
+        value(root, 2),
+        value(root, 3),
+        value(root, 4),
+    ];
+    Rows(values, root.len())
+}
+
+fn held_by<H: KeyHash<Cell>>(keeper: &Keeper<H>) -> Result<Held, Refused> {
     let snapshot = keeper.snapshot()?;
-    let published = shown(alloc, snapshot.root())?;
-    let edition = snapshot.edition();
-    Ok(format!(in alloc; "{draft} | {edition}: {published}")?)
+    let published = rows_in(snapshot.root());
+    Ok(Held(rows_in(keeper.draft()), snapshot.edition(), published))
+}
+
+/// A call, its answer, and what the keeper holds behind it: the draft, the number of the last edition
+/// and its rows.
+#[derive(Drop)]
+struct Change(Step, Result<(), Refused>, Rows, u64, Rows);
+
+const NONE: Rows = Rows([0, 0, 0, 0], 0);
+const FIRST: Rows = Rows([10, 20, 0, 0], 2);
+const SECOND: Rows = Rows([11, 0, 33, 40], 3);
+const FULL: Result<(), Refused> = Err(Refused::TooManyRows);
+
+#[rattlefmt::skip]
+const CHANGES: [Change; 12] = [
+    Change(Step::Put("1", "10"), Ok(()), Rows([10, 0, 0, 0], 1), 0, NONE),
+    Change(Step::Put("2", "20"), Ok(()), FIRST, 0, NONE),
+    Change(Step::Publish, Ok(()), FIRST, 1, FIRST),
+    Change(Step::Put("1", "11"), Ok(()), Rows([11, 20, 0, 0], 2), 1, FIRST),
+    Change(Step::Put("3", "30"), Ok(()), Rows([11, 20, 30, 0], 3), 1, FIRST),
+    Change(Step::Put("4", "40"), FULL, Rows([11, 20, 30, 0], 3), 1, FIRST),
+    Change(Step::Put("3", "33"), Ok(()), Rows([11, 20, 33, 0], 3), 1, FIRST),
+    Change(Step::Delete(4), Ok(()), Rows([11, 20, 33, 0], 3), 1, FIRST),
+    Change(Step::Delete(2), Ok(()), Rows([11, 0, 33, 0], 2), 1, FIRST),
+    Change(Step::Put("4", "40"), Ok(()), SECOND, 1, FIRST),
+    Change(Step::Publish, Ok(()), SECOND, 2, SECOND),
+    Change(Step::Publish, Ok(()), SECOND, 3, SECOND),
+];
+
+/// Makes the change, again where memory was refused: then the keeper is what it was before.
+fn make<H: KeyHash<Cell>>(
+    rt: &impl Abort,
+    alloc: Global,
+    keeper: &mut Keeper<H>,
+    change: &Change,
+) -> Result<(), Refused> {
+    let Change(step, wanted, draft, edition, published) = change;
+    let before = held_by(keeper)?;
+    let mut answer = apply(rt, alloc, keeper, step);
+    if answer == Err(Refused::OutOfMemory) {
+        assert!(rt; held_by(keeper)? == before);
+        answer = apply(rt, alloc, keeper, step);
+    }
+    assert!(rt; answer == *wanted);
+    assert!(rt; held_by(keeper)? == Held(*draft, *edition, *published));
+    Ok(())
 }
 
 /// Run with each allocation failing in turn, too: after a refusal of memory the keeper is what it
@@ -71,79 +133,23 @@ fn held<H: KeyHash<Cell>>(alloc: Global, keeper: &Keeper<H>) -> Result<String, F
 #[test]
 fn calls_change_a_keeper(rt: HostRuntime) -> Result<(), Fail> {
     let alloc = rt.alloc();
-    let steps = [
-        (Step::Put(1, 10), Ok(()), "10 - - - of 1 | 0: - - - - of 0"),
-        (Step::Put(2, 20), Ok(()), "10 20 - - of 2 | 0: - - - - of 0"),
-        (Step::Publish, Ok(()), "10 20 - - of 2 | 1: 10 20 - - of 2"),
-        (
-            Step::Put(1, 11),
-            Ok(()),
-            "11 20 - - of 2 | 1: 10 20 - - of 2",
-        ),
-        (
-            Step::Put(3, 30),
-            Ok(()),
-            "11 20 30 - of 3 | 1: 10 20 - - of 2",
-        ),
-        (
-            Step::Put(4, 40),
-            Err(Refused::TooManyRows),
-            "11 20 30 - of 3 | 1: 10 20 - - of 2",
-        ),
-        (
-            Step::Put(3, 33),
-            Ok(()),
-            "11 20 33 - of 3 | 1: 10 20 - - of 2",
-        ),
-        (
-            Step::Delete(4),
-            Ok(()),
-            "11 20 33 - of 3 | 1: 10 20 - - of 2",
-        ),
-        (
-            Step::Delete(2),
-            Ok(()),
-            "11 - 33 - of 2 | 1: 10 20 - - of 2",
-        ),
-        (
-            Step::Put(4, 40),
-            Ok(()),
-            "11 - 33 40 of 3 | 1: 10 20 - - of 2",
-        ),
-        (
-            Step::Publish,
-            Ok(()),
-            "11 - 33 40 of 3 | 2: 11 - 33 40 of 3",
-        ),
-        (
-            Step::Publish,
-            Ok(()),
-            "11 - 33 40 of 3 | 3: 11 - 33 40 of 3",
-        ),
-    ];
-    let mut keeper: Keeper<Fnv> = Keeper::new(alloc, schema(alloc)?, 3, 1)?;
-    let mut before = "- - - - of 0 | 0: - - - - of 0";
-    for (step, wanted, after) in &steps {
-        let mut answer = apply(&rt, alloc, &mut keeper, step);
-        if answer == Err(Refused::OutOfMemory) {
-            assert_eq!(rt; held(alloc, &keeper)?.as_str(), before);
-            answer = apply(&rt, alloc, &mut keeper, step);
-        }
-        assert_eq!(rt; answer, *wanted);
-        assert_eq!(rt; held(alloc, &keeper)?.as_str(), *after);
-        before = *after;
+    let mut keeper: Keeper<Fnv> = Keeper::new(alloc, table(alloc)?, 3, 1)?;
+    for change in &CHANGES {
+        make(&rt, alloc, &mut keeper, change)?;
     }
     Ok(())
 }
 
 /// A caller that knows the contract alone: the snapshot of the first edition keeps its one row,
-/// whatever is put and published afterwards.
+/// whatever is put and published afterwards, and it is a row of the table.
 fn first_of_two_editions<H: KeyHash<Cell>>(
     alloc: Global,
     schema: Schema,
     first: Row,
     second: Row,
 ) -> Result<Snapshot<H>, Refused>
+    requires first { IsRowOf schema first }
+    requires second { IsRowOf schema second }
     ensures edition { IfOk result (λ s. s.number ≡ 1) }
     ensures rows { IfOk result (λ s. s.rows ≡ map.insert map.empty first.key first) }
 {
@@ -159,10 +165,66 @@ fn first_of_two_editions<H: KeyHash<Cell>>(
 #[test]
 fn a_snapshot_keeps_its_rows(rt: HostRuntime) -> Result<(), Fail> {
     let alloc = rt.alloc();
-    let first = row(alloc, 1, 10)?;
-    let second = row(alloc, 1, 11)?;
-    let snapshot = first_of_two_editions::<Plain>(alloc, schema(alloc)?, first, second)?;
-    assert_eq!(rt; shown(alloc, snapshot.root())?.as_str(), "10 - - - of 1");
-    assert_eq!(rt; snapshot.schema().name(), "T");
+    let table = table(alloc)?;
+    let first = row(alloc, &table, "1", "10")?;
+    let second = row(alloc, &table, "1", "11")?;
+    let snapshot = first_of_two_editions::<Plain>(alloc, table, first, second)?;
+    assert!(rt; value(snapshot.root(), 1) == 10);
+    assert!(rt; snapshot.root().len() == 1);
+    assert!(rt; snapshot.schema().name() == "T");
+    Ok(())
+}
+
+/// What is known of the rows of any keeper, and of the rows of any snapshot.
+fn rows_are_of_the_table<H: KeyHash<Cell>>(keeper: &Keeper<H>, snapshot: &Snapshot<H>)
+    ensures draft { AreRowsOf (schema keeper.now) (draft keeper.now) }
+    ensures published { AreRowsOf (schema keeper.now) (published keeper.now) }
+    ensures snapshot { AreRowsOf snapshot.now.schema snapshot.now.rows }
+{
+    keeper.rows_fit();
+    let _ = snapshot.root();
+}
+
+/// The greatest limit of rows is the one that clauses speak of, and so is that of places.
+fn greatest_limits() -> (u64, u64)
+    ensures { result ≡ (row_limit, place_limit) }
+{
+    (MAX_ROWS, MAX_PLACES)
+}
+
+#[test]
+fn a_keeper_of_the_greatest_limits(rt: HostRuntime) -> Result<(), Fail> {
+    let alloc = rt.alloc();
+    let (limit, places) = greatest_limits();
+    let mut keeper: Keeper<Plain> = Keeper::new(alloc, table(alloc)?, limit, places)?;
+    let row = row(alloc, keeper.schema(), "2", "20")?;
+    keeper.put(row)?;
+    let snapshot = keeper.snapshot()?;
+    rows_are_of_the_table(&keeper, &snapshot);
+    let entries = keeper.draft().rows().entries(alloc)?;
+    assert!(rt; entries.len() == 1);
+    assert!(rt; snapshot.root().rows().is_empty());
+    Ok(())
+}
+
+/// The number of a snapshot's rows, as another thread counts them, which it is moved into.
+fn counted_elsewhere(rt: &impl Threads, snapshot: Snapshot<Fnv>) -> Result<u64, AllocError> {
+    let child = thread::spawn(rt, move || snapshot.root().len())?;
+    Ok(child.join(rt))
+}
+
+fn shared_by_threads<T: Send + Sync>(value: &T) -> &T {
+    value
+}
+
+#[test]
+fn a_snapshot_is_moved_into_a_thread_and_lent(rt: HostRuntime) -> Result<(), Fail> {
+    let alloc = rt.alloc();
+    let table = table(alloc)?;
+    let first = row(alloc, &table, "1", "10")?;
+    let second = row(alloc, &table, "2", "20")?;
+    let snapshot = first_of_two_editions::<Fnv>(alloc, table, first, second)?;
+    assert!(rt; shared_by_threads(&snapshot).edition() == 1);
+    assert!(rt; counted_elsewhere(&rt, snapshot)? == 1);
     Ok(())
 }

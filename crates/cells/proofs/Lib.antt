@@ -1,6 +1,7 @@
 pub mod BeginsLemmas
 pub mod ChoicesLemmas
 pub mod ColumnsLemmas
+pub mod FittingLemmas
 pub mod HashesLemmas
 pub mod IntegersLemmas
 pub mod MarksLemmas
@@ -10,7 +11,6 @@ pub mod QuotesLemmas
 pub mod ReadingLemmas
 pub mod RecordsLemmas
 pub mod RunsLemmas
-pub mod TablesLemmas
 pub mod TokensLemmas
 pub mod UpdatesLemmas
 pub mod WordsLemmas

@@ -1,4 +1,4 @@
--- One update more.
+-- The rows that updates leave are those of the last puts.
 use Rattle.std.proofs.Common.{◌≡◌, Bool, true, false, not, cond, List, [], ◌∷◌, ◌++◌, ◌||◌, filter, refl, ap, sym, subst, ◌∙◌, inl, inr, arith}
 use Rattle.std.specs.Prelude.{◌↔◌, Contains}
 use Rattle.std.proofs.lemmas.List.Folds.{list_any-append}
@@ -8,35 +8,6 @@ use Rattle.cells.specs.CellOrder.{cell_eq, cell_eq-equiv}
 use Rattle.cells.specs.Updates.{Update, Put, Delete, key_of, rows, touches, without, IsLastPut}
 use Rattle.cells.specs.Values.{Entry}
 use Rattle.cells.specs.declared.cell.Cell.{Cell}
-
--- a row stays where no later update has its key, which is seen among the old ones or is the new one's
-kept : (seen same : Bool) (p : Entry → Bool) (r : Entry) (rest new : List Entry) → p r ≡ not same →
-    cond (seen || same) (filter p rest ++ new) (r ∷ (filter p rest ++ new)) ≡ filter p (cond seen rest (r ∷ rest)) ++ new
-kept true same p r rest new e = refl
-kept false true p r rest new e = rw e refl
-kept false false p r rest new e = rw e refl
-
-or_false : (b : Bool) → b || false ≡ b
-or_false true = refl
-or_false false = refl
-
--- after one more update the old rows of other keys stand, and then the new row
-rows_more : (us : List Update) (u : Update) → rows (us ++ u ∷ []) ≡ without (key_of u) (rows us) ++ rows (u ∷ [])
-rows_more [] u = refl
-rows_more (Put r ∷ us) u =
-    let new_key : not (cell_eq r.key (key_of u)) ≡ not (cell_eq (key_of u) r.key || false) =
-    ap not (cell_eq-equiv.symm r.key (key_of u) ∙ sym (or_false (cell_eq (key_of u) r.key))) in
-    rw (list_any-append (λ v. cell_eq (key_of v) r.key) us (u ∷ []), rows_more us u)
-    (kept (touches r.key us) (cell_eq (key_of u) r.key || false) _ r (rows us) (rows (u ∷ [])) new_key)
-rows_more (Delete key ∷ us) u = rows_more us u
-
--- a put takes out the row of its key and stands last
-pub rows_put : (us : List Update) (row : Entry) → rows (us ++ Put row ∷ []) ≡ without row.key (rows us) ++ row ∷ []
-rows_put us row = rows_more us (Put row)
-
--- a delete takes out the row of its key
-pub rows_delete : (us : List Update) (key : Cell) → rows (us ++ Delete key ∷ []) ≡ without key (rows us)
-rows_delete us key = rows_more us (Delete key) ∙ append-nil (without key (rows us))
 
 -- one update more at the front changes nothing behind it
 under : (u : Update) (us : List Update) (row : Entry) → IsLastPut us row → IsLastPut (u ∷ us) row

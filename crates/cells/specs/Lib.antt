@@ -1,7 +1,9 @@
 pub mod CellOrder
 pub mod Codes
+pub mod Fitting
 pub mod Hashes
 pub mod Integers
+pub mod Laws
 pub mod Limits
 pub mod Reading
 pub mod Records

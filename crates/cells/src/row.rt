@@ -1,5 +1,6 @@
 //! The rows of a table, and how they are read.
-ghost use Rattle.std.specs.Prelude.{◌≡◌, map};
+ghost use Rattle.std.specs.Prelude.{◌≡◌, IfOk, map};
+ghost use Rattle.cells.specs.Fitting.{IsRowOf};
 ghost use Rattle.cells.specs.Refusals.{Answers, AnswersBy};
 ghost use Rattle.cells.specs.Records.{cell_of, cells_of, row_of, text_cell};
 
@@ -40,7 +41,8 @@ impl Row {
     /// columns, a field that is not UTF-8, an integer out of form or out of range, a text that is too
     /// long, a NULL key. [`Refused::OutOfMemory`] where a growth was refused.
     pub fn read(alloc: Global, fields: &[&[u8]], schema: &Schema) -> Result<Row, Refused>
-        ensures { Answers Refused.BadRecord (row_of schema.now (map (λ f. f.now) fields.now)) result }
+        ensures exact { Answers Refused.BadRecord (row_of schema.now (map (λ f. f.now) fields.now)) result }
+        ensures fits { IfOk result (IsRowOf schema.now) }
     {
         let cells = read_cells(alloc, schema.columns(), fields)?;
         let key = schema.key();

@@ -1,6 +1,7 @@
 //! The CSV records of a text, and the row of a `put` line.
 ghost use Rattle.std.specs.Prelude.{◌≡◌, ◌∷◌, [], IfOk, OnErr, map, option_map};
 ghost use Rattle.std.specs.Bool.{MatchBool};
+ghost use Rattle.cells.specs.Fitting.{IsRowOf};
 ghost use Rattle.cells.specs.Refusals.{Answers};
 ghost use Rattle.csv.specs.Records.{fields_of};
 ghost use Rattle.loader.specs.Records.{records_of, row_of_text, sole};
@@ -76,7 +77,8 @@ impl<'a> Records<'a> {
 /// [`Refused::BadRecord`] exactly where the text has not exactly one record, or its fields spell no
 /// row. [`Refused::OutOfMemory`] where a growth was refused.
 pub fn read_record(alloc: Global, text: &[u8], schema: &Schema) -> Result<Row, Refused>
-    ensures { Answers Refused.BadRecord (row_of_text schema.now text.now) result }
+    ensures exact { Answers Refused.BadRecord (row_of_text schema.now text.now) result }
+    ensures fits { IfOk result (IsRowOf schema.now) }
 {
     let Some(row) = sole_record(alloc, text)? else {
         return Err(Refused::BadRecord);

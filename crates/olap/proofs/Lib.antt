@@ -4,4 +4,5 @@ pub mod CommandLineLemmas
 pub mod DepthLemmas
 pub mod LinesLemmas
 pub mod ProgressLemmas
+pub mod StatementsLemmas
 pub mod StepsLemmas

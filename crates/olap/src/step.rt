@@ -1,6 +1,7 @@
 //! The step of one line: what it says is done, and its block is made.
 ghost use Rattle.std.specs.Prelude.{◌≡◌, ◌+◌, ◌<◌, ◌^◌, [], IfErr, IfOk, None, OnOk, Some, string_bytes};
 ghost use Rattle.std.specs.FinMap.{remove};
+ghost use Rattle.cells.specs.Fitting.{IsRowOf};
 ghost use Rattle.board.specs.Editions.{ChangesDraft, Publishes};
 ghost use Rattle.board.specs.Editions as editions;
 ghost use Rattle.olap.specs.Givens.{givens};
@@ -10,7 +11,7 @@ use crate::block::{refusal_text, report_text, shape_block};
 use crate::ended::Ended;
 use crate::fault::Fault;
 use crate::statement::{Statement, read_first, read_statement};
-use board::Keeper;
+use board::{Keeper, rows_have_the_shape_of_their_keys};
 use cells::{Cell, KeyHash, Row};
 use report::Gate;
 use std::alloc::Global;
@@ -76,7 +77,7 @@ fn execute_first<H: KeyHash<Cell>, G: Gate>(
 }
 
 /// The same once there is a table.
-#[tactic(auto, using(crate::proofs::StepsLemmas::executes_nothing, crate::proofs::StepsLemmas::executes_refused, crate::proofs::StepsLemmas::executes_report, crate::proofs::StepsLemmas::executes_put, crate::proofs::StepsLemmas::executes_overflow, crate::proofs::StepsLemmas::executes_publish, crate::proofs::StepsLemmas::executes_delete, crate::proofs::StepsLemmas::executes_shape))]
+#[tactic(auto, using(crate::proofs::StepsLemmas::executes_nothing, crate::proofs::StepsLemmas::executes_refused, crate::proofs::StepsLemmas::executes_report, crate::proofs::StepsLemmas::executes_put, crate::proofs::StepsLemmas::executes_overflow, crate::proofs::StepsLemmas::executes_publish, crate::proofs::StepsLemmas::executes_delete))]
 fn execute_kept<H: KeyHash<Cell>, G: Gate>(
     setup: &Setup<'_, G>,
     keeper: &mut Keeper<H>,
@@ -93,7 +94,11 @@ fn execute_kept<H: KeyHash<Cell>, G: Gate>(
         Ok(Statement::Delete(key)) => delete(alloc, keeper, &key),
         Ok(Statement::Publish) => publish(alloc, setup.gate, keeper),
         Ok(Statement::Report) => report_text(alloc, keeper, line.number),
-        Ok(Statement::Shape) => shape_block(alloc, keeper, line.number),
+        Ok(Statement::Shape) => {
+            // The law by which the block is that of the published rows; it does nothing.
+            rows_have_the_shape_of_their_keys::<H>();
+            shape_block(alloc, keeper, line.number)
+        }
         Err(fault) => refusal_text(alloc, line.number, fault),
     }
 }
@@ -105,6 +110,7 @@ fn put<H: KeyHash<Cell>>(
     row: Row,
     number: u64,
 ) -> Result<String, Ended>
+    requires row { IsRowOf (editions.schema keeper.old) row }
     ensures step { IfOk result (λ text. PutsRow keeper.old keeper.new row number (string_bytes text)) }
     ensures ended { IfErr result (λ e. e ≡ Ended.OutOfMemory) }
 {

@@ -20,8 +20,8 @@ mod ticks;
 mod trie;
 
 pub use laws::{
-    entries_are_a_map, entries_still_rise, keys_decide_the_shape, values_decide_the_entries,
-    worked_shapes,
+    a_map_has_the_shape_of_its_keys, entries_are_a_map, entries_still_rise, keys_decide_the_shape,
+    values_decide_the_entries, worked_shapes,
 };
 pub use shape::{Prefix, Shape};
 pub use ticks::Ticks;

@@ -1,4 +1,4 @@
-use Rattle.cells.proofs.TablesLemmas.{len_rows, table_rows_delete, table_rows_put}
+use Rattle.cells.specs.Laws.{len_rows, table_rows_delete, table_rows_put}
 use Rattle.cells.proofs.updates.updates_make_a_map.Goals as goal
 
 pub returns-clause-put : goal.returns-clause-put

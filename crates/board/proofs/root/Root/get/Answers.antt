@@ -1,6 +1,8 @@
-use Rattle.std.proofs.Common.{◌∙◌}
-use Rattle.board.proofs.RootsLemmas.{get_held}
+use Rattle.std.proofs.Common.{ap, sym, ◌∙◌}
+use Rattle.std.specs.FinMap.{get}
+use Rattle.board.specs.Editions.{Rows}
 use Rattle.board.proofs.root.Root.get.Goals as goal
 
 pub returns : goal.returns
-returns g c = c.get.ensures ∙ get_held g.H.KeyHash.hash_of g.met.H.KeyHash.respects_eq c.args.self.now c.self.inside.rows c.args.key.now c.self.view_is
+returns g c =
+    c.get.ensures ∙ sym (c.entries_are_a_map.ensures.value c.self.inside.rows c.args.key.now) ∙ ap (λ (r : Rows). get r c.args.key.now) c.self.view_is

@@ -1,6 +1,7 @@
-use Rattle.std.proofs.Common.{◌∙◌}
-use Rattle.board.proofs.RootsLemmas.{len_held}
+use Rattle.std.proofs.Common.{ap, sym, ◌∙◌}
+use Rattle.std.specs.FinMap.{len}
+use Rattle.board.specs.Editions.{Rows}
 use Rattle.board.proofs.root.Root.len.Goals as goal
 
 pub returns : goal.returns
-returns g c = c.len.ensures ∙ len_held g.H.KeyHash.hash_of g.met.H.KeyHash.respects_eq c.args.self.now c.self.inside.rows c.self.view_is c.self.invariant
+returns g c = c.len.ensures ∙ sym (c.entries_are_a_map.ensures.len c.self.inside.rows c.self.invariant) ∙ ap (λ (r : Rows). len r) c.self.view_is
