@@ -1,5 +1,5 @@
 -- What the functions on nodes answer.
-use Rattle.std.specs.Prelude.{◌≡◌, ℕ, ◌+◌, ◌<◌, ◌^◌, List, [], ◌∷◌, length, map, set, Option, Some, None, Vec, if◌then◌else◌, ◌==◌}
+use Rattle.std.specs.Prelude.{◌≡◌, ℕ, ◌+◌, ◌<◌, ◌^◌, List, [], ◌∷◌, length, map, set, Option, Some, None, Result, Ok, Err, Vec, if◌then◌else◌, ◌==◌}
 use Rattle.std.specs.List.{flat_map}
 use Rattle.std.specs.declared.alloc.Global.{Global}
 use Rattle.std.specs.declared.cmp.Ordering.{Ordering}
@@ -68,6 +68,12 @@ first_node (Some node ∷ places) = Some node
 -- that node, where there is one entry
 abbrev pub sole_node : {X : Type 0} → ℕ → List (Option X) → Option X
 sole_node len places = if len == 1 then first_node places else None
+
+-- no key was found, and no node made
+abbrev pub Misses : {K V E : Type 0} → ℕ → ℕ → Result (Removed K V) E → Type 0
+Misses old new (Ok Missing) = new ≡ old
+Misses old new (Ok (Left place)) = ⊥
+Misses old new (Err e) = new ≡ old
 
 module _ {K V : Type 0} (hash : K → ℕ) (cmp : K → K → Ordering) where
   -- these are the places of a branch of the prefix

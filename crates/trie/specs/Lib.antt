@@ -1,3 +1,4 @@
+pub mod Counts
 pub mod Digits
 pub mod Entries
 pub mod Holding

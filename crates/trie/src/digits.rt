@@ -1,12 +1,13 @@
 //! The digits of a hash. No other room knows how many they are, nor how many bits each has.
 ghost use Rattle.std.specs.Prelude.{◌≡◌, ◌+◌, ◌<◌, ◌≤◌, ◌↔◌, IsTrue};
 ghost use Rattle.trie.specs.Digits.{digit, digit_count, place_count};
+ghost use Rattle.trie.specs.Shapes.{digit_text};
 
 /// How many bits a digit has.
 const BITS: u32 = 4;
 
 /// How many digits a hash has: enough for its 64 bits.
-const DIGITS: u32 = 16;
+pub const DIGITS: u32 = 16;
 
 /// How many places a branch has: one for each digit.
 pub const PLACES: usize = 1 << BITS;
@@ -73,4 +74,15 @@ fn digit_at(hash: u64, place: u32) -> usize
     ensures bound { result < place_count }
 {
     (hash >> (BITS * place)) as usize % PLACES
+}
+
+/// A digit as a character: `0` to `9`, then `a` to `v`, which serve for up to 32 places.
+pub fn digit_text(digit: u8) -> char
+    requires { digit < place_count }
+    ensures { result ≡ digit_text digit }
+{
+    let Some(text) = char::from_digit(u32::from(digit), PLACES as u32) else {
+        unreachable!()
+    };
+    text
 }

@@ -8,6 +8,7 @@
 #![tactic(auto)]
 
 mod bucket;
+mod cutting;
 mod digits;
 mod entries;
 mod get;
@@ -19,6 +20,7 @@ mod shape;
 mod ticks;
 mod trie;
 
+pub use cutting::{Cutting, MAX_DEPTH};
 pub use laws::{
     a_map_has_the_shape_of_its_keys, entries_are_a_map, entries_still_rise, keys_decide_the_shape,
     values_decide_the_entries, worked_shapes,

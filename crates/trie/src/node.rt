@@ -1,7 +1,8 @@
 //! Nodes: what stands below a prefix of digits.
-ghost use Rattle.std.specs.Prelude.{◌≡◌, ◌+◌, ◌<◌, ◌≤◌, ◌^◌, None, Some, IfOk, length, replicate};
+ghost use Rattle.std.specs.Prelude.{◌≡◌, ◌+◌, ◌<◌, ◌≤◌, ◌^◌, None, Some, IfOk, OnErr, OnOk, length, replicate};
 ghost use Rattle.std.specs.Prelude.{slice_index_or, sum_by};
 ghost use Rattle.std.specs.List.{flat_map};
+ghost use Rattle.trie.specs.Counts.{next_count};
 ghost use Rattle.trie.specs.Digits.{digit, first_digits, place_count};
 ghost use Rattle.trie.specs.Holding.{ArePlaces, held_in, held_with, Holds, IsPlaced, len_in};
 ghost use Rattle.trie.specs.Holding.{prefix_of, sole_node};
@@ -51,6 +52,8 @@ pub fn make<K: Drop, V: Drop>(
     ticks: &mut Ticks,
 ) -> Result<Arc<Node<K, V>>, AllocError>
     ensures made { IfOk result (λ made. made.value ≡ node) }
+    ensures one { OnOk result (ticks.new ≡ next_count ticks.old) }
+    ensures none { OnErr result (ticks.new ≡ ticks.old) }
     ensures counted { ticks.new ≤ ticks.old + 1 }
     ensures grows { ticks.old ≤ ticks.new }
 {

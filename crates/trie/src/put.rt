@@ -1,5 +1,6 @@
 //! Laying a pair over a map.
-ghost use Rattle.std.specs.Prelude.{◌≡◌, ◌+◌, ◌<◌, ◌≤◌, ◌^◌, IfOk, length};
+ghost use Rattle.std.specs.Prelude.{◌≡◌, ◌+◌, ◌<◌, ◌≤◌, ◌^◌, IfOk, OnOk, length};
+ghost use Rattle.trie.specs.Counts.{next_count};
 ghost use Rattle.trie.specs.Digits.{digit_count};
 ghost use Rattle.trie.specs.Holding.{HasPair, held_in, IsPlaced, IsReached};
 
@@ -32,8 +33,9 @@ pub fn put_at<K: Ord + Drop, V: Drop, H: KeyHash<K>>(
     requires room { length (held_in place.now) + 1 < 2 ^ 64 }
     ensures map { IfOk result (λ n. HasPair H.hash_of K.cmp at pair.now.value place.now n.value) }
 
-    // A node for each digit that is left, and one more.
+    // A node for each digit that is left, and one more; one at least.
     ensures counted { ticks.new + at.depth ≤ ticks.old + (digit_count + 1) }
+    ensures some { OnOk result (next_count ticks.old ≤ ticks.new) }
     ensures grows { ticks.old ≤ ticks.new }
 {
     match how_far::<K, V, H>(alloc, place, pair, at)? {

@@ -1,7 +1,8 @@
 //! Taking a key out of a map.
-ghost use Rattle.std.specs.Prelude.{◌≡◌, ◌+◌, ◌<◌, ◌≤◌, ◌^◌, IfOk, Some, length};
-ghost use Rattle.trie.specs.Digits.{digit_count};
-ghost use Rattle.trie.specs.Holding.{held_in, IsPlaced, IsRemoved, pairs_of, prefix_of};
+ghost use Rattle.std.specs.Prelude.{◌≡◌, ◌+◌, ◌<◌, ◌≤◌, ◌^◌, IfOk, None, Some, length};
+ghost use Rattle.trie.specs.Digits.{digit_count, digit_order};
+ghost use Rattle.trie.specs.Entries.{value_at};
+ghost use Rattle.trie.specs.Holding.{held_in, IsPlaced, IsRemoved, Misses, pairs_of, prefix_of};
 ghost use Rattle.trie.specs.Tree.{IsPlace};
 ghost use Rattle.trie.specs.declared.node.Node.TheVariants.{Bucket};
 
@@ -32,6 +33,8 @@ pub fn remove_at<K: Ord + Drop, V: Drop, H: KeyHash<K>>(
     requires placed { IsPlaced H.hash_of K.cmp at place.now }
     requires fits { length (held_in place.now) < 2 ^ 64 }
     ensures map { IfOk result (IsRemoved H.hash_of K.cmp at key.now (held_in place.now)) }
+    ensures missed { value_at (digit_order H.hash_of K.cmp) (held_in place.now) key.now ≡ None
+        → Misses ticks.old ticks.new result }
 
     // A node for each digit that is left, and one more.
     ensures counted { ticks.new + at.depth ≤ ticks.old + (digit_count + 1) }
@@ -72,6 +75,8 @@ fn remove_from_bucket<K: Ord + Drop, V: Drop, H: KeyHash<K>>(
     requires hashed { at.hash ≡ H.hash_of key.now }
     requires placed { IsPlace H.hash_of K.cmp (Some (Bucket pairs.now)) (prefix_of at) }
     ensures map { IfOk result (IsRemoved H.hash_of K.cmp at key.now (pairs_of pairs.now.items)) }
+    ensures missed { value_at (digit_order H.hash_of K.cmp) (pairs_of pairs.now.items) key.now ≡ None
+        → Misses ticks.old ticks.new result }
     ensures counted { ticks.new ≤ ticks.old + 1 }
     ensures grows { ticks.old ≤ ticks.new }
 {

@@ -9,7 +9,7 @@ ghost use Rattle.trie.specs.Holding.{ArePlaces, held_in};
 ghost use Rattle.trie.specs.Shapes.{prefix_text, shape_below, shape_of};
 ghost use Rattle.trie.specs.Tree.{entries_in, IsPlace, node_of, nodes};
 
-use crate::digits::PLACES;
+use crate::digits::{PLACES, digit_text};
 use crate::node::{Node, Place};
 use cells::KeyHash;
 use std::alloc::{AllocError, Global};
@@ -32,6 +32,10 @@ impl Model for Prefix {
     ghost Value = { List ℕ };
 
     ghost view = { λ p. p.digits.items };
+
+    ghost use Rattle.trie.specs.Shapes.{AreDigits};
+
+    ghost invariant = { λ p. AreDigits p.digits.items };
 }
 
 impl Prefix {
@@ -62,6 +66,7 @@ impl Prefix {
 
     /// The prefix with one more digit.
     fn longer(&self, alloc: Global, digit: u8) -> Result<Prefix, AllocError>
+        requires { digit < place_count }
         ensures { IfOk result (λ p. p ≡ self.now ++ digit ∷ []) }
     {
         let mut longer = self.copied(alloc)?;
@@ -84,7 +89,7 @@ impl Eq for Prefix {
     ghost laws = { nat_list_eq_equiv };
 }
 
-/// The digits in hexadecimal, or `-` where there is none.
+/// Each digit as one character, `0` to `9` and then `a` to `v`, or `-` where there is none.
 impl fmt::Display for Prefix {
     ghost output = { λ p. Some (prefix_text p) };
 
@@ -93,7 +98,7 @@ impl fmt::Display for Prefix {
             return f.write_str("-");
         }
         for digit in &self.digits {
-            write!(f, "{digit:x}")?;
+            f.write_char(digit_text(*digit))?;
         }
         Ok(())
     }

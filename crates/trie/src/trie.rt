@@ -1,7 +1,8 @@
 //! The trie.
-ghost use Rattle.std.specs.Prelude.{◌≡◌, ◌+◌, ◌<◌, ◌≤◌, ◌^◌, ◌↔◌, [], IfOk, IsTrue, length};
+ghost use Rattle.std.specs.Prelude.{◌≡◌, ◌+◌, ◌<◌, ◌≤◌, ◌^◌, ◌↔◌, [], IfOk, IsTrue, None, OnOk, length};
 ghost use Rattle.std.specs.Map.{keys_of};
 ghost use Rattle.std.specs.Option.{option_copied};
+ghost use Rattle.trie.specs.Counts.{next_count};
 ghost use Rattle.trie.specs.Digits.{digit_count, digit_order};
 ghost use Rattle.trie.specs.Entries.{value_at, with_pair, without_key};
 ghost use Rattle.trie.specs.Holding.{lent};
@@ -119,6 +120,7 @@ impl<K: Ord + Drop, V: Drop, H: KeyHash<K>> Trie<K, V, H> {
     ) -> Result<Self, AllocError>
         requires { length self.now + 1 < 2 ^ 64 }
         ensures map { IfOk result (λ t. t ≡ with_pair (digit_order H.hash_of K.cmp) key value self.now) }
+        ensures some { OnOk result (next_count ticks.old ≤ ticks.new) }
         ensures counted { ticks.new ≤ ticks.old + (digit_count + 1) }
         ensures grows { ticks.old ≤ ticks.new }
     {
@@ -135,6 +137,7 @@ impl<K: Ord + Drop, V: Drop, H: KeyHash<K>> Trie<K, V, H> {
     /// map stays as it is, whatever the answer.
     pub fn remove(&self, alloc: Global, key: &K, ticks: &mut Ticks) -> Result<Self, AllocError>
         ensures map { IfOk result (λ t. t ≡ without_key (digit_order H.hash_of K.cmp) key.now self.now) }
+        ensures missed { value_at (digit_order H.hash_of K.cmp) self.now key.now ≡ None → ticks.new ≡ ticks.old }
         ensures counted { ticks.new ≤ ticks.old + (digit_count + 1) }
         ensures grows { ticks.old ≤ ticks.new }
     {

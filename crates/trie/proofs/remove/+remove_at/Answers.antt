@@ -1,7 +1,10 @@
-use Rattle.std.proofs.Common.{◌<◌, ◌^◌, [], ◌∷◌, length, ap, arith, rules}
+use Rattle.std.proofs.Common.{◌≡◌, ◌<◌, ◌^◌, true, [], ◌∷◌, length, ap, ◌∙◌, arith, rules}
+use Rattle.std.proofs.lemmas.Result.{err_from_is_err_and}
+use Rattle.std.specs.Ordering.{is_eq}
 use Rattle.trie.specs.Tree.{entries_in, node_of}
-use Rattle.trie.proofs.OrderLemmas.{same_hash, without_key-order}
-use Rattle.trie.proofs.PlacesLemmas.{without_key-below, without_key-bounds, without_key-missing}
+use Rattle.trie.proofs.OrderLemmas.{same_hash, value_at-order, without_key-order}
+use Rattle.trie.proofs.PlacesLemmas.{value_at-below, without_key-below, without_key-bounds, without_key-missing}
+use Rattle.trie.proofs.RemoveLemmas.{value_alone}
 use Rattle.trie.proofs.VariantsLemmas.{branch_in, leaf_in, place_is}
 use Rattle.trie.proofs.remove.+remove_at.Goals as goal
 
@@ -77,3 +80,68 @@ returns-in_ok-node-in-Branch-clause-map g t c =
     without_key-below g.H.KeyHash.hash_of g.K.Ord.cmp _ _ c.args.at.within _ branch.places_are c.args.key.now
     c.requires.hashed _ c.step.ensures.place _ rest.entries_are in
     rw (branch.entries_are, ← whole) (rw c.in_ok-places-in-Branch.ensures at c.in_ok-node-in-Branch.ensures.held)
+
+pub returns-in_err-rest-in-Branch-clause-missed : goal.returns-in_err-rest-in-Branch-clause-missed
+returns-in_err-rest-in-Branch-clause-missed g t c = λ none.
+    let branch =
+    branch_in g.H.KeyHash.hash_of g.K.Ord.cmp _ _ _ _
+    (place_is _ _ _ _ c.in-Some.is c.deref.ensures c.in-Branch.is) c.requires.placed in
+    let below =
+    value_at-below g.H.KeyHash.hash_of g.K.Ord.cmp _ _ c.args.at.within _ branch.places_are c.args.key.now
+    c.requires.hashed _ c.step.ensures.place in
+    let missed = c.in_err-rest-in-Branch.ensures.missed (below ∙ rw branch.entries_are at none) in
+    let err = err_from_is_err_and c.from_residual.result c.from_residual.ensures.1 in
+    rw err.1 missed
+
+pub returns-in_default-2-clause-missed : goal.returns-in_default-2-clause-missed
+returns-in_default-2-clause-missed g t c = λ none.
+    let branch =
+    branch_in g.H.KeyHash.hash_of g.K.Ord.cmp _ _ _ _
+    (place_is _ _ _ _ c.in-Some.is c.deref.ensures c.in-Branch.is) c.requires.placed in
+    let below =
+    value_at-below g.H.KeyHash.hash_of g.K.Ord.cmp _ _ c.args.at.within _ branch.places_are c.args.key.now
+    c.requires.hashed _ c.step.ensures.place in
+    (rw c.in_default-2.is at c.in_ok-rest-in-Branch.ensures.missed) (below ∙ rw branch.entries_are at none)
+
+pub returns-in_err-places-in-Branch-clause-missed :
+    goal.returns-in_err-places-in-Branch-clause-missed
+returns-in_err-places-in-Branch-clause-missed g t c = λ none.
+    let branch =
+    branch_in g.H.KeyHash.hash_of g.K.Ord.cmp _ _ _ _
+    (place_is _ _ _ _ c.in-Some.is c.deref.ensures c.in-Branch.is) c.requires.placed in
+    let below =
+    value_at-below g.H.KeyHash.hash_of g.K.Ord.cmp _ _ c.args.at.within _ branch.places_are c.args.key.now
+    c.requires.hashed _ c.step.ensures.place in
+    absurd ((rw c.in-Left.is at c.in_ok-rest-in-Branch.ensures.missed) (below ∙ rw branch.entries_are at none))
+
+pub returns-in_err-node-in-Branch-clause-missed : goal.returns-in_err-node-in-Branch-clause-missed
+returns-in_err-node-in-Branch-clause-missed g t c = λ none.
+    let branch =
+    branch_in g.H.KeyHash.hash_of g.K.Ord.cmp _ _ _ _
+    (place_is _ _ _ _ c.in-Some.is c.deref.ensures c.in-Branch.is) c.requires.placed in
+    let below =
+    value_at-below g.H.KeyHash.hash_of g.K.Ord.cmp _ _ c.args.at.within _ branch.places_are c.args.key.now
+    c.requires.hashed _ c.step.ensures.place in
+    absurd ((rw c.in-Left.is at c.in_ok-rest-in-Branch.ensures.missed) (below ∙ rw branch.entries_are at none))
+
+pub returns-in_ok-node-in-Branch-clause-missed : goal.returns-in_ok-node-in-Branch-clause-missed
+returns-in_ok-node-in-Branch-clause-missed g t c = λ none.
+    let branch =
+    branch_in g.H.KeyHash.hash_of g.K.Ord.cmp _ _ _ _
+    (place_is _ _ _ _ c.in-Some.is c.deref.ensures c.in-Branch.is) c.requires.placed in
+    let below =
+    value_at-below g.H.KeyHash.hash_of g.K.Ord.cmp _ _ c.args.at.within _ branch.places_are c.args.key.now
+    c.requires.hashed _ c.step.ensures.place in
+    absurd ((rw c.in-Left.is at c.in_ok-rest-in-Branch.ensures.missed) (below ∙ rw branch.entries_are at none))
+
+pub returns-then-is_eq-clause-missed : goal.returns-then-is_eq-clause-missed
+returns-then-is_eq-clause-missed g t c = λ none.
+    let leaf =
+    leaf_in g.H.KeyHash.hash_of g.K.Ord.cmp _ _ _ (place_is _ _ _ _ c.in-Some.is c.deref.ensures c.in-Leaf.is)
+    c.requires.placed in
+    let same =
+    same_hash g.H.KeyHash.hash_of g.K.Ord.cmp g.K.PartialEq.eq g.met.K.Ord.matches_eq
+    g.met.H.KeyHash.respects_eq in
+    let here = rw (leaf.entries_are, value_at-order g.H.KeyHash.hash_of g.K.Ord.cmp same c.args.key.now (c.in-Leaf.pair.value ∷ [])) at none in
+    let found : is_eq (g.K.Ord.cmp c.args.key.now c.in-Leaf.pair.value.0) ≡ true = cc in
+    value_alone (λ k. is_eq (g.K.Ord.cmp c.args.key.now k)) c.in-Leaf.pair.value found here
