@@ -4,6 +4,7 @@ pub mod Endings
 pub mod Hows
 pub mod Jobs
 pub mod Keys
+pub mod Limits
 pub mod Output
 pub mod Queries
 pub mod Reads
