@@ -3,7 +3,9 @@ pub mod CommandsLemmas
 pub mod CommandLineLemmas
 pub mod DepthLemmas
 pub mod FieldsLemmas
+pub mod FoldersLemmas
 pub mod LinesLemmas
+pub mod ProgramLemmas
 pub mod ProgressLemmas
 pub mod ReaderLemmas
 pub mod RecordsLemmas

@@ -1,11 +1,13 @@
 pub mod CommandLine
 pub mod Deeds
 pub mod Endings
+pub mod Folders
 pub mod Hows
 pub mod Jobs
 pub mod Keys
 pub mod Limits
 pub mod Output
+pub mod Programs
 pub mod Queries
 pub mod Reads
 pub mod Records
