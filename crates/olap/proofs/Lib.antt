@@ -2,7 +2,9 @@ pub mod BlocksLemmas
 pub mod CommandsLemmas
 pub mod CommandLineLemmas
 pub mod DepthLemmas
+pub mod FoldersLemmas
 pub mod LinesLemmas
+pub mod ProgramLemmas
 pub mod ProgressLemmas
 pub mod StatementsLemmas
 pub mod StepsLemmas

@@ -10,7 +10,7 @@ use Rattle.std.specs.Prelude.{◌==◌}
 use Rattle.std.specs.Str.Lines.{lines, lines_of_parts}
 use Rattle.board.specs.Editions.{Editions}
 use Rattle.cells.specs.declared.refused.Refused.TheVariants.{Limit}
-use Rattle.olap.specs.Endings.{Writes}
+use Rattle.olap.specs.Endings.{Delivers}
 use Rattle.olap.specs.Givens.{Givens}
 use Rattle.olap.specs.declared.ended.Ended.TheVariants.{WriteFailed}
 use Rattle.olap.specs.Limits.{part_limit, script_limit}
@@ -73,9 +73,9 @@ module _ (old new : Option (List ℕ)) (hash : Cell → ℕ) (givens : Givens) (
   reached_end is = takes_whole old new (blocks hash givens [] script) (subst (λ ls. TakesUpTo old new (blocks hash givens [] script) (blocks hash givens before ls)) is reached.taken)
 
 -- the writer failed behind a beginning of the whole
-pub writes_failed : {W : Type 0} (taken : W → Option (List ℕ)) (faults : W → ℕ) (old new : W) (whole : List ℕ)
-    → TakesBeginning (taken old) (taken new) whole → faults old < faults new → Writes {T = Unit {0}} taken faults old new whole (Err WriteFailed)
-writes_failed taken faults old new whole beginning failed = record { output = tt; beginning = beginning; fault = λ e. failed; sound = tt }
+pub delivers_late : {W : Type 0} (taken : W → Option (List ℕ)) (faults : W → ℕ) (old new : W) (whole : List ℕ)
+    → TakesBeginning (taken old) (taken new) whole → faults old < faults new → Delivers {T = Unit {0}} taken faults old new whole (Err WriteFailed)
+delivers_late taken faults old new whole beginning failed = record { output = tt; beginning = beginning; fault = λ e. failed; sound = tt }
 
 -- ---- numbers stay small
 

@@ -2,12 +2,14 @@ pub mod CommandLine
 pub mod Deeds
 pub mod Endings
 pub mod Faults
+pub mod Folders
 pub mod Givens
 pub mod Hows
 pub mod Jobs
 pub mod Keys
 pub mod Limits
 pub mod Output
+pub mod Programs
 pub mod Queries
 pub mod Stands
 pub mod Statements

@@ -1,7 +1,7 @@
 //! Runs a script: one keeper, line after line, and a block of output for each line that has one.
 ghost use Rattle.std.specs.Prelude.{◌+◌, ◌<◌, ◌≤◌, ◌^◌, [], length};
 ghost use Rattle.std.specs.Str.Lines.{lines};
-ghost use Rattle.olap.specs.Endings.{Writes};
+ghost use Rattle.olap.specs.Endings.{Delivers};
 ghost use Rattle.olap.specs.Givens.{givens};
 ghost use Rattle.olap.specs.Hows.{hash_of_choice};
 ghost use Rattle.olap.specs.Limits.{script_limit};
@@ -38,7 +38,7 @@ pub fn run<H: KeyHash<Cell>, O: Out, G: Gate>(
     out: &mut O,
 ) -> Result<(), Ended>
     requires { O.faults out.old + 1 < 2 ^ 64 }
-    ensures { Writes O.taken O.faults out.old out.new (output H.hash_of (givens how.now.rows parts.now) script.now) result }
+    ensures { Delivers O.taken O.faults out.old out.new (output H.hash_of (givens how.now.rows parts.now) script.now) result }
 {
     if script.len() > MAX_SCRIPT_BYTES || parts.len() > MAX_PARTS {
         return write_refusal(alloc, out);
@@ -64,7 +64,7 @@ pub fn run_by<O: Out, G: Gate>(
     out: &mut O,
 ) -> Result<(), Ended>
     requires { O.faults out.old + 1 < 2 ^ 64 }
-    ensures { Writes O.taken O.faults out.old out.new (output (hash_of_choice hash) (givens how.now.rows parts.now) script.now) result }
+    ensures { Delivers O.taken O.faults out.old out.new (output (hash_of_choice hash) (givens how.now.rows parts.now) script.now) result }
 {
     match hash {
         HashChoice::Fnv => run::<Fnv, O, G>(alloc, script, parts, how, gate, out),
@@ -82,7 +82,7 @@ fn run_lines<H: KeyHash<Cell>, O: Out, G: Gate>(
     requires faults { O.faults out.old + 1 < 2 ^ 64 }
     requires short { length script.now ≤ script_limit }
     requires limit { MayRun setup.now.limit }
-    ensures { Writes O.taken O.faults out.old out.new (blocks H.hash_of (givens setup.now.limit setup.now.parts.now) [] (lines script.now)) result }
+    ensures { Delivers O.taken O.faults out.old out.new (blocks H.hash_of (givens setup.now.limit setup.now.parts.now) [] (lines script.now)) result }
 {
     let mut desk: Option<Keeper<H>> = None;
     run_at(setup, script, &mut desk, out)
@@ -99,7 +99,7 @@ fn run_at<H: KeyHash<Cell>, O: Out, G: Gate>(
     requires short { length script.now ≤ script_limit }
     requires limit { MayRun setup.now.limit }
     requires fresh { IsFresh desk.old }
-    ensures { Writes O.taken O.faults out.old out.new (blocks H.hash_of (givens setup.now.limit setup.now.parts.now) [] (lines script.now)) result }
+    ensures { Delivers O.taken O.faults out.old out.new (blocks H.hash_of (givens setup.now.limit setup.now.parts.now) [] (lines script.now)) result }
 {
     let mut number = 0u64;
     for bytes in lines_of(script) {
@@ -112,11 +112,11 @@ fn run_at<H: KeyHash<Cell>, O: Out, G: Gate>(
     Ok(())
 }
 
-/// Writes the whole output of a script that is too long, or of too many parts.
+/// Delivers the whole output of a script that is too long, or of too many parts.
 #[tactic(auto, using(report::specs::Laws::takes_nothing))]
 fn write_refusal<O: Out>(alloc: Global, out: &mut O) -> Result<(), Ended>
     requires { O.faults out.old + 1 < 2 ^ 64 }
-    ensures { Writes O.taken O.faults out.old out.new (refusal 0 (AtLine Refused.Limit)) result }
+    ensures { Delivers O.taken O.faults out.old out.new (refusal 0 (AtLine Refused.Limit)) result }
 {
     let text = refusal_text(alloc, 0, Fault::Line(Refused::Limit))?;
     let Ok(()) = write_whole(out, text.as_bytes()) else {

@@ -1,7 +1,7 @@
 use Rattle.std.proofs.Common.{◌≡◌, ◌∙◌, arith, refl}
 use Rattle.std.specs.Str.Lines.{lines}
 use Rattle.olap.specs.Givens.{givens}
-use Rattle.olap.proofs.ProgressLemmas.{last_first, last_first-more, length-lines, publishable, reached_beginning, reached_more, reached_start, writes_failed}
+use Rattle.olap.proofs.ProgressLemmas.{last_first, last_first-more, length-lines, publishable, reached_beginning, reached_more, reached_start, delivers_late}
 use Rattle.olap.proofs.run.run_at.Goals as goal
 
 pub loop-bytes-init : goal.loop-bytes-init
@@ -22,7 +22,7 @@ returns-in_default g c =
     reached_beginning _ _ g.H.KeyHash.hash_of (givens c.args.setup.now.limit c.args.setup.now.parts.now) (last_first c.loop-bytes.yielded) c.loop-bytes.bytes-iterator (lines c.args.script.now) c.loop-bytes.desk c.loop-bytes.number
     c.loop-bytes.invariant.reached c.in-Some.bytes.now c.next.new.self c.execute.new.desk _ c.in-Some.ensures.steps c.in_ok-block.ensures.step _
     (rw c.as_bytes.ensures.value at c.in_default.ensures.beginning) in
-    writes_failed g.O.Out.taken g.O.Out.faults _ _ _ late (omega (arith, c.in_default.ensures.fault, c.loop-bytes.invariant.sound))
+    delivers_late g.O.Out.taken g.O.Out.faults _ _ _ late (omega (arith, c.in_default.ensures.fault, c.loop-bytes.invariant.sound))
 
 pub loop-bytes-preserved : goal.loop-bytes-preserved
 loop-bytes-preserved g c = record {

@@ -1,0 +1,9 @@
+use Rattle.std.proofs.Common.{rules, map}
+use Rattle.olap.proofs.FoldersLemmas.{told_next}
+use Rattle.olap.proofs.input.read_parts.Goals as goal
+
+pub loop-name-preserved : goal.loop-name-preserved
+loop-name-preserved g c =
+    told_next (g.F.Folder.file c.args.folder.now) c.args.names.now c.loop-name.name-index c.as_str.result.now
+    (map (λ p. p.items) c.loop-name.parts.items) (map (λ p. p.items) c.push.new.self.items) c.in-Ok.part.items
+    c.loop-name.invariant (search rules) (search rules) c.in-Ok.ensures

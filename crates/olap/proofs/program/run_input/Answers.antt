@@ -1,0 +1,14 @@
+use Rattle.std.proofs.Common.{rules}
+use Rattle.std.specs.Io.Buffered.{writer_contents}
+use Rattle.olap.specs.Givens.{givens}
+use Rattle.olap.specs.Hows.{hash_of_choice}
+use Rattle.olap.specs.Output.{output}
+use Rattle.olap.proofs.ProgramLemmas.{takes_closed}
+use Rattle.olap.proofs.program.run_input.Goals as goal
+
+pub returns-clause-beginning : goal.returns-clause-beginning
+returns-clause-beginning g c =
+    takes_closed (writer_contents g.W.Write.contents c.args.out) (writer_contents g.W.Write.contents c.into_inner-out.result)
+    (writer_contents g.W.Write.contents c.close_run-status.new.out)
+    (output (hash_of_choice c.args.hash) (givens c.args.how.now.rows c.args.input.now.parts.items) c.args.input.now.script.items)
+    c.run_by-ended.result c.run_by-ended.ensures.output c.run_by-ended.ensures.beginning (search rules)

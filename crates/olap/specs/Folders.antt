@@ -1,0 +1,13 @@
+-- What files hold, where that is told.
+use Rattle.std.specs.Prelude.{◌≡◌, ℕ, List, [], ◌∷◌, ⊤, Option, IfSome}
+
+-- these are the bytes that are told, or none are told
+abbrev pub Tells : Option (List ℕ) → List ℕ → Type 0
+Tells told bytes = IfSome told (λ held. bytes ≡ held)
+
+-- these are the bytes of the files of these names, in their order, as far as they are told
+abbrev pub AreTold : (List ℕ → Option (List ℕ)) → List (List ℕ) → List (List ℕ) → Type 0
+AreTold file [] [] = ⊤
+AreTold file [] (bytes ∷ more) = ⊥
+AreTold file (name ∷ names) [] = ⊥
+AreTold file (name ∷ names) (bytes ∷ more) = Tells (file name) bytes × AreTold file names more

@@ -1,0 +1,145 @@
+//! The program's whole deed over any files, reader and writers: `main` calls it with those of the system.
+ghost use Rattle.std.specs.Prelude.{◌≡◌, ◌⊎◌, [], map, string_bytes};
+ghost use Rattle.std.specs.Io.Buffered.{writer_buffer, writer_contents};
+ghost use Rattle.std.specs.Io.KnownBytes.{Appends, Keeps};
+ghost use Rattle.olap.specs.Givens.{givens};
+ghost use Rattle.olap.specs.Hows.{hash_of_choice};
+ghost use Rattle.olap.specs.Jobs.{IsHelp};
+ghost use Rattle.olap.specs.Output.{output};
+ghost use Rattle.olap.specs.Programs.{AskForHelp, AskToWrite, BeginsToWrite, IsOutputOf, Writes};
+ghost use Rattle.report.specs.Taken.{TakesBeginning};
+
+use crate::close::{NOTHING_RUN, WRITTEN, close_run};
+use crate::how::How;
+use crate::input::{Folder, Input, read_input};
+use crate::job::{HashChoice, WordsFault};
+use crate::run::run_by;
+use crate::words::job_of;
+use report::{Open, Pour};
+use std::alloc::Global;
+use std::io::{BufWriter, Read, Write};
+
+/// Runs what the words after the program's name ask for, over the files that they name, and gives the
+/// program's status and the writer back. What a run writes goes to `out`, and so does help; why there
+/// is no run, or why it ended early, goes to `err`.
+///
+/// At 0 the output of that run was written whole, or help was asked for; at 2 nothing was run, since
+/// the words are refused or a file can't be read; at 3 the run ended early.
+pub fn run_words<F: Folder, W: Write + Drop, E: Write>(
+    alloc: Global,
+    given: &[String],
+    folder: &F,
+    out: BufWriter<W>,
+    err: &mut E,
+) -> (u8, BufWriter<W>)
+    ensures status { (result.0 ≡ 0) ⊎ ((result.0 ≡ 2) ⊎ (result.0 ≡ 3)) }
+    ensures written { result.0 ≡ 0 → AskForHelp (map string_bytes given.now)
+        ⊎ Writes (AskToWrite (F.file folder.now) (map string_bytes given.now)) (writer_contents W.contents out) (writer_contents W.contents result.1) }
+    ensures flushed { result.0 ≡ 0 → AskForHelp (map string_bytes given.now) ⊎ (writer_buffer result.1 ≡ []) }
+    ensures nothing { result.0 ≡ 2 → Keeps (writer_contents W.contents out) (writer_contents W.contents result.1) }
+    ensures beginning { result.0 ≡ 3
+        → BeginsToWrite (AskToWrite (F.file folder.now) (map string_bytes given.now)) (writer_contents W.contents out) (writer_contents W.contents result.1) }
+{
+    let job = match job_of(alloc, given) {
+        Ok(job) => job,
+        Err(fault) => return refuse(&fault, out, err),
+    };
+    match read_input(alloc, folder, &job) {
+        Ok(input) => run_input(alloc, &job.how, job.hash, &input, out, err),
+        Err(name) => (cannot_read(name, err), out),
+    }
+}
+
+/// Runs the script that standard input holds, with the defaults and no parts, and gives the program's
+/// status and the writer back, as [`run_words`] does.
+pub fn run_standard_input<R: Read + Drop, W: Write + Drop, E: Write>(
+    alloc: Global,
+    mut input: R,
+    out: BufWriter<W>,
+    err: &mut E,
+) -> (u8, BufWriter<W>)
+    ensures status { (result.0 ≡ 0) ⊎ ((result.0 ≡ 2) ⊎ (result.0 ≡ 3)) }
+    ensures written { result.0 ≡ 0 → Writes (IsOutputOf (R.remaining input)) (writer_contents W.contents out) (writer_contents W.contents result.1) }
+    ensures flushed { result.0 ≡ 0 → writer_buffer result.1 ≡ [] }
+    ensures nothing { result.0 ≡ 2 → Keeps (writer_contents W.contents out) (writer_contents W.contents result.1) }
+    ensures beginning { result.0 ≡ 3
+        → BeginsToWrite (IsOutputOf (R.remaining input)) (writer_contents W.contents out) (writer_contents W.contents result.1) }
+{
+    let mut script = Vec::new(alloc);
+    let Ok(_) = input.read_to_end(&mut script) else {
+        return (cannot_read("-", err), out);
+    };
+    let parts = Vec::new(alloc);
+    let input = Input { script, parts };
+    run_input(
+        alloc,
+        &How::default(),
+        HashChoice::default(),
+        &input,
+        out,
+        err,
+    )
+}
+
+/// Runs the script over the parts, flushes what it wrote, and gives the program's status and the
+/// writer back: 0 where the output was written whole and none of it waits in the buffer, and 3 where a
+/// beginning of it was written, and why it ended is on `err`.
+pub fn run_input<W: Write + Drop, E: Write>(
+    alloc: Global,
+    how: &How,
+    hash: HashChoice,
+    input: &Input,
+    out: BufWriter<W>,
+    err: &mut E,
+) -> (u8, BufWriter<W>)
+    ensures status { (result.0 ≡ 0) ⊎ (result.0 ≡ 3) }
+    ensures written { result.0 ≡ 0 → Appends (writer_contents W.contents out) (writer_contents W.contents result.1)
+        (output (hash_of_choice hash) (givens how.now.rows input.now.parts.items) input.now.script.items) }
+    ensures flushed { result.0 ≡ 0 → writer_buffer result.1 ≡ [] }
+    ensures beginning { TakesBeginning (writer_contents W.contents out) (writer_contents W.contents result.1)
+        (output (hash_of_choice hash) (givens how.now.rows input.now.parts.items) input.now.script.items) }
+    ensures quiet { result.0 ≡ 0 → err.new ≡ err.old }
+{
+    let mut pour = Pour::new(out);
+    let ended = run_by(
+        alloc,
+        hash,
+        input.script.as_slice(),
+        input.parts.as_slice(),
+        how,
+        &Open,
+        &mut pour,
+    );
+    let mut out = pour.into_inner();
+    let status = close_run(ended, &mut out, err);
+    (status, out)
+}
+
+/// Says which file can't be read.
+fn cannot_read<E: Write>(name: &str, err: &mut E) -> u8
+    ensures { result ≡ 2 }
+{
+    let _ = writeln!(err, "olap: cannot read {name}");
+    NOTHING_RUN
+}
+
+/// Says why the words are refused. Help, which is no refusal, goes to `out`.
+fn refuse<W: Write + Drop, E: Write>(
+    fault: &WordsFault,
+    mut out: BufWriter<W>,
+    err: &mut E,
+) -> (u8, BufWriter<W>)
+    ensures help { IsHelp fault.now → result.0 ≡ 0 }
+    ensures refused { (IsHelp fault.now → ⊥) → result.0 ≡ 2 }
+    ensures nothing { result.0 ≡ 2 → Keeps (writer_contents W.contents out) (writer_contents W.contents result.1) }
+{
+    if let WordsFault::Clap(error) = fault {
+        if !error.use_stderr() {
+            let _ = write!(out, "{error}");
+            let _ = out.flush();
+            return (WRITTEN, out);
+        }
+    }
+    let _ = write!(err, "{fault}");
+    (NOTHING_RUN, out)
+}

@@ -1,0 +1,84 @@
+//! The program's deed over files that stand here: its status, what it writes and what it says.
+
+ghost use Rattle.std.specs.Prelude.{None};
+
+use crate::input::{Folder, Unread};
+use crate::program::{run_standard_input, run_words};
+use std::alloc::Global;
+use std::io::BufWriter;
+use std::test::Fail;
+
+const SCRIPT: &str = "table T (K INT KEY)\nput 1\npublish\nreport SELECT COUNT(*) FROM T\n";
+
+const COUNTED: &str = "line 4 edition 1\nCOUNT(*)\n1\n";
+
+/// The script `S` and the part `P`.
+#[derive(Drop)]
+struct Shelf {
+    alloc: Global,
+}
+
+impl Folder for Shelf {
+    ghost file = { λ _ _. None };
+
+    fn read(&self, name: &str) -> Result<Vec<u8>, Unread> {
+        let text = match name {
+            "S" => SCRIPT,
+            "P" => "1\n",
+            _ => return Err(Unread),
+        };
+        let mut bytes = Vec::new(self.alloc);
+        match bytes.extend_from_slice(text.as_bytes()) {
+            Ok(()) => Ok(bytes),
+            Err(_) => Err(Unread),
+        }
+    }
+}
+
+/// The words of a line, which stand apart by one space each.
+fn words_of(alloc: Global, line: &str) -> Result<Vec<String>, Fail> {
+    let mut given = Vec::new(alloc);
+    for word in line.split(' ') {
+        given.push(format!(in alloc; "{word}")?)?;
+    }
+    Ok(given)
+}
+
+#[test]
+fn words_are_run(rt: HostRuntime) -> Result<(), Fail> {
+    let table = [
+        ("run S", 0, COUNTED, ""),
+        ("run S P P", 0, COUNTED, ""),
+        ("run S P Q", 2, "", "olap: cannot read Q\n"),
+        ("run Q", 2, "", "olap: cannot read Q\n"),
+        ("--version", 0, "olap 0.1.0\n", ""),
+        (
+            "run --rows 0 S",
+            2,
+            "",
+            "error: '--rows' takes a number from 1 to 4294967296\n\nFor more information, try '--help'.\n",
+        ),
+    ];
+    let shelf = Shelf { alloc: rt.alloc() };
+    for (line, status, wrote, said) in table {
+        let given = words_of(rt.alloc(), line)?;
+        let mut err = Vec::with_capacity(rt.alloc(), 256)?;
+        let out = BufWriter::new(rt.alloc(), Vec::new(rt.alloc()))?;
+        let (got, out) = run_words(rt.alloc(), given.as_slice(), &shelf, out, &mut err);
+        assert_eq!(rt; got, status, "{line}");
+        assert_eq!(rt; out.get_ref().as_slice(), wrote.as_bytes(), "{line}");
+        assert_eq!(rt; err.as_slice(), said.as_bytes(), "{line}");
+    }
+    Ok(())
+}
+
+#[test]
+fn standard_input_is_run(rt: HostRuntime) -> Result<(), Fail> {
+    let mut err = Vec::new(rt.alloc());
+    let out = BufWriter::new(rt.alloc(), Vec::new(rt.alloc()))?;
+    let (status, out) = run_standard_input(rt.alloc(), SCRIPT.as_bytes(), out, &mut err);
+    assert_eq!(rt; status, 0);
+    assert_eq!(rt; out.get_ref().as_slice(), COUNTED.as_bytes());
+    assert!(rt; err.is_empty());
+    Ok(())
+}
