@@ -89,8 +89,11 @@ fn held_by<H: KeyHash<Cell>>(keeper: &Keeper<H>) -> Result<Held, Refused> {
 struct Change(Step, Result<(), Refused>, Rows, u64, Rows);
 
 const NONE: Rows = Rows([0, 0, 0, 0], 0);
+
 const FIRST: Rows = Rows([10, 20, 0, 0], 2);
+
 const SECOND: Rows = Rows([11, 0, 33, 40], 3);
+
 const FULL: Result<(), Refused> = Err(Refused::TooManyRows);
 
 #[rattlefmt::skip]
