@@ -8,7 +8,6 @@ mod values;
 
 use crate::{Cell, Text};
 use std::alloc::{AllocError, Global};
-use std::cmp::Ordering;
 
 /// A cell as the tables write it.
 #[derive(Clone, Copy)]
@@ -34,7 +33,29 @@ fn cells_of(alloc: Global, written: &[Written]) -> Result<Vec<Cell>, AllocError>
     Ok(cells)
 }
 
-/// Reached through the bound, as the crates above reach it.
-fn compare<K: Ord>(a: &K, b: &K) -> Ordering {
-    a.cmp(b)
+/// The first two places of the list that are not ordered as their keys are. The order is reached
+/// through the bound, as the crates above reach it.
+fn first_out_of_order<K: Ord>(rising: &[K]) -> Option<(usize, usize)> {
+    for (i, a) in rising.iter().enumerate() {
+        for (j, b) in rising.iter().enumerate() {
+            if a.cmp(b) != i.cmp(&j) {
+                return Some((i, j));
+            }
+            if (a == b) != (i == j) {
+                return Some((i, j));
+            }
+        }
+    }
+    None
+}
+
+/// The first place of the list whose clone is another key.
+fn first_bad_clone<K: Clone + Drop + PartialEq>(keys: &[K]) -> Result<Option<usize>, AllocError> {
+    for (i, key) in keys.iter().enumerate() {
+        let again = key.clone()?;
+        if again != *key {
+            return Ok(Some(i));
+        }
+    }
+    Ok(None)
 }

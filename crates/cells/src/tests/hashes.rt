@@ -2,7 +2,7 @@
 //! by a program outside the project.
 
 use super::Written::{self, Int, Null, Text};
-use super::{cell_of, cells_of, compare};
+use super::{cell_of, cells_of, first_bad_clone, first_out_of_order};
 use crate::{Cell, Fnv, KeyHash, Plain, Tuple, worked_hashes};
 use std::alloc::{AllocError, Global};
 use std::test::Fail;
@@ -16,6 +16,23 @@ fn hash_by<K: Eq, H: KeyHash<K>>(key: &K) -> u64 {
     H::hash(key)
 }
 
+/// The first place of the table whose cell has other hashes, FNV-1a and plain.
+fn first_wrong_cell(
+    alloc: Global,
+    table: &[(Written, u64, u64)],
+) -> Result<Option<usize>, AllocError> {
+    for (i, (written, fnv, plain)) in table.iter().enumerate() {
+        let cell = cell_of(alloc, written)?;
+        if hash_by::<Cell, Fnv>(&cell) != *fnv {
+            return Ok(Some(i));
+        }
+        if hash_by::<Cell, Plain>(&cell) != *plain {
+            return Ok(Some(i));
+        }
+    }
+    Ok(None)
+}
+
 #[test]
 fn cells_have_hashes(rt: HostRuntime) -> Result<(), Fail> {
     let table = [
@@ -27,13 +44,26 @@ fn cells_have_hashes(rt: HostRuntime) -> Result<(), Fail> {
         (Text("pen"), 0x3b25_8e15_1a7a_cf51, 3),
         (Text("é"), 0x5dc5_79d3_4eb0_21bf, 2),
     ];
-    for (written, fnv, plain) in table {
-        let cell = cell_of(rt.alloc(), &written)?;
-        assert_eq!(rt; hash_by::<Cell, Fnv>(&cell), fnv);
-        assert_eq!(rt; hash_by::<Cell, Plain>(&cell), plain);
-    }
+    assert_eq!(rt; first_wrong_cell(rt.alloc(), table.as_slice())?, None);
     worked_hashes();
     Ok(())
+}
+
+/// The same of tuples.
+fn first_wrong_tuple(
+    alloc: Global,
+    table: &[(&[Written], u64, u64)],
+) -> Result<Option<usize>, AllocError> {
+    for (i, (written, fnv, plain)) in table.iter().enumerate() {
+        let key = tuple_of(alloc, written)?;
+        if hash_by::<Tuple, Fnv>(&key) != *fnv {
+            return Ok(Some(i));
+        }
+        if hash_by::<Tuple, Plain>(&key) != *plain {
+            return Ok(Some(i));
+        }
+    }
+    Ok(None)
 }
 
 #[test]
@@ -46,11 +76,7 @@ fn tuples_have_hashes(rt: HostRuntime) -> Result<(), Fail> {
         (&[Null, Text("pen"), Int(-2)], 0x1499_7b01_2c84_b963, 1),
         (&[Int(-2), Text("pen"), Null], 0x22e1_84ef_a9dc_cc43, 1),
     ];
-    for (written, fnv, plain) in table {
-        let key = tuple_of(rt.alloc(), written)?;
-        assert_eq!(rt; hash_by::<Tuple, Fnv>(&key), fnv);
-        assert_eq!(rt; hash_by::<Tuple, Plain>(&key), plain);
-    }
+    assert_eq!(rt; first_wrong_tuple(rt.alloc(), table.as_slice())?, None);
     Ok(())
 }
 
@@ -60,6 +86,16 @@ fn tuples_of(alloc: Global, table: &[&[Written]]) -> Result<Vec<Tuple>, AllocErr
         tuples.push(tuple_of(alloc, written)?)?;
     }
     Ok(tuples)
+}
+
+/// The first place whose tuple has a clone of another length than the table says.
+fn first_wrong_length(tuples: &[Tuple], table: &[&[Written]]) -> Result<Option<usize>, AllocError> {
+    for (i, (tuple, written)) in tuples.iter().zip(table).enumerate() {
+        if tuple.clone()?.cells().len() != written.len() {
+            return Ok(Some(i));
+        }
+    }
+    Ok(None)
 }
 
 #[test]
@@ -76,15 +112,12 @@ fn tuples_have_one_order(rt: HostRuntime) -> Result<(), Fail> {
         &[Text("ink")],
     ];
     let rising = tuples_of(rt.alloc(), table.as_slice())?;
-    for (i, a) in rising.iter().enumerate() {
-        for (j, b) in rising.iter().enumerate() {
-            assert!(rt; compare(a, b) == i.cmp(&j), "at {i} and {j}");
-            assert!(rt; (a == b) == (i == j), "at {i} and {j}");
-        }
-        let again = a.clone()?;
-        assert!(rt; again == *a, "at {i}");
-        assert!(rt; again.cells().len() == a.cells().len(), "at {i}");
-    }
+    assert_eq!(rt; first_out_of_order(rising.as_slice()), None);
+    assert_eq!(rt; first_bad_clone(rising.as_slice())?, None);
+    assert_eq!(rt;
+        first_wrong_length(rising.as_slice(), table.as_slice())?,
+        None
+    );
     Ok(())
 }
 
@@ -95,14 +128,10 @@ fn hashes_are_values(rt: HostRuntime) -> Result<(), Fail> {
     let plain = Plain;
     assert!(rt; fnv.clone()? == fnv);
     assert!(rt; plain.clone()? == plain);
-    assert_eq!(rt;
-        format!(in alloc; "{:?} {:?}", fnv, plain)?.as_str(),
-        "Fnv Plain"
-    );
     let key = tuple_of(alloc, &[Null])?;
     assert_eq!(rt;
-        format!(in alloc; "{:?}", key)?.as_str(),
-        "Tuple { cells: [Null] }"
+        format!(in alloc; "{:?} {:?} {:?}", fnv, plain, key)?.as_str(),
+        "Fnv Plain Tuple { cells: [Null] }"
     );
     Ok(())
 }

@@ -15,6 +15,56 @@ fn is_bad(alloc: Global, schema: &Schema, fields: &[&[u8]]) -> Result<bool, Refu
     }
 }
 
+/// Whether the fields spell the row of these cells, with the key at that place.
+fn is_row(
+    alloc: Global,
+    schema: &Schema,
+    fields: &[&[u8]],
+    written: &[Written],
+    key: &Written,
+) -> Result<bool, Refused> {
+    let row = Row::read(alloc, fields, schema)?;
+    let cells = cells_of(alloc, written)?;
+    let key = cell_of(alloc, key)?;
+    if *row.key() != key {
+        return Ok(false);
+    }
+    Ok(row.cells() == cells.as_slice())
+}
+
+/// The first place of the table whose fields spell another row. The key stands in the first column.
+fn first_wrong(
+    alloc: Global,
+    schema: &Schema,
+    table: &[([&[u8]; 4], [Written; 4])],
+) -> Result<Option<usize>, Refused> {
+    for (i, (fields, written)) in table.iter().enumerate() {
+        if !is_row(alloc, schema, fields, written, &written[0])? {
+            return Ok(Some(i));
+        }
+    }
+    Ok(None)
+}
+
+/// Whether the sole field spells a row whose key is that text.
+fn is_key(alloc: Global, schema: &Schema, field: &str) -> Result<bool, Refused> {
+    let row = Row::read(alloc, &[field.as_bytes()], schema)?;
+    match row.key() {
+        Cell::Text(text) => Ok(text.as_str() == field),
+        _ => Ok(false),
+    }
+}
+
+/// The first place of the list at which the sole field of a record spells a row.
+fn first_good(alloc: Global, schema: &Schema, fields: &[&[u8]]) -> Result<Option<usize>, Refused> {
+    for (i, field) in fields.iter().enumerate() {
+        if !is_bad(alloc, schema, &[*field])? {
+            return Ok(Some(i));
+        }
+    }
+    Ok(None)
+}
+
 #[test]
 fn fields_spell_rows(rt: HostRuntime) -> Result<(), Fail> {
     let alloc = rt.alloc();
@@ -58,15 +108,7 @@ fn fields_spell_rows(rt: HostRuntime) -> Result<(), Fail> {
             ],
         ),
     ];
-    for (fields, written) in table {
-        let row = Row::read(alloc, fields.as_slice(), &sales)?;
-        let cells = cells_of(alloc, written.as_slice())?;
-        assert!(rt; row.cells() == cells.as_slice(), "for {fields:?}");
-        assert!(rt;
-            *row.key() == cell_of(alloc, &written[0])?,
-            "for {fields:?}"
-        );
-    }
+    assert_eq!(rt; first_wrong(alloc, &sales, table.as_slice())?, None);
     assert!(rt; is_bad(alloc, &sales, &[b"", b"north", b"pen", b"10"])?);
     assert!(rt; is_bad(alloc, &sales, &[b"1", b"\xff", b"pen", b"10"])?);
     Ok(())
@@ -92,9 +134,7 @@ fn fields_that_spell_no_row(rt: HostRuntime) -> Result<(), Fail> {
         b"\xc3",
         b"1\x00",
     ];
-    for key in keys {
-        assert!(rt; is_bad(alloc, &schema, &[key])?, "for {key:?}");
-    }
+    assert_eq!(rt; first_good(alloc, &schema, keys.as_slice())?, None);
     assert!(rt; is_bad(alloc, &schema, &[])?);
     assert!(rt; is_bad(alloc, &schema, &[b"1", b"2"])?);
     Ok(())
@@ -107,9 +147,15 @@ fn rows_have_a_field_for_each_column(rt: HostRuntime) -> Result<(), Fail> {
     assert!(rt; is_bad(alloc, &schema, &[b"1"])?);
     let schema = Schema::read(alloc, "T (V INT, K TEXT KEY)")?;
     assert!(rt; is_bad(alloc, &schema, &[b"1", b""])?);
-    let row = Row::read(alloc, &[b"1", b"0"], &schema)?;
-    assert!(rt; row.cells() == cells_of(alloc, &[Int(1), Text("0")])?.as_slice());
-    assert!(rt; *row.key() == cell_of(alloc, &Text("0"))?);
+    assert!(rt;
+        is_row(
+            alloc,
+            &schema,
+            &[b"1", b"0"],
+            &[Int(1), Text("0")],
+            &Text("0")
+        )?
+    );
     Ok(())
 }
 
@@ -118,8 +164,7 @@ fn text_cells_have_a_limit(rt: HostRuntime) -> Result<(), Fail> {
     let alloc = rt.alloc();
     let schema = Schema::read(alloc, "T (K TEXT KEY)")?;
     let at_limit = "x".repeat(alloc, 1024)?;
-    let row = Row::read(alloc, &[at_limit.as_str().as_bytes()], &schema)?;
-    assert!(rt; matches!(row.key(), Cell::Text(text) if text.as_str() == at_limit.as_str()));
+    assert!(rt; is_key(alloc, &schema, at_limit.as_str())?);
     let beyond = "x".repeat(alloc, 1025)?;
     assert!(rt; is_bad(alloc, &schema, &[beyond.as_str().as_bytes()])?);
     Ok(())

@@ -26,9 +26,48 @@ fn is_bad(alloc: Global, text: &str) -> Result<bool, Refused> {
     }
 }
 
+/// A text, and the name, the columns and the key's place that it spells.
+type Row = (
+    &'static str,
+    &'static str,
+    &'static [(&'static str, ColumnType)],
+    usize,
+);
+
+/// The first text of the table that spells another schema than the table says.
+fn first_wrong(alloc: Global, table: &[Row]) -> Result<Option<&'static str>, Refused> {
+    for (text, name, columns, key) in table {
+        let schema = Schema::read(alloc, text)?;
+        if !is_as(&schema, name, columns, *key) {
+            return Ok(Some(*text));
+        }
+    }
+    Ok(None)
+}
+
+fn is_as(schema: &Schema, name: &str, columns: &[(&str, ColumnType)], key: usize) -> bool {
+    if schema.name() != name {
+        return false;
+    }
+    if schema.key() != key {
+        return false;
+    }
+    has_columns(schema, columns)
+}
+
+/// The first of the texts that is not refused.
+fn first_good(alloc: Global, texts: &[&'static str]) -> Result<Option<&'static str>, Refused> {
+    for text in texts {
+        if !is_bad(alloc, text)? {
+            return Ok(Some(*text));
+        }
+    }
+    Ok(None)
+}
+
 #[test]
 fn texts_spell_schemas(rt: HostRuntime) -> Result<(), Fail> {
-    let table: [(&str, &str, &[(&str, ColumnType)], usize); 8] = [
+    let table: [Row; 8] = [
         ("T (K INT KEY)", "T", &[("K", Int)], 0),
         ("t(k int key)", "T", &[("K", Int)], 0),
         (
@@ -58,12 +97,7 @@ fn texts_spell_schemas(rt: HostRuntime) -> Result<(), Fail> {
         ),
         ("TABLE (PUT INT KEY)", "TABLE", &[("PUT", Int)], 0),
     ];
-    for (text, name, columns, key) in table {
-        let schema = Schema::read(rt.alloc(), text)?;
-        assert!(rt; schema.name() == name, "for {text:?}");
-        assert!(rt; has_columns(&schema, columns), "for {text:?}");
-        assert!(rt; schema.key() == key, "for {text:?}");
-    }
+    assert_eq!(rt; first_wrong(rt.alloc(), table.as_slice())?, None);
     Ok(())
 }
 
@@ -98,26 +132,29 @@ fn texts_that_spell_no_schema(rt: HostRuntime) -> Result<(), Fail> {
         "T (1 INT KEY)",
         "T (K 'INT' KEY)",
     ];
-    for text in table {
-        assert!(rt; is_bad(rt.alloc(), text)?, "for {text:?}");
-    }
+    assert_eq!(rt; first_good(rt.alloc(), table.as_slice())?, None);
     Ok(())
 }
 
 #[test]
 fn tables_have_1_to_16_columns(rt: HostRuntime) -> Result<(), Fail> {
     let alloc = rt.alloc();
-    let one = Schema::read(alloc, "T (C1 INT KEY)")?;
-    assert!(rt; has_columns(&one, &[("C1", Int)]));
-    let sixteen = Schema::read(
-        alloc,
-        "T (C1 INT KEY, C2 INT, C3 INT, C4 INT, C5 INT, C6 INT, C7 INT, C8 INT, C9 INT, C10 INT, C11 INT, C12 INT, C13 INT, C14 INT, C15 INT, C16 INT)",
-    )?;
-    assert_eq!(rt; sixteen.columns().len(), 16);
+    let table: [Row; 1] = [("T (C1 INT KEY)", "T", &[("C1", Int)], 0)];
+    assert_eq!(rt; first_wrong(alloc, table.as_slice())?, None);
+    let sixteen =
+        "T (C1 INT KEY, C2 INT, C3 INT, C4 INT, C5 INT, C6 INT, C7 INT, C8 INT, C9 INT, C10 INT, C11 INT, C12 INT, C13 INT, C14 INT, C15 INT, C16 INT)";
+    assert_eq!(rt; Schema::read(alloc, sixteen)?.columns().len(), 16);
     let seventeen =
         "T (C1 INT KEY, C2 INT, C3 INT, C4 INT, C5 INT, C6 INT, C7 INT, C8 INT, C9 INT, C10 INT, C11 INT, C12 INT, C13 INT, C14 INT, C15 INT, C16 INT, C17 INT)";
     assert!(rt; is_bad(alloc, seventeen)?);
     Ok(())
+}
+
+/// Whether a table of the name is refused.
+fn is_no_name(alloc: Global, word: &str) -> Result<bool, Refused> {
+    let mut text = String::from_str(alloc, word)?;
+    text.push_str(" (K INT KEY)")?;
+    is_bad(alloc, text.as_str())
 }
 
 #[test]
@@ -126,9 +163,7 @@ fn reserved_words_are_no_names(rt: HostRuntime) -> Result<(), Fail> {
     let words =
         "SELECT FROM WHERE GROUP BY HAVING ROLLUP CUBE GROUPING SETS COUNT SUM MIN MAX DISTINCT AND OR NOT IS NULL BETWEEN IN INT TEXT KEY";
     for word in words.split(' ') {
-        let mut text = String::from_str(alloc, word)?;
-        text.push_str(" (K INT KEY)")?;
-        assert!(rt; is_bad(alloc, text.as_str())?, "for {word}");
+        assert!(rt; is_no_name(alloc, word)?, "for {word}");
     }
     Ok(())
 }

@@ -38,6 +38,20 @@ fn are_as(tokens: &[Token], written: &[Written]) -> bool {
     true
 }
 
+/// A text, and the tokens that it spells.
+type Row = (&'static str, &'static [Written]);
+
+/// The first text of the table that spells other tokens than the table says.
+fn first_wrong(alloc: Global, table: &[Row]) -> Result<Option<&'static str>, TokenFault> {
+    for (text, written) in table {
+        let found = tokens(alloc, text)?;
+        if !are_as(found.as_slice(), written) {
+            return Ok(Some(*text));
+        }
+    }
+    Ok(None)
+}
+
 /// Whether the text spells no tokens. Want of memory is an error.
 fn is_bad(alloc: Global, text: &str) -> Result<bool, TokenFault> {
     match tokens(alloc, text) {
@@ -47,9 +61,19 @@ fn is_bad(alloc: Global, text: &str) -> Result<bool, TokenFault> {
     }
 }
 
+/// The first of the texts that spells tokens.
+fn first_good(alloc: Global, texts: &[&'static str]) -> Result<Option<&'static str>, TokenFault> {
+    for text in texts {
+        if !is_bad(alloc, text)? {
+            return Ok(Some(*text));
+        }
+    }
+    Ok(None)
+}
+
 #[test]
 fn texts_spell_tokens(rt: HostRuntime) -> Result<(), Fail> {
-    let table: [(&str, &[Written]); 19] = [
+    let table: [Row; 19] = [
         ("", &[]),
         (" \t\r\n", &[]),
         (
@@ -121,10 +145,7 @@ fn texts_spell_tokens(rt: HostRuntime) -> Result<(), Fail> {
         ("'é\n,(' x", &[Quoted("é\n,("), Word("X")]),
         ("a'b'1", &[Word("A"), Quoted("b"), Number(1)]),
     ];
-    for (text, written) in table {
-        let found = tokens(rt.alloc(), text)?;
-        assert!(rt; are_as(found.as_slice(), written), "for {text:?}");
-    }
+    assert_eq!(rt; first_wrong(rt.alloc(), table.as_slice())?, None);
     Ok(())
 }
 
@@ -154,9 +175,7 @@ fn texts_that_spell_no_tokens(rt: HostRuntime) -> Result<(), Fail> {
         "\u{b}",
         "\0",
     ];
-    for text in table {
-        assert!(rt; is_bad(rt.alloc(), text)?, "for {text:?}");
-    }
+    assert_eq!(rt; first_good(rt.alloc(), table.as_slice())?, None);
     Ok(())
 }
 
