@@ -23,7 +23,7 @@ use Rattle.trie.proofs.ListsLemmas.{all-weaken}
 use Rattle.trie.proofs.PlacesLemmas.{IsBelow, keys_below}
 use Rattle.trie.proofs.ShapeNodesLemmas.{begins, begins_not, range_more}
 
-filter_all : {X : Type 0} (p : X → Bool) (xs : List X) → AllByRecursion (λ x. p x ≡ true) xs → filter p xs ≡ xs
+pub filter_all : {X : Type 0} (p : X → Bool) (xs : List X) → AllByRecursion (λ x. p x ≡ true) xs → filter p xs ≡ xs
 filter_all p [] all = refl
 filter_all p (x ∷ xs) all = rw all.0 (ap (λ l. x ∷ l) (filter_all p xs all.1))
 

@@ -9,3 +9,4 @@ pub mod Merging
 pub mod Shapes
 pub mod Splitting
 pub mod Tree
+pub mod Walks

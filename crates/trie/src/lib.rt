@@ -22,17 +22,19 @@ mod shape;
 mod split;
 mod ticks;
 mod trie;
+mod walk;
 
 pub use blend::{Blend, Later};
 pub use cutting::{Cutting, MAX_DEPTH};
 pub use laws::{
-    entries_are_a_map, entries_still_rise, keys_decide_the_shape, values_decide_the_entries,
-    worked_shapes,
+    entries_are_a_map, entries_still_rise, keys_decide_the_shape, pieces_are_parts,
+    values_decide_the_entries, worked_shapes,
 };
 pub use shape::{Prefix, Shape};
 pub use split::Piece;
 pub use ticks::Ticks;
 pub use trie::Trie;
+pub use walk::Visitor;
 
 #[cfg(test)]
 mod tests;

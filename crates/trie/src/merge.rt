@@ -11,10 +11,12 @@ ghost use Rattle.trie.specs.Tree.{node_of, values};
 ghost use Rattle.trie.specs.declared.node.Node.TheVariants.{Branch};
 
 use crate::blend::Blend;
-use crate::bucket::{find, shared_pairs, with_entry};
+use crate::bucket::{find, placed, shared_pairs};
 use crate::digits::{Bitmap, HashPrefix, PLACES};
 use crate::get::get_at;
-use crate::node::{Node, Place, Seen, child_at, make, shared, total, written};
+use crate::node::{
+    Node, Place, Seen, child_at, make, shared, shared_children, step, total, with_place, written,
+};
 use crate::put::put_at;
 use crate::ticks::Ticks;
 use cells::KeyHash;
@@ -77,12 +79,12 @@ fn merged_pairs<K: Ord + Clone + Drop, V: Drop, H: KeyHash<K>, B: Blend<V>>(
     let mut pairs = shared_pairs(alloc, first)?;
     for pair in second {
         let new = pair_to_lay(alloc, blend, false, find(&pairs, &pair.0), pair)?;
-        pairs = with_entry(alloc, &pairs, new)?;
+        pairs = placed(pairs, new)?;
     }
     Ok(pairs)
 }
 
-/// A place with a pair laid over it.
+/// A place with a pair laid over it, where it stands, or above what is put below it.
 fn with_leaf<K: Ord + Clone + Drop, V: Drop, H: KeyHash<K>, B: Blend<V>>(
     alloc: Global,
     place: Seen<'_, K, V>,
@@ -107,6 +109,45 @@ fn with_leaf<K: Ord + Clone + Drop, V: Drop, H: KeyHash<K>, B: Blend<V>>(
     let old = get_at::<K, V, H>(place, &pair.0, at);
     let new = pair_to_lay(alloc, blend, is_first, old, pair)?;
     put_at::<K, V, H>(alloc, place, &new, at, ticks)
+}
+
+/// A place with a pair laid over it: down through the branches, and what stands below them.
+fn lay_at<K: Ord + Clone + Drop, V: Drop, H: KeyHash<K>, B: Blend<V>>(
+    alloc: Global,
+    place: Seen<'_, K, V>,
+    pair: &Arc<(K, V)>,
+    is_first: bool,
+    blend: &B,
+    at: HashPrefix,
+    ticks: &mut Ticks,
+) -> Result<Arc<Node<K, V>>, AllocError>
+    requires clones { ClonesEqual K.is_clone }
+    requires hashed { at.hash ≡ H.hash_of pair.now.value.0 }
+    requires placed { IsPlaced H.hash_of K.cmp at (seen_in place) }
+    requires room { length (held_at place) + 1 < 2 ^ 64 }
+    requires can { MatchOption (value_at (digit_order H.hash_of K.cmp) (held_at place) pair.now.value.0) Unit
+        (λ v. Turned is_first (B.asks blend.now) v pair.now.value.1) }
+    ensures map { IfOk result (λ n. HasPair H.hash_of K.cmp at
+        (pair.now.value.0, laid (turned is_first (B.blend_of blend.now)) (value_at (digit_order H.hash_of K.cmp) (held_at place.entry) pair.now.value.0) pair.now.value.1)
+        (seen_in place.entry) n.value) }
+    ensures counted { ticks.new + at.depth ≤ ticks.old + (digit_count + 1) }
+    ensures grows { ticks.old ≤ ticks.new }
+{
+    let Some(node) = place else {
+        return with_leaf::<K, V, H, B>(alloc, place, pair, is_first, blend, at, ticks);
+    };
+    let Node::Branch {
+        bitmap,
+        children,
+        ..
+    } = &**node
+    else {
+        return with_leaf::<K, V, H, B>(alloc, place, pair, is_first, blend, at, ticks);
+    };
+    let (below, longer) = step::<K, V, H>(*bitmap, children, at);
+    let child = lay_at::<K, V, H, B>(alloc, below, pair, is_first, blend, longer, ticks)?;
+    let children = shared_children(alloc, children)?;
+    with_place::<K, V, H>(alloc, *bitmap, children, Some(child), at, ticks)
 }
 
 /// How two places of one prefix meet: one is empty, or one is a leaf whose pair is laid over the
@@ -249,7 +290,7 @@ pub fn merge_at<K: Ord + Clone + Drop, V: Drop, H: KeyHash<K>, B: Blend<V>>(
             is_first,
         } => {
             let at = HashPrefix::at(H::hash(&pair.0), depth);
-            let node = with_leaf::<K, V, H, B>(alloc, place, pair, is_first, blend, at, ticks)?;
+            let node = lay_at::<K, V, H, B>(alloc, place, pair, is_first, blend, at, ticks)?;
             Ok(Some(node))
         }
         Meeting::Buckets(pairs, more) => {

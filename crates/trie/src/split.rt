@@ -1,6 +1,9 @@
 //! Cutting a map into pieces.
-ghost use Rattle.std.specs.Prelude.{◌≡◌, ◌++◌, ◌∷◌, ◌&&◌, [], IfOk, nat_lt};
+ghost use Rattle.std.specs.Prelude.{◌≡◌, ◌++◌, ◌∷◌, ◌&&◌, [], IfOk, OnOk, nat_lt};
+ghost use Rattle.std.specs.Map.{keys_of};
 ghost use Rattle.trie.specs.Cuts.{IsPiece};
+ghost use Rattle.trie.specs.Maps.{RiseByHash};
+ghost use Rattle.trie.specs.Walks.{TakesAll};
 ghost use Rattle.trie.specs.Tree.{entries};
 ghost use Rattle.trie.specs.Holding.{lent, seen_in};
 ghost use Rattle.trie.specs.Splitting.{IsCut, IsCuttable};
@@ -9,6 +12,7 @@ use crate::cutting::Cutting;
 use crate::digits::PLACES;
 use crate::entries::with_entries;
 use crate::node::{Node, Seen, child_at};
+use crate::walk::{Visitor, walk_node};
 use cells::KeyHash;
 use std::alloc::{AllocError, Global};
 use std::marker::{Model, PhantomData};
@@ -35,6 +39,20 @@ impl<K: Ord, V, H: KeyHash<K>> Model for Piece<K, V, H> {
 }
 
 impl<K: Ord, V, H: KeyHash<K>> Piece<K, V, H> {
+    /// Lends all entries, in digit order. It takes no memory of its own.
+    pub fn walk<W: Visitor<K, V>>(&self, visitor: &mut W) -> Result<(), AllocError>
+        ensures { OnOk result (TakesAll W.takes visitor.old self.now visitor.new) }
+    {
+        walk_node(&self.node, visitor)
+    }
+
+    /// What is known of each piece: its keys rise in digit order. It does nothing.
+    pub fn keys_rise(&self)
+        ensures { RiseByHash H.hash_of K.cmp (keys_of self.now) }
+    {
+        let _ = &self.node;
+    }
+
     /// All entries, in digit order.
     pub fn entries(&self, alloc: Global) -> Result<Vec<(&K, &V)>, AllocError>
         ensures { IfOk result (λ v. lent v.items ≡ self.now) }

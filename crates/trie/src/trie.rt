@@ -10,6 +10,7 @@ ghost use Rattle.trie.specs.Holding.{lent};
 ghost use Rattle.trie.specs.Maps.{RiseByHash};
 ghost use Rattle.trie.specs.Merging.{CanBlend, ClonesEqual, IsMerged};
 ghost use Rattle.trie.specs.Shapes.{shape_of};
+ghost use Rattle.trie.specs.Walks.{TakesAll};
 
 use crate::blend::Blend;
 use crate::cutting::Cutting;
@@ -23,6 +24,7 @@ use crate::remove::{Removed, remove_at};
 use crate::shape::{Shape, shape_in};
 use crate::split::{Piece, with_pieces};
 use crate::ticks::Ticks;
+use crate::walk::{Visitor, walk_node};
 use cells::KeyHash;
 use std::alloc::{AllocError, Global};
 use std::marker::{Model, PhantomData};
@@ -81,6 +83,16 @@ impl<K: Ord, V, H: KeyHash<K>> Trie<K, V, H> {
         self.len() == 0
     }
 
+    /// Lends all entries, in digit order. It takes no memory of its own.
+    pub fn walk<W: Visitor<K, V>>(&self, visitor: &mut W) -> Result<(), AllocError>
+        ensures { OnOk result (TakesAll W.takes visitor.old self.now visitor.new) }
+    {
+        let Some(node) = &self.root else {
+            return Ok(());
+        };
+        walk_node(node, visitor)
+    }
+
     /// All entries, in digit order.
     pub fn entries(&self, alloc: Global) -> Result<Vec<(&K, &V)>, AllocError>
         ensures { IfOk result (λ v. lent v.items ≡ self.now) }
@@ -115,8 +127,9 @@ impl<K: Ord + Drop, V: Drop, H: KeyHash<K>> Trie<K, V, H> {
         })
     }
 
-    /// The pieces of the map, in digit order: starting from the root, a branch of fewer than `depth` digits
-    /// that has more than `small` entries is replaced by its children.
+    /// The pieces of the map, in digit order: starting from the root, a branch of fewer than `depth`
+    /// digits that has more than `small` entries is replaced by its children, and each node that is
+    /// not replaced is a piece, which shares it. A map with no entry has no piece.
     pub fn split(&self, alloc: Global, cutting: &Cutting) -> Result<Vec<Piece<K, V, H>>, AllocError>
         ensures { IfOk result (λ v. v.items ≡ cut H.hash_of cutting.now.depth cutting.now.small self.now) }
     {
@@ -168,9 +181,9 @@ impl<K: Ord + Drop, V: Drop, H: KeyHash<K>> Trie<K, V, H> {
 
 impl<K: Ord + Clone + Drop, V: Drop, H: KeyHash<K>> Trie<K, V, H> {
     /// The map with the entries of both: keys of one keep their value, keys of both have the blend of
-    /// this map's value and the other's. What only one of them has below a prefix is shared, so the
-    /// nodes that are made are at most a whole path for each entry of the smaller one. Both maps stay
-    /// as they are, whatever the answer.
+    /// this map's value and the other's, under either of the two equal keys. What only one of them
+    /// has below a prefix is shared, so the nodes that are made are at most a whole path for each
+    /// entry of the smaller one. Both maps stay as they are, whatever the answer.
     pub fn merge<B: Blend<V>>(
         &self,
         alloc: Global,
