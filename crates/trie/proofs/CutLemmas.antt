@@ -1,9 +1,8 @@
 -- Pieces of nodes.
-use Rattle.std.proofs.Common.{◌≡◌, ◌≢◌, ℕ, ◌+◌, ◌-◌, ◌<◌, ◌≤◌, suc, zero, get_or, Bool, true, false, cond, Option, Some, None, Vec, List, [], ◌∷◌, ◌++◌, length, refl, sym, ap, subst, ◌∙◌, append_assoc, arith, add-one, length-append}
+use Rattle.std.proofs.Common.{◌≡◌, ◌≢◌, ℕ, ◌+◌, ◌-◌, ◌<◌, suc, zero, get_or, Bool, true, false, cond, Option, Some, None, Vec, List, [], ◌∷◌, ◌++◌, length, refl, sym, ap, subst, ◌∙◌, append_assoc, arith}
 use Rattle.std.specs.Prelude.{nat_eq, nat_le, nat_lt}
 use Rattle.std.specs.List.{AllByRecursion, filter, flat_map, range_with_len, starts_with}
 use Rattle.std.specs.declared.cmp.Ordering.{Ordering}
-use Rattle.std.proofs.lemmas.Bool.Decides.{nat_tests}
 use Rattle.std.proofs.lemmas.Grind.{flat_map-append}
 use Rattle.std.proofs.lemmas.List.{append-nil, length-map}
 use Rattle.trie.specs.Cuts.{cut, cut_below, is_opened, unless_empty, with_prefix}

@@ -1,36 +1,31 @@
 -- How two places of one prefix meet, and what they become.
-use Rattle.std.proofs.Common.{◌≡◌, ℕ, ◌+◌, ◌-◌, ◌*◌, ◌<◌, ◌≤◌, ◌^◌, Bool, true, false, Option, Some, None, Vec, List, [], ◌∷◌, ◌++◌, cond, length, set, map, take, get_or, suc, zero, refl, sym, ap, ◌∙◌, subst, add-one, arith, length-append, sum_by, inl, inr}
+use Rattle.std.proofs.Common.{◌≡◌, ℕ, ◌+◌, ◌<◌, ◌≤◌, ◌^◌, Bool, true, false, Option, Some, None, Vec, List, [], ◌∷◌, ◌++◌, cond, length, set, take, get_or, suc, zero, refl, sym, ap, ◌∙◌, subst, arith, length-append, sum_by, inl, inr}
 use Rattle.std.specs.Bool.{⊤}
-use Rattle.std.specs.Cmp.{IsTotalOrder}
 use Rattle.std.specs.List.{AllByRecursion, flat_map}
-use Rattle.std.specs.Map.{keys_of}
 use Rattle.std.specs.Option.{MatchOption}
-use Rattle.std.specs.Ordering.{eq_by_cmp, is_eq}
+use Rattle.std.specs.Ordering.{is_eq}
 use Rattle.std.specs.declared.alloc.Global.{Global}
 use Rattle.std.specs.declared.cmp.Ordering.{Ordering}
-use Rattle.std.specs.declared.cmp.Ordering.TheVariants.{Equal}
 use Rattle.std.specs.declared.sync.Arc.{Arc}
-use Rattle.std.proofs.Math.ListN.{get_or-append}
-use Rattle.std.proofs.Math.Seq.{get_or-append_seam}
 use Rattle.std.proofs.lemmas.Bool.{cases_lt}
 use Rattle.std.proofs.lemmas.Cmp.{tied_itself}
 use Rattle.std.proofs.lemmas.List.{length-map}
 use Rattle.trie.specs.Digits.{digit, digit_count, digit_order, digits, first_digits, place_count}
-use Rattle.trie.specs.Entries.{IsRising, value_at, with_pair}
-use Rattle.trie.specs.Holding.{ArePlaces, Holds, node_len, pairs_of}
-use Rattle.trie.specs.Merging.{blended, BranchesMeet, BucketsMeet, CanBlend, HasBucketOfBoth, IsBucketOfBoth, IsMerged, laid, LeafMeets, Meet, MergedIn, MergeEach, Merges, turned, Turned}
-use Rattle.trie.specs.Tree.{AreChildren, entries, entries_in, IsNode, IsPlace, StartsWith, values}
+use Rattle.trie.specs.Entries.{value_at}
+use Rattle.trie.specs.Holding.{ArePlaces, node_len, pairs_of}
+use Rattle.trie.specs.Merging.{blended, BranchesMeet, BucketsMeet, CanBlend, IsMerged, laid, LeafMeets, Meet, MergeEach, Merges, turned, Turned}
+use Rattle.trie.specs.Tree.{AreChildren, entries_in, IsNode, IsPlace, StartsWith, values}
 use Rattle.trie.specs.declared.node.Node.{Node}
 use Rattle.trie.specs.declared.node.Node.TheVariants.{Leaf, Bucket, Branch}
 use Rattle.trie.proofs.BucketsLemmas.{blended_none, blended_some, found_same}
-use Rattle.trie.proofs.DigitsLemmas.{get_or-digits, length-digits, prefix_length, starts_with-at, starts_with-front, starts_with-next}
+use Rattle.trie.proofs.DigitsLemmas.{get_or-digits, length-digits, starts_with-at, starts_with-front, starts_with-next}
 use Rattle.trie.proofs.EntriesLemmas.{with_pair-longer, with_pair-most}
 use Rattle.trie.proofs.ListsLemmas.{all-unmap, flat_map-around}
 use Rattle.trie.proofs.MapsLemmas.{digit_total, HaveHashes, is_Equal, value-with_pair}
 use Rattle.trie.proofs.NodesLemmas.{branch_holds, node_len-is, total_lens}
 use Rattle.trie.proofs.DenseLemmas.{length-places_of}
-use Rattle.trie.specs.Dense.{IsDense, places_in}
-use Rattle.trie.proofs.OrderLemmas.{order_agrees, value_at-order}
+use Rattle.trie.specs.Dense.{places_in}
+use Rattle.trie.proofs.OrderLemmas.{value_at-order}
 use Rattle.trie.proofs.PlacesLemmas.{child_at, value_at-below}
 use Rattle.trie.proofs.TreeLemmas.{entries-Bucket, IsNode-Bucket}
 use Rattle.trie.proofs.VariantsLemmas.{branch_in, bucket_in, leaf_in}

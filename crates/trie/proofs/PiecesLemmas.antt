@@ -1,5 +1,5 @@
 -- The pieces of a map are parts of it, and are all of it.
-use Rattle.std.proofs.Common.{◌≡◌, ◌≢◌, ℕ, ◌+◌, ◌<◌, ◌≤◌, suc, zero, get_or, Bool, true, false, cond, List, [], ◌∷◌, ◌++◌, length, refl, sym, ap, ◌∙◌, append_assoc, arith, inl, inr, length-append}
+use Rattle.std.proofs.Common.{◌≡◌, ℕ, ◌+◌, ◌<◌, ◌≤◌, suc, zero, get_or, Bool, true, false, cond, List, [], ◌∷◌, ◌++◌, length, refl, sym, ap, ◌∙◌, arith, inl, inr, length-append}
 use Rattle.std.specs.Prelude.{nat_eq}
 use Rattle.std.specs.Cmp.Lexicographic.{slice_cmp}
 use Rattle.std.specs.List.{AllByRecursion, filter, flat_map, range_with_len, starts_with}
@@ -11,7 +11,7 @@ use Rattle.std.proofs.lemmas.Bool.{cases_lt}
 use Rattle.std.proofs.lemmas.Bool.Decides.{eqb_tells}
 use Rattle.std.proofs.lemmas.Cmp.{nat_list_cmp_total}
 use Rattle.trie.specs.Cuts.{cut, cut_below, is_opened, IsPart, unless_empty, with_prefix}
-use Rattle.trie.specs.Digits.{digit, digit_count, digit_order, digits, place_count}
+use Rattle.trie.specs.Digits.{digit_count, digit_order, digits, place_count}
 use Rattle.trie.specs.Entries.{IsRising}
 use Rattle.trie.specs.Maps.{RiseByHash}
 use Rattle.trie.specs.Tree.{StartsWith}

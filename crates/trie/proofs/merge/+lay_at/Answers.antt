@@ -1,4 +1,4 @@
-use Rattle.std.proofs.Common.{◌≡◌, ◌+◌, ◌<◌, ◌^◌, ◌∙◌, ap, length, Some, sym, arith, rules}
+use Rattle.std.proofs.Common.{◌≡◌, ◌+◌, ◌<◌, ◌^◌, ap, length, Some, arith, rules}
 use Rattle.std.specs.List.{flat_map}
 use Rattle.trie.specs.Dense.{places_in, places_of}
 use Rattle.trie.specs.Digits.{digit_order}
