@@ -7,7 +7,9 @@ use Rattle.std.specs.declared.sync.Arc.{Arc}
 use Rattle.std.specs.Borrow.{Bor}
 use Rattle.trie.specs.Digits.{digit, digit_count, digit_order, first_digits, place_count}
 use Rattle.trie.specs.Entries.{with_pair, without_key}
-use Rattle.trie.specs.Tree.{AreChildren, entries_in, IsNode, IsPlace, node_of, nodes}
+use Rattle.trie.specs.Dense.{IsDense, places_in}
+use Rattle.trie.specs.Tree.{AreChildren, entries_in, IsNode, IsPlace, node_of}
+use Rattle.trie.specs.declared.node.Children.{Children}
 use Rattle.trie.specs.declared.digits.HashPrefix.{HashPrefix}
 use Rattle.trie.specs.declared.node.Node.{Node, out-Node}
 use Rattle.trie.specs.declared.node.Node.TheOpen.{Node-F, Branch, Bucket, Leaf}
@@ -37,9 +39,22 @@ prefix_of at = first_digits at.hash at.depth
 abbrev pub held_in : {K V : Type 0} → Option (Arc (Node K V) Global) → List (K × V)
 held_in place = entries_in (node_of place)
 
+-- the node in a place that is looked at, and the entries in it
+abbrev pub seen_in : {X : Type 0} → Option (Bor (Arc X Global)) → Option X
+seen_in None = None
+seen_in (Some node) = Some node.now.value
+
+abbrev pub held_at : {K V : Type 0} → Option (Bor (Arc (Node K V) Global)) → List (K × V)
+held_at place = entries_in (seen_in place)
+
 -- the entries in the places with this one in the place after the prefix
-abbrev pub held_with : {K V : Type 0} → HashPrefix → List (Option (Arc (Node K V) Global)) → Option (Arc (Node K V) Global) → List (K × V)
-held_with at places place = flat_map entries_in (set (nodes places) (digit at.hash at.depth) (node_of place))
+abbrev pub held_with : {K V : Type 0} → HashPrefix → List (Option (Node K V)) → Option (Arc (Node K V) Global) → List (K × V)
+held_with at places place = flat_map entries_in (set places (digit at.hash at.depth) (node_of place))
+
+-- the children stand for these places
+pub record IsWritten {K V : Type 0} (places : List (Option (Node K V))) (children : Children K V) : Type 0 where
+  pub dense : IsDense children.bitmap (length children.children.items)
+  pub places_are : places_in children.bitmap children.children.items ≡ places
 
 -- what references lend
 abbrev pub lent : {K V : Type 0} → List (Bor K × Bor V) → List (K × V)
@@ -49,7 +64,7 @@ lent pairs = map (λ p. (p.0.now, p.1.now)) pairs
 abbrev pub layer_len : {K V X : Type 0} → Node-F K V X → ℕ
 layer_len (Leaf pair) = 1
 layer_len (Bucket pairs) = length pairs.items
-layer_len (Branch len places) = len
+layer_len (Branch len bitmap children) = len
 
 abbrev pub node_len : {K V : Type 0} → Node K V → ℕ
 node_len {K} {V} node = layer_len (out-Node K V node)
@@ -59,15 +74,14 @@ abbrev pub len_in : {K V : Type 0} → Option (Node K V) → ℕ
 len_in None = 0
 len_in (Some node) = node_len node
 
--- the first node in the places
-abbrev pub first_node : {X : Type 0} → List (Option X) → Option X
+-- the first child
+abbrev pub first_node : {X : Type 0} → List X → Option X
 first_node [] = None
-first_node (None ∷ places) = first_node places
-first_node (Some node ∷ places) = Some node
+first_node (node ∷ children) = Some node
 
 -- that node, where there is one entry
-abbrev pub sole_node : {X : Type 0} → ℕ → List (Option X) → Option X
-sole_node len places = if len == 1 then first_node places else None
+abbrev pub sole_node : {X : Type 0} → ℕ → List X → Option X
+sole_node len children = if len == 1 then first_node children else None
 
 -- no key was found, and no node made
 abbrev pub Misses : {K V E : Type 0} → ℕ → ℕ → Result (Removed K V) E → Type 0
@@ -88,8 +102,8 @@ module _ {K V : Type 0} (hash : K → ℕ) (cmp : K → K → Ordering) where
     pub entries_are : entries_in place ≡ held
 
   -- the place is canonical below the prefix
-  abbrev pub IsPlaced : HashPrefix → Option (Arc (Node K V) Global) → Type 0
-  IsPlaced at place = IsPlace hash cmp (node_of place) (prefix_of at)
+  abbrev pub IsPlaced : HashPrefix → Option (Node K V) → Type 0
+  IsPlaced at place = IsPlace hash cmp place (prefix_of at)
 
   -- a trie's root is canonical, and its entries can be counted
   pub record IsTrie (root : Option (Node K V)) : Type 0 where
@@ -97,14 +111,16 @@ module _ {K V : Type 0} (hash : K → ℕ) (cmp : K → K → Ordering) where
     pub fits : length (entries_in root) < 2 ^ 64
 
   -- the node has what the place had, and the pair
-  abbrev pub HasPair : HashPrefix → K × V → Option (Arc (Node K V) Global) → Node K V → Type 0
-  HasPair at pair place node = Holds (prefix_of at) (with_pair (digit_order hash cmp) pair.0 pair.1 (held_in place)) (Some node)
+  abbrev pub HasPair : HashPrefix → K × V → Option (Node K V) → Node K V → Type 0
+  HasPair at pair place node = Holds (prefix_of at) (with_pair (digit_order hash cmp) pair.0 pair.1 (entries_in place)) (Some node)
 
   -- a put ends with a node that has the pair too, or the places have what the place had
-  abbrev pub IsReached : HashPrefix → K × V → Option (Arc (Node K V) Global) → Reach K V → Type 0
+  abbrev pub IsReached : HashPrefix → K × V → Option (Node K V) → Reach K V → Type 0
   IsReached at pair place (Here node) = HasPair at pair place node
-  IsReached at pair place (Below places) =
-      ArePlaces (prefix_of at) (nodes places.items) × (flat_map entries_in (nodes places.items) ≡ held_in place)
+  IsReached at pair place (Below bitmap children) =
+      ArePlaces (prefix_of at) (places_in bitmap children.items)
+      × (flat_map entries_in (places_in bitmap children.items) ≡ entries_in place)
+      × IsDense bitmap (length children.items)
 
   -- the key is not there, or this is what is left without it
   abbrev pub IsRemoved : HashPrefix → K → List (K × V) → Removed K V → Type 0

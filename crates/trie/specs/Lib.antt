@@ -1,7 +1,12 @@
 pub mod Counts
+pub mod Cuts
+pub mod Dense
 pub mod Digits
 pub mod Entries
 pub mod Holding
 pub mod Maps
+pub mod Merging
 pub mod Shapes
+pub mod Splitting
 pub mod Tree
+pub mod Walks

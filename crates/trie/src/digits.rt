@@ -12,6 +12,9 @@ pub const DIGITS: u32 = 16;
 /// How many places a branch has: one for each digit.
 pub const PLACES: usize = 1 << BITS;
 
+/// A bit for each place of a branch.
+pub type Bitmap = u16;
+
 /// The first digits of a hash, the low digit first.
 #[derive(Clone, Copy)]
 pub struct HashPrefix {
@@ -27,6 +30,15 @@ impl HashPrefix {
         ensures depth { result.depth ≡ 0 }
     {
         HashPrefix { hash, depth: 0 }
+    }
+
+    /// So many digits of the hash.
+    pub fn at(hash: u64, depth: u32) -> HashPrefix
+        requires { depth ≤ digit_count }
+        ensures hash { result.hash ≡ hash }
+        ensures depth { result.depth ≡ depth }
+    {
+        HashPrefix { hash, depth }
     }
 
     /// Whether all digits are in the prefix.

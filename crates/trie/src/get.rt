@@ -3,22 +3,22 @@ ghost use Rattle.std.specs.Prelude.{◌≡◌};
 ghost use Rattle.std.specs.Option.{option_copied};
 ghost use Rattle.trie.specs.Digits.{digit_order};
 ghost use Rattle.trie.specs.Entries.{value_at};
-ghost use Rattle.trie.specs.Holding.{held_in, IsPlaced};
+ghost use Rattle.trie.specs.Holding.{held_at, IsPlaced, seen_in};
 
 use crate::bucket::find;
 use crate::digits::HashPrefix;
-use crate::node::{Node, Place, step};
+use crate::node::{Node, Seen, step};
 use cells::KeyHash;
 
 /// The value of the key below the prefix. It takes no memory.
 pub fn get_at<'a, K: Ord, V, H: KeyHash<K>>(
-    place: &'a Place<K, V>,
+    place: Seen<'a, K, V>,
     key: &K,
     at: HashPrefix,
 ) -> Option<&'a V>
     requires hashed { at.hash ≡ H.hash_of key.now }
-    requires placed { IsPlaced H.hash_of K.cmp at place.now }
-    ensures { option_copied result ≡ value_at (digit_order H.hash_of K.cmp) (held_in place.now) key.now }
+    requires placed { IsPlaced H.hash_of K.cmp at (seen_in place) }
+    ensures { option_copied result ≡ value_at (digit_order H.hash_of K.cmp) (held_at place.entry) key.now }
 {
     match place {
         None => None,
@@ -31,8 +31,12 @@ pub fn get_at<'a, K: Ord, V, H: KeyHash<K>>(
                 }
             }
             Node::Bucket(pairs) => find(pairs, key),
-            Node::Branch { places, .. } => {
-                let (child, below) = step::<K, V, H>(places, at);
+            Node::Branch {
+                bitmap,
+                children,
+                ..
+            } => {
+                let (child, below) = step::<K, V, H>(*bitmap, children, at);
                 get_at::<K, V, H>(child, key, below)
             }
         },

@@ -7,27 +7,35 @@
 //! Efficient Non-Blocking Snapshots", PPoPP 2012, with nodes that never change once they are made.
 #![tactic(auto)]
 
+mod blend;
 mod bucket;
 mod cutting;
 mod digits;
 mod entries;
 mod get;
 mod laws;
+mod merge;
 mod node;
 mod put;
 mod remove;
 mod shape;
+mod split;
 mod ticks;
 mod trie;
+mod walk;
 
+pub use blend::{Blend, Later};
 pub use cutting::{Cutting, MAX_DEPTH};
 pub use laws::{
     a_map_has_the_shape_of_its_keys, entries_are_a_map, entries_still_rise, keys_decide_the_shape,
+    pieces_are_parts,
     values_decide_the_entries, worked_shapes,
 };
 pub use shape::{Prefix, Shape};
+pub use split::Piece;
 pub use ticks::Ticks;
 pub use trie::Trie;
+pub use walk::Visitor;
 
 #[cfg(test)]
 mod tests;

@@ -1,14 +1,15 @@
 //! Nodes: what stands below a prefix of digits.
-ghost use Rattle.std.specs.Prelude.{◌≡◌, ◌+◌, ◌<◌, ◌≤◌, ◌^◌, None, Some, IfOk, OnErr, OnOk, length, replicate};
-ghost use Rattle.std.specs.Prelude.{slice_index_or, sum_by};
+ghost use Rattle.std.specs.Prelude.{◌≡◌, ◌+◌, ◌-◌, ◌<◌, ◌≤◌, ◌^◌, false, None, Some, IfOk, IsTrue, OnErr, OnOk, length, set};
+ghost use Rattle.std.specs.Prelude.{get_or, slice_index_or, sum_by};
 ghost use Rattle.std.specs.List.{flat_map};
 ghost use Rattle.trie.specs.Counts.{next_count};
+ghost use Rattle.trie.specs.Dense.{below_bit, bit_at, IsDense, places_in};
 ghost use Rattle.trie.specs.Digits.{digit, first_digits, place_count};
-ghost use Rattle.trie.specs.Holding.{ArePlaces, held_in, held_with, Holds, IsPlaced, len_in};
-ghost use Rattle.trie.specs.Holding.{prefix_of, sole_node};
-ghost use Rattle.trie.specs.Tree.{entries_in, IsPlace, node_of, nodes};
+ghost use Rattle.trie.specs.Holding.{ArePlaces, held_at, held_with, Holds, IsPlaced, IsWritten, len_in, node_len};
+ghost use Rattle.trie.specs.Holding.{prefix_of, seen_in, sole_node};
+ghost use Rattle.trie.specs.Tree.{entries_in, IsPlace, node_of, values};
 
-use crate::digits::{HashPrefix, PLACES};
+use crate::digits::{Bitmap, HashPrefix};
 use crate::ticks::Ticks;
 use cells::KeyHash;
 use std::alloc::{AllocError, Global};
@@ -17,6 +18,9 @@ use std::sync::Arc;
 /// A place of a branch, or the root's: empty, or with the node of its prefix.
 pub type Place<K, V> = Option<Arc<Node<K, V>>>;
 
+/// A place that is looked at.
+pub type Seen<'a, K, V> = Option<&'a Arc<Node<K, V>>>;
+
 /// A node, which never changes once it is made. The hashes of its keys share a prefix.
 #[derive(Drop)]
 pub enum Node<K, V> {
@@ -24,11 +28,31 @@ pub enum Node<K, V> {
     Leaf(Arc<(K, V)>),
     /// The keys of one hash, rising.
     Bucket(Vec<Arc<(K, V)>>),
-    /// How many entries there are below the places, and a place for each digit that may come next.
+    /// How many entries there are below the children, which digits have a child, and the children in
+    /// the order of their digits: a child's position is the number of set bits below its bit.
     Branch {
         len: u64,
-        places: Vec<Option<Arc<Node<K, V>>>>,
+        bitmap: Bitmap,
+        children: Vec<Arc<Node<K, V>>>,
     },
+}
+
+/// The children of a branch in the making.
+#[derive(Drop)]
+pub struct Children<K, V> {
+    pub bitmap: Bitmap,
+    pub children: Vec<Arc<Node<K, V>>>,
+}
+
+/// How many entries there are below a node.
+pub fn node_len<K, V>(node: &Arc<Node<K, V>>) -> u64
+    ensures { result ≡ node_len node.now.value }
+{
+    match &**node {
+        Node::Leaf(_) => 1,
+        Node::Bucket(pairs) => pairs.len() as u64,
+        Node::Branch { len, .. } => *len,
+    }
 }
 
 /// How many entries there are in a place.
@@ -37,11 +61,17 @@ pub fn len<K, V>(place: &Place<K, V>) -> u64
 {
     match place {
         None => 0,
-        Some(node) => match &**node {
-            Node::Leaf(_) => 1,
-            Node::Bucket(pairs) => pairs.len() as u64,
-            Node::Branch { len, .. } => *len,
-        },
+        Some(node) => node_len(node),
+    }
+}
+
+/// The same place, to be looked at.
+pub fn seen<K, V>(place: &Place<K, V>) -> Seen<'_, K, V>
+    ensures { seen_in result ≡ node_of place.now }
+{
+    match place {
+        None => None,
+        Some(node) => Some(node),
     }
 }
 
@@ -63,8 +93,8 @@ pub fn make<K: Drop, V: Drop>(
 }
 
 /// The same place, its node with one owner more.
-pub fn shared<K: Drop, V: Drop>(place: &Place<K, V>) -> Result<Place<K, V>, AllocError>
-    ensures { IfOk result (λ copy. node_of copy ≡ node_of place.now) }
+pub fn shared<K: Drop, V: Drop>(place: Seen<'_, K, V>) -> Result<Place<K, V>, AllocError>
+    ensures { IfOk result (λ copy. node_of copy ≡ seen_in place.entry) }
 {
     match place {
         None => Ok(None),
@@ -72,91 +102,160 @@ pub fn shared<K: Drop, V: Drop>(place: &Place<K, V>) -> Result<Place<K, V>, Allo
     }
 }
 
-/// The same places, each node with one owner more.
-pub fn shared_places<K: Drop, V: Drop>(
+/// The same children, each with one owner more.
+pub fn shared_children<K: Drop, V: Drop>(
     alloc: Global,
-    places: &Vec<Place<K, V>>,
-) -> Result<Vec<Place<K, V>>, AllocError>
-    ensures { IfOk result (λ copy. nodes copy.items ≡ nodes places.now.items) }
+    children: &Vec<Arc<Node<K, V>>>,
+) -> Result<Vec<Arc<Node<K, V>>>, AllocError>
+    ensures { IfOk result (λ copy. values copy.items ≡ values children.now.items) }
 {
     let mut copy = Vec::new(alloc);
-    for place in places {
-        copy.push(shared(place)?)?;
+    for child in children {
+        copy.push(Arc::try_clone(child)?)?;
     }
     Ok(copy)
 }
 
-/// The places of a branch, all empty.
-pub fn empty_places<K: Drop, V: Drop>(alloc: Global) -> Result<Vec<Place<K, V>>, AllocError>
-    ensures { IfOk result (λ places. nodes places.items ≡ replicate place_count None) }
+/// The bit of a digit.
+fn bit(digit: usize) -> Bitmap
+    requires { digit < place_count }
+    ensures { result ≡ 2 ^ digit }
 {
-    let mut places = Vec::new(alloc);
-    for _i in 0..PLACES {
-        places.push(None)?;
+    1 << digit
+}
+
+/// Whether the place of a digit has a child.
+pub fn has(bitmap: Bitmap, digit: usize) -> bool
+    requires { digit < place_count }
+    ensures yes { IsTrue result → bit_at bitmap digit ≡ 1 }
+    ensures no { result ≡ false → bit_at bitmap digit ≡ 0 }
+{
+    (bitmap >> digit) % 2 == 1
+}
+
+/// The position of the child of a digit: how many bits are set below its bit.
+fn position(bitmap: Bitmap, digit: usize) -> usize
+    requires { digit < place_count }
+    ensures { result ≡ below_bit bitmap digit }
+{
+    (bitmap % (1 << digit)).count_ones() as usize
+}
+
+/// The place of a digit.
+pub fn child_at<'a, K, V>(
+    bitmap: Bitmap,
+    children: &'a Vec<Arc<Node<K, V>>>,
+    digit: usize,
+) -> Seen<'a, K, V>
+    requires digit { digit < place_count }
+    requires dense { IsDense bitmap (length children.now.items) }
+    ensures { seen_in result ≡ get_or (places_in bitmap children.now.items) digit None }
+{
+    if !has(bitmap, digit) {
+        return None;
     }
-    Ok(places)
+    Some(&children[position(bitmap, digit)])
 }
 
 /// One step down: the place of the digit after the prefix, and the prefix with that digit.
-pub fn step<K: Ord, V, H: KeyHash<K>>(
-    places: &Vec<Place<K, V>>,
+pub fn step<'a, K: Ord, V, H: KeyHash<K>>(
+    bitmap: Bitmap,
+    children: &'a Vec<Arc<Node<K, V>>>,
     at: HashPrefix,
-) -> (&Place<K, V>, HashPrefix)
-    requires { ArePlaces H.hash_of K.cmp (prefix_of at) (nodes places.now.items) }
+) -> (Seen<'a, K, V>, HashPrefix)
+    requires places { ArePlaces H.hash_of K.cmp (prefix_of at) (places_in bitmap children.now.items) }
+    requires dense { IsDense bitmap (length children.now.items) }
     ensures hash { result.1.hash ≡ at.hash }
     ensures depth { result.1.depth ≡ at.depth + 1 }
-    ensures place { node_of result.0.now ≡ slice_index_or (nodes places.now.items) (digit at.hash at.depth) None }
-    ensures placed { IsPlaced H.hash_of K.cmp result.1 result.0.now }
-    ensures fewer { length (held_in result.0.now) ≤ length (flat_map entries_in (nodes places.now.items)) }
+    ensures place { seen_in result.0 ≡ slice_index_or (places_in bitmap children.now.items) (digit at.hash at.depth) None }
+    ensures placed { IsPlaced H.hash_of K.cmp result.1 (seen_in result.0) }
+    ensures fewer { length (held_at result.0) ≤ length (flat_map entries_in (places_in bitmap children.now.items)) }
 {
-    (&places[at.next()], at.longer())
+    (child_at(bitmap, children, at.next()), at.longer())
 }
 
-/// The node of these places with this one in the place after the prefix. Where one entry is left,
-/// it is its leaf, shared and not made anew.
+/// These children with this place in the place of a digit.
+pub fn written<K: Drop, V: Drop>(
+    bitmap: Bitmap,
+    mut children: Vec<Arc<Node<K, V>>>,
+    digit: usize,
+    place: Place<K, V>,
+) -> Result<Children<K, V>, AllocError>
+    requires digit { digit < place_count }
+    requires dense { IsDense bitmap (length children.items) }
+    ensures { IfOk result (IsWritten (set (places_in bitmap children.items) digit (node_of place))) }
+{
+    let position = position(bitmap, digit);
+    let Some(child) = place else {
+        if !has(bitmap, digit) {
+            return Ok(Children { bitmap, children });
+        }
+        children.remove(position);
+        let bitmap = bitmap - bit(digit);
+        return Ok(Children { bitmap, children });
+    };
+    if has(bitmap, digit) {
+        children[position] = child;
+        return Ok(Children { bitmap, children });
+    }
+    children.insert(position, child)?;
+    let bitmap = bitmap + bit(digit);
+    Ok(Children { bitmap, children })
+}
+
+/// The node of these children with this place in the place after the prefix. Where one entry is
+/// left, it is its leaf, shared and not made anew.
 pub fn with_place<K: Ord + Drop, V: Drop, H: KeyHash<K>>(
     alloc: Global,
-    mut places: Vec<Place<K, V>>,
+    bitmap: Bitmap,
+    children: Vec<Arc<Node<K, V>>>,
     place: Place<K, V>,
     at: HashPrefix,
     ticks: &mut Ticks,
 ) -> Result<Arc<Node<K, V>>, AllocError>
-    requires places { ArePlaces H.hash_of K.cmp (prefix_of at) (nodes places.items) }
+    requires places { ArePlaces H.hash_of K.cmp (prefix_of at) (places_in bitmap children.items) }
+    requires dense { IsDense bitmap (length children.items) }
     requires placed { IsPlace H.hash_of K.cmp (node_of place) (first_digits at.hash (at.depth + 1)) }
-    requires some { 0 < length (held_with at places.items place) }
-    requires fits { length (held_with at places.items place) < 2 ^ 64 }
+    requires some { 0 < length (held_with at (places_in bitmap children.items) place) }
+    requires fits { length (held_with at (places_in bitmap children.items) place) < 2 ^ 64 }
     ensures held { IfOk result (λ n.
-        Holds H.hash_of K.cmp (prefix_of at) (held_with at places.items place) (Some n.value)) }
+        Holds H.hash_of K.cmp (prefix_of at) (held_with at (places_in bitmap children.items) place) (Some n.value)) }
     ensures counted { ticks.new ≤ ticks.old + 1 }
     ensures grows { ticks.old ≤ ticks.new }
 {
-    places[at.next()] = place;
-    let len = total(&places);
-    match sole(&places, len)? {
-        Some(only) => Ok(only),
-        None => make(alloc, Node::Branch { len, places }, ticks),
+    let new = written(bitmap, children, at.next(), place)?;
+    let len = total(&new.children);
+    if let Some(only) = sole(&new.children, len)? {
+        return Ok(only);
     }
+    let branch = Node::Branch {
+        len,
+        bitmap: new.bitmap,
+        children: new.children,
+    };
+    make(alloc, branch, ticks)
 }
 
-/// How many entries there are in the places.
-fn total<K, V>(places: &[Place<K, V>]) -> u64
-    requires { sum_by len_in (nodes places.now) < 2 ^ 64 }
-    ensures { result ≡ sum_by len_in (nodes places.now) }
+/// How many entries there are below the children.
+pub fn total<K, V>(children: &[Arc<Node<K, V>>]) -> u64
+    requires { sum_by node_len (values children.now) < 2 ^ 64 }
+    ensures { result ≡ sum_by node_len (values children.now) }
 {
-    places.iter().map(len).sum()
+    children.iter().map(node_len).sum()
 }
 
 /// The only node, where there is one entry.
-fn sole<K: Drop, V: Drop>(places: &Vec<Place<K, V>>, len: u64) -> Result<Place<K, V>, AllocError>
-    ensures { IfOk result (λ only. node_of only ≡ sole_node len (nodes places.now.items)) }
+fn sole<K: Drop, V: Drop>(
+    children: &Vec<Arc<Node<K, V>>>,
+    len: u64,
+) -> Result<Place<K, V>, AllocError>
+    ensures { IfOk result (λ only. node_of only ≡ sole_node len (values children.now.items)) }
 {
     if len != 1 {
         return Ok(None);
     }
-    for place in places {
-        if let Some(node) = place {
-            return Ok(Some(Arc::try_clone(node)?));
-        }
+    if children.is_empty() {
+        return Ok(None);
     }
-    Ok(None)
+    Ok(Some(Arc::try_clone(&children[0])?))
 }

@@ -2,13 +2,13 @@
 ghost use Rattle.std.specs.Prelude.{◌≡◌, ◌+◌, ◌<◌, ◌≤◌, ◌^◌, IfOk, None, Some, length};
 ghost use Rattle.trie.specs.Digits.{digit_count, digit_order};
 ghost use Rattle.trie.specs.Entries.{value_at};
-ghost use Rattle.trie.specs.Holding.{held_in, IsPlaced, IsRemoved, Misses, pairs_of, prefix_of};
+ghost use Rattle.trie.specs.Holding.{held_at, IsPlaced, IsRemoved, Misses, pairs_of, prefix_of, seen_in};
 ghost use Rattle.trie.specs.Tree.{IsPlace};
 ghost use Rattle.trie.specs.declared.node.Node.TheVariants.{Bucket};
 
 use crate::bucket::without;
 use crate::digits::HashPrefix;
-use crate::node::{Node, Place, make, shared_places, step, with_place};
+use crate::node::{Node, Place, Seen, make, shared_children, step, with_place};
 use crate::ticks::Ticks;
 use cells::KeyHash;
 use std::alloc::{AllocError, Global};
@@ -24,16 +24,16 @@ pub enum Removed<K, V> {
 /// The place below the prefix without the key.
 pub fn remove_at<K: Ord + Drop, V: Drop, H: KeyHash<K>>(
     alloc: Global,
-    place: &Place<K, V>,
+    place: Seen<'_, K, V>,
     key: &K,
     at: HashPrefix,
     ticks: &mut Ticks,
 ) -> Result<Removed<K, V>, AllocError>
     requires hashed { at.hash ≡ H.hash_of key.now }
-    requires placed { IsPlaced H.hash_of K.cmp at place.now }
-    requires fits { length (held_in place.now) < 2 ^ 64 }
-    ensures map { IfOk result (IsRemoved H.hash_of K.cmp at key.now (held_in place.now)) }
-    ensures missed { value_at (digit_order H.hash_of K.cmp) (held_in place.now) key.now ≡ None
+    requires placed { IsPlaced H.hash_of K.cmp at (seen_in place) }
+    requires fits { length (held_at place) < 2 ^ 64 }
+    ensures map { IfOk result (IsRemoved H.hash_of K.cmp at key.now (held_at place.entry)) }
+    ensures missed { value_at (digit_order H.hash_of K.cmp) (held_at place.entry) key.now ≡ None
         → Misses ticks.old ticks.new result }
 
     // A node for each digit that is left, and one more.
@@ -52,13 +52,17 @@ pub fn remove_at<K: Ord + Drop, V: Drop, H: KeyHash<K>>(
             }
         }
         Node::Bucket(pairs) => remove_from_bucket::<K, V, H>(alloc, pairs, key, at, ticks),
-        Node::Branch { places, .. } => {
-            let (child, below) = step::<K, V, H>(places, at);
+        Node::Branch {
+            bitmap,
+            children,
+            ..
+        } => {
+            let (child, below) = step::<K, V, H>(*bitmap, children, at);
             let Removed::Left(rest) = remove_at::<K, V, H>(alloc, child, key, below, ticks)? else {
                 return Ok(Removed::Missing);
             };
-            let places = shared_places(alloc, places)?;
-            let node = with_place::<K, V, H>(alloc, places, rest, at, ticks)?;
+            let children = shared_children(alloc, children)?;
+            let node = with_place::<K, V, H>(alloc, *bitmap, children, rest, at, ticks)?;
             Ok(Removed::Left(Some(node)))
         }
     }

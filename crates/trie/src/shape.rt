@@ -5,16 +5,18 @@ ghost use Rattle.std.specs.Cmp.Lexicographic.{nat_list_eq_equiv, pointwise};
 ghost use Rattle.std.specs.List.{flat_map};
 ghost use Rattle.std.specs.Map.{keys_of};
 ghost use Rattle.trie.specs.Digits.{digit_count, place_count};
-ghost use Rattle.trie.specs.Holding.{ArePlaces, held_in};
+ghost use Rattle.trie.specs.Dense.{IsDense, places_in};
+ghost use Rattle.trie.specs.Holding.{ArePlaces, held_at, seen_in};
 ghost use Rattle.trie.specs.Shapes.{prefix_text, shape_below, shape_of};
-ghost use Rattle.trie.specs.Tree.{entries_in, IsPlace, node_of, nodes};
+ghost use Rattle.trie.specs.Tree.{entries_in, IsPlace};
 
-use crate::digits::{PLACES, digit_text};
-use crate::node::{Node, Place};
+use crate::digits::{Bitmap, PLACES, digit_text};
+use crate::node::{Node, Seen, child_at, has};
 use cells::KeyHash;
 use std::alloc::{AllocError, Global};
 use std::fmt;
 use std::marker::Model;
+use std::sync::Arc;
 
 /// The shape of a map: each prefix of digits that two keys or more share, with their number, in order,
 /// a prefix before those that extend it.
@@ -107,10 +109,10 @@ impl fmt::Display for Prefix {
 /// The shape of the keys in a root.
 pub fn shape_in<K: Ord, V, H: KeyHash<K>>(
     alloc: Global,
-    root: &Place<K, V>,
+    root: Seen<'_, K, V>,
 ) -> Result<Shape, AllocError>
-    requires placed { IsPlace H.hash_of K.cmp (node_of root.now) [] }
-    ensures { IfOk result (λ v. v.items ≡ shape_of H.hash_of (keys_of (held_in root.now))) }
+    requires placed { IsPlace H.hash_of K.cmp (seen_in root) [] }
+    ensures { IfOk result (λ v. v.items ≡ shape_of H.hash_of (keys_of (held_at root.entry))) }
 {
     let list = Vec::new(alloc);
     let prefix = Prefix::empty(alloc);
@@ -122,11 +124,11 @@ fn with_shape<K: Ord, V, H: KeyHash<K>>(
     alloc: Global,
     list: Shape,
     prefix: &Prefix,
-    place: &Place<K, V>,
+    place: Seen<'_, K, V>,
 ) -> Result<Shape, AllocError>
-    requires placed { IsPlace H.hash_of K.cmp (node_of place.now) prefix.now }
+    requires placed { IsPlace H.hash_of K.cmp (seen_in place) prefix.now }
     ensures { IfOk result (λ v. v.items
-        ≡ list.items ++ shape_below H.hash_of (keys_of (held_in place.now)) prefix.now) }
+        ≡ list.items ++ shape_below H.hash_of (keys_of (held_at place.entry)) prefix.now) }
 {
     let Some(node) = place else {
         return Ok(list);
@@ -134,13 +136,17 @@ fn with_shape<K: Ord, V, H: KeyHash<K>>(
     match &**node {
         Node::Leaf(_) => Ok(list),
         Node::Bucket(pairs) => with_number(alloc, list, prefix, pairs.len() as u64),
-        Node::Branch { len, places } => {
+        Node::Branch {
+            len,
+            bitmap,
+            children,
+        } => {
             let mut shape = with_number(alloc, list, prefix, *len)?;
             for digit in 0..PLACES {
-                if places[digit].is_none() {
+                if !has(*bitmap, digit) {
                     continue;
                 }
-                let (place, longer) = step::<K, V, H>(alloc, places, prefix, digit)?;
+                let (place, longer) = step::<K, V, H>(alloc, *bitmap, children, prefix, digit)?;
                 shape = with_shape::<K, V, H>(alloc, shape, &longer, place)?;
             }
             Ok(shape)
@@ -165,18 +171,20 @@ fn with_number(
 /// One step down: the place of a digit behind the prefix, and the prefix with that digit.
 fn step<'a, K: Ord, V, H: KeyHash<K>>(
     alloc: Global,
-    places: &'a Vec<Place<K, V>>,
+    bitmap: Bitmap,
+    children: &'a Vec<Arc<Node<K, V>>>,
     prefix: &Prefix,
     digit: usize,
-) -> Result<(&'a Place<K, V>, Prefix), AllocError>
-    requires places { ArePlaces H.hash_of K.cmp prefix.now (nodes places.now.items) }
+) -> Result<(Seen<'a, K, V>, Prefix), AllocError>
+    requires places { ArePlaces H.hash_of K.cmp prefix.now (places_in bitmap children.now.items) }
+    requires dense { IsDense bitmap (length children.now.items) }
     requires digit { digit < place_count }
     ensures prefix { IfOk result (λ r. r.1 ≡ prefix.now ++ digit ∷ []) }
-    ensures placed { IfOk result (λ r. IsPlace H.hash_of K.cmp (node_of r.0.now) r.1) }
+    ensures placed { IfOk result (λ r. IsPlace H.hash_of K.cmp (seen_in r.0) r.1) }
     ensures fewer_left { IfOk result (λ r. digit_count - length r.1 < digit_count - length prefix.now) }
-    ensures shape { IfOk result (λ r. shape_below H.hash_of (keys_of (flat_map entries_in (nodes places.now.items))) r.1
-        ≡ shape_below H.hash_of (keys_of (held_in r.0.now)) r.1) }
+    ensures shape { IfOk result (λ r. shape_below H.hash_of (keys_of (flat_map entries_in (places_in bitmap children.now.items))) r.1
+        ≡ shape_below H.hash_of (keys_of (held_at r.0)) r.1) }
 {
     let longer = prefix.longer(alloc, digit as u8)?;
-    Ok((&places[digit], longer))
+    Ok((child_at(bitmap, children, digit), longer))
 }

@@ -1,22 +1,30 @@
 //! The trie.
-ghost use Rattle.std.specs.Prelude.{◌≡◌, ◌+◌, ◌<◌, ◌≤◌, ◌^◌, ◌↔◌, [], IfOk, IsTrue, None, OnOk, length};
+ghost use Rattle.std.specs.Prelude.{◌≡◌, ◌+◌, ◌*◌, ◌<◌, ◌≤◌, ◌^◌, ◌↔◌, [], IfOk, IsTrue, None, OnOk, length, min};
 ghost use Rattle.std.specs.Map.{keys_of};
 ghost use Rattle.std.specs.Option.{option_copied};
 ghost use Rattle.trie.specs.Counts.{next_count};
+ghost use Rattle.trie.specs.Cuts.{cut};
 ghost use Rattle.trie.specs.Digits.{digit_count, digit_order};
 ghost use Rattle.trie.specs.Entries.{value_at, with_pair, without_key};
 ghost use Rattle.trie.specs.Holding.{lent};
 ghost use Rattle.trie.specs.Maps.{RiseByHash};
+ghost use Rattle.trie.specs.Merging.{CanBlend, ClonesEqual, IsMerged};
 ghost use Rattle.trie.specs.Shapes.{shape_of};
+ghost use Rattle.trie.specs.Walks.{TakesAll};
 
+use crate::blend::Blend;
+use crate::cutting::Cutting;
 use crate::digits::HashPrefix;
 use crate::entries::with_entries;
 use crate::get::get_at;
-use crate::node::{Place, len, shared};
+use crate::merge::merge_at;
+use crate::node::{Place, len, seen, shared};
 use crate::put::put_at;
 use crate::remove::{Removed, remove_at};
 use crate::shape::{Shape, shape_in};
+use crate::split::{Piece, with_pieces};
 use crate::ticks::Ticks;
+use crate::walk::{Visitor, walk_node};
 use cells::KeyHash;
 use std::alloc::{AllocError, Global};
 use std::marker::{Model, PhantomData};
@@ -58,7 +66,7 @@ impl<K: Ord, V, H: KeyHash<K>> Trie<K, V, H> {
     pub fn get(&self, key: &K) -> Option<&V>
         ensures { option_copied result ≡ value_at (digit_order H.hash_of K.cmp) self.now key.now }
     {
-        get_at::<K, V, H>(&self.root, key, HashPrefix::empty(H::hash(key)))
+        get_at::<K, V, H>(seen(&self.root), key, HashPrefix::empty(H::hash(key)))
     }
 
     /// How many entries there are. It takes no memory.
@@ -75,11 +83,21 @@ impl<K: Ord, V, H: KeyHash<K>> Trie<K, V, H> {
         self.len() == 0
     }
 
+    /// Lends all entries, in digit order. It takes no memory of its own.
+    pub fn walk<W: Visitor<K, V>>(&self, visitor: &mut W) -> Result<(), AllocError>
+        ensures { OnOk result (TakesAll W.takes visitor.old self.now visitor.new) }
+    {
+        let Some(node) = &self.root else {
+            return Ok(());
+        };
+        walk_node(node, visitor)
+    }
+
     /// All entries, in digit order.
     pub fn entries(&self, alloc: Global) -> Result<Vec<(&K, &V)>, AllocError>
         ensures { IfOk result (λ v. lent v.items ≡ self.now) }
     {
-        Ok(with_entries(Vec::new(alloc), &self.root)?)
+        Ok(with_entries(Vec::new(alloc), seen(&self.root))?)
     }
 
     /// What is known of each map: its keys rise in digit order. It does nothing.
@@ -94,7 +112,7 @@ impl<K: Ord, V, H: KeyHash<K>> Trie<K, V, H> {
     pub fn shape(&self, alloc: Global) -> Result<Shape, AllocError>
         ensures { IfOk result (λ v. v.items ≡ shape_of H.hash_of (keys_of self.now)) }
     {
-        shape_in::<K, V, H>(alloc, &self.root)
+        shape_in::<K, V, H>(alloc, seen(&self.root))
     }
 }
 
@@ -104,9 +122,18 @@ impl<K: Ord + Drop, V: Drop, H: KeyHash<K>> Trie<K, V, H> {
         ensures { IfOk result (λ t. t ≡ self.now) }
     {
         Ok(Trie {
-            root: shared(&self.root)?,
+            root: shared(seen(&self.root))?,
             hash: PhantomData,
         })
+    }
+
+    /// The pieces of the map, in digit order: starting from the root, a branch of fewer than `depth`
+    /// digits that has more than `small` entries is replaced by its children, and each node that is
+    /// not replaced is a piece, which shares it. A map with no entry has no piece.
+    pub fn split(&self, alloc: Global, cutting: &Cutting) -> Result<Vec<Piece<K, V, H>>, AllocError>
+        ensures { IfOk result (λ v. v.items ≡ cut H.hash_of cutting.now.depth cutting.now.small self.now) }
+    {
+        with_pieces::<K, V, H>(Vec::new(alloc), seen(&self.root), cutting, 0)
     }
 
     /// The map with the pair: for an equal key, the new key and value stand. It makes a node for
@@ -126,7 +153,7 @@ impl<K: Ord + Drop, V: Drop, H: KeyHash<K>> Trie<K, V, H> {
     {
         let pair = Arc::new(alloc, (key, value))?;
         let at = HashPrefix::empty(H::hash(&pair.0));
-        let root = put_at::<K, V, H>(alloc, &self.root, &pair, at, ticks)?;
+        let root = put_at::<K, V, H>(alloc, seen(&self.root), &pair, at, ticks)?;
         Ok(Trie {
             root: Some(root),
             hash: PhantomData,
@@ -142,12 +169,41 @@ impl<K: Ord + Drop, V: Drop, H: KeyHash<K>> Trie<K, V, H> {
         ensures grows { ticks.old ≤ ticks.new }
     {
         let at = HashPrefix::empty(H::hash(key));
-        match remove_at::<K, V, H>(alloc, &self.root, key, at, ticks)? {
+        match remove_at::<K, V, H>(alloc, seen(&self.root), key, at, ticks)? {
             Removed::Missing => self.share(),
             Removed::Left(root) => Ok(Trie {
                 root,
                 hash: PhantomData,
             }),
         }
+    }
+}
+
+impl<K: Ord + Clone + Drop, V: Drop, H: KeyHash<K>> Trie<K, V, H> {
+    /// The map with the entries of both: keys of one keep their value, keys of both have the blend of
+    /// this map's value and the other's, under either of the two equal keys. What only one of them
+    /// has below a prefix is shared, so the nodes that are made are at most a whole path for each
+    /// entry of the smaller one. Both maps stay as they are, whatever the answer.
+    pub fn merge<B: Blend<V>>(
+        &self,
+        alloc: Global,
+        other: &Trie<K, V, H>,
+        blend: &B,
+        ticks: &mut Ticks,
+    ) -> Result<Self, AllocError>
+        requires room { length self.now + length other.now < 2 ^ 64 }
+        requires clones { ClonesEqual K.is_clone }
+        requires can { CanBlend (digit_order H.hash_of K.cmp) (B.asks blend.now) self.now other.now }
+        ensures map { IfOk result (λ t. IsMerged (digit_order H.hash_of K.cmp) (B.blend_of blend.now) self.now other.now t) }
+        ensures counted { ticks.new ≤ ticks.old + (digit_count + 1) * min (length self.now) (length other.now) }
+        ensures grows { ticks.old ≤ ticks.new }
+    {
+        let first = seen(&self.root);
+        let second = seen(&other.root);
+        let root = merge_at::<K, V, H, B>(alloc, first, second, blend, 0, ticks)?;
+        Ok(Trie {
+            root,
+            hash: PhantomData,
+        })
     }
 }

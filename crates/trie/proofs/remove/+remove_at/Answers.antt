@@ -1,31 +1,47 @@
 use Rattle.std.proofs.Common.{◌≡◌, ◌<◌, ◌^◌, true, [], ◌∷◌, length, ap, ◌∙◌, arith, rules}
 use Rattle.std.proofs.lemmas.Result.{err_from_is_err_and}
 use Rattle.std.specs.Ordering.{is_eq}
-use Rattle.trie.specs.Tree.{entries_in, node_of}
+use Rattle.trie.specs.Dense.{places_in, places_of}
+use Rattle.trie.specs.Holding.{seen_in}
+use Rattle.trie.specs.Tree.{entries_in}
+use Rattle.trie.proofs.WriteLemmas.{shared_places}
 use Rattle.trie.proofs.OrderLemmas.{same_hash, value_at-order, without_key-order}
 use Rattle.trie.proofs.PlacesLemmas.{value_at-below, without_key-below, without_key-bounds, without_key-missing}
 use Rattle.trie.proofs.RemoveLemmas.{value_alone}
-use Rattle.trie.proofs.VariantsLemmas.{branch_in, leaf_in, place_is}
+use Rattle.trie.proofs.VariantsLemmas.{branch_dense, branch_in, leaf_in, place_is}
 use Rattle.trie.proofs.remove.+remove_at.Goals as goal
 
-pub step-requires : goal.step-requires
-step-requires g t c =
-    (branch_in g.H.KeyHash.hash_of g.K.Ord.cmp _ _ _ _
+pub step-requires-clause-dense : goal.step-requires-clause-dense
+step-requires-clause-dense g t c =
+    branch_dense g.H.KeyHash.hash_of g.K.Ord.cmp _ _ _ _ _
+    (place_is _ _ _ _ c.in-Some.is c.deref.ensures c.in-Branch.is) c.requires.placed
+
+pub with_place-requires-clause-dense : goal.with_place-requires-clause-dense
+with_place-requires-clause-dense g t c =
+    let dense =
+    branch_dense g.H.KeyHash.hash_of g.K.Ord.cmp _ _ _ _ _
+    (place_is _ _ _ _ c.in-Some.is c.deref.ensures c.in-Branch.is) c.requires.placed in
+    (shared_places c.in-Branch.bitmap c.in_ok-children-in-Branch.children.items c.in-Branch.children.items
+    c.in_ok-children-in-Branch.ensures dense).dense
+
+pub step-requires-clause-places : goal.step-requires-clause-places
+step-requires-clause-places g t c =
+    (branch_in g.H.KeyHash.hash_of g.K.Ord.cmp _ _ _ _ _
     (place_is _ _ _ _ c.in-Some.is c.deref.ensures c.in-Branch.is) c.requires.placed).places_are
 
 pub remove_at-requires : goal.remove_at-requires
 remove_at-requires g t c =
     let branch =
-    branch_in g.H.KeyHash.hash_of g.K.Ord.cmp _ _ _ _
+    branch_in g.H.KeyHash.hash_of g.K.Ord.cmp _ _ _ _ _
     (place_is _ _ _ _ c.in-Some.is c.deref.ensures c.in-Branch.is) c.requires.placed in
-    let fits : length (entries_in (node_of c.step.result.0.now)) < 2 ^ 64 =
+    let fits : length (entries_in (seen_in c.step.result.0)) < 2 ^ 64 =
     omega (arith, c.step.ensures.fewer, ap length branch.entries_are, c.requires.fits) in
     search rules
 
 pub returns-in_default-2-clause-map : goal.returns-in_default-2-clause-map
 returns-in_default-2-clause-map g t c =
     let branch =
-    branch_in g.H.KeyHash.hash_of g.K.Ord.cmp _ _ _ _
+    branch_in g.H.KeyHash.hash_of g.K.Ord.cmp _ _ _ _ _
     (place_is _ _ _ _ c.in-Some.is c.deref.ensures c.in-Branch.is) c.requires.placed in
     rw branch.entries_are
     (without_key-missing g.H.KeyHash.hash_of g.K.Ord.cmp _ _ c.args.at.within _ branch.places_are c.args.key.now
@@ -33,32 +49,38 @@ returns-in_default-2-clause-map g t c =
 
 pub with_place-requires-clause-places : goal.with_place-requires-clause-places
 with_place-requires-clause-places g t c =
+    let same : places_in c.in-Branch.bitmap c.in_ok-children-in-Branch.children.items ≡ places_in c.in-Branch.bitmap c.in-Branch.children.items =
+    ap (places_of c.in-Branch.bitmap) c.in_ok-children-in-Branch.ensures in
     let branch =
-    branch_in g.H.KeyHash.hash_of g.K.Ord.cmp _ _ _ _
+    branch_in g.H.KeyHash.hash_of g.K.Ord.cmp _ _ _ _ _
     (place_is _ _ _ _ c.in-Some.is c.deref.ensures c.in-Branch.is) c.requires.placed in
-    rw c.in_ok-places-in-Branch.ensures branch.places_are
+    rw same branch.places_are
 
 pub with_place-requires-clause-some : goal.with_place-requires-clause-some
 with_place-requires-clause-some g t c =
+    let same : places_in c.in-Branch.bitmap c.in_ok-children-in-Branch.children.items ≡ places_in c.in-Branch.bitmap c.in-Branch.children.items =
+    ap (places_of c.in-Branch.bitmap) c.in_ok-children-in-Branch.ensures in
     let branch =
-    branch_in g.H.KeyHash.hash_of g.K.Ord.cmp _ _ _ _
+    branch_in g.H.KeyHash.hash_of g.K.Ord.cmp _ _ _ _ _
     (place_is _ _ _ _ c.in-Some.is c.deref.ensures c.in-Branch.is) c.requires.placed in
     let rest = rw c.in-Left.is at c.in_ok-rest-in-Branch.ensures.map in
     let bounds =
     without_key-bounds g.H.KeyHash.hash_of g.K.Ord.cmp _ _ c.args.at.within _ branch.places_are c.args.key.now
     c.requires.hashed _ c.step.ensures.place _ rest.entries_are in
-    rw c.in_ok-places-in-Branch.ensures (omega (arith, branch.many, bounds.1))
+    rw same (omega (arith, branch.many, bounds.1))
 
 pub with_place-requires-clause-fits : goal.with_place-requires-clause-fits
 with_place-requires-clause-fits g t c =
+    let same : places_in c.in-Branch.bitmap c.in_ok-children-in-Branch.children.items ≡ places_in c.in-Branch.bitmap c.in-Branch.children.items =
+    ap (places_of c.in-Branch.bitmap) c.in_ok-children-in-Branch.ensures in
     let branch =
-    branch_in g.H.KeyHash.hash_of g.K.Ord.cmp _ _ _ _
+    branch_in g.H.KeyHash.hash_of g.K.Ord.cmp _ _ _ _ _
     (place_is _ _ _ _ c.in-Some.is c.deref.ensures c.in-Branch.is) c.requires.placed in
     let rest = rw c.in-Left.is at c.in_ok-rest-in-Branch.ensures.map in
     let bounds =
     without_key-bounds g.H.KeyHash.hash_of g.K.Ord.cmp _ _ c.args.at.within _ branch.places_are c.args.key.now
     c.requires.hashed _ c.step.ensures.place _ rest.entries_are in
-    rw c.in_ok-places-in-Branch.ensures (omega (arith, bounds.0, ap length branch.entries_are, c.requires.fits))
+    rw same (omega (arith, bounds.0, ap length branch.entries_are, c.requires.fits))
 
 pub returns-then-is_eq-clause-map : goal.returns-then-is_eq-clause-map
 returns-then-is_eq-clause-map g t c =
@@ -72,19 +94,21 @@ returns-then-is_eq-clause-map g t c =
 
 pub returns-in_ok-node-in-Branch-clause-map : goal.returns-in_ok-node-in-Branch-clause-map
 returns-in_ok-node-in-Branch-clause-map g t c =
+    let same : places_in c.in-Branch.bitmap c.in_ok-children-in-Branch.children.items ≡ places_in c.in-Branch.bitmap c.in-Branch.children.items =
+    ap (places_of c.in-Branch.bitmap) c.in_ok-children-in-Branch.ensures in
     let branch =
-    branch_in g.H.KeyHash.hash_of g.K.Ord.cmp _ _ _ _
+    branch_in g.H.KeyHash.hash_of g.K.Ord.cmp _ _ _ _ _
     (place_is _ _ _ _ c.in-Some.is c.deref.ensures c.in-Branch.is) c.requires.placed in
     let rest = rw c.in-Left.is at c.in_ok-rest-in-Branch.ensures.map in
     let whole =
     without_key-below g.H.KeyHash.hash_of g.K.Ord.cmp _ _ c.args.at.within _ branch.places_are c.args.key.now
     c.requires.hashed _ c.step.ensures.place _ rest.entries_are in
-    rw (branch.entries_are, ← whole) (rw c.in_ok-places-in-Branch.ensures at c.in_ok-node-in-Branch.ensures.held)
+    rw (branch.entries_are, ← whole) (rw same at c.in_ok-node-in-Branch.ensures.held)
 
 pub returns-in_err-rest-in-Branch-clause-missed : goal.returns-in_err-rest-in-Branch-clause-missed
 returns-in_err-rest-in-Branch-clause-missed g t c = λ none.
     let branch =
-    branch_in g.H.KeyHash.hash_of g.K.Ord.cmp _ _ _ _
+    branch_in g.H.KeyHash.hash_of g.K.Ord.cmp _ _ _ _ _
     (place_is _ _ _ _ c.in-Some.is c.deref.ensures c.in-Branch.is) c.requires.placed in
     let below =
     value_at-below g.H.KeyHash.hash_of g.K.Ord.cmp _ _ c.args.at.within _ branch.places_are c.args.key.now
@@ -96,18 +120,18 @@ returns-in_err-rest-in-Branch-clause-missed g t c = λ none.
 pub returns-in_default-2-clause-missed : goal.returns-in_default-2-clause-missed
 returns-in_default-2-clause-missed g t c = λ none.
     let branch =
-    branch_in g.H.KeyHash.hash_of g.K.Ord.cmp _ _ _ _
+    branch_in g.H.KeyHash.hash_of g.K.Ord.cmp _ _ _ _ _
     (place_is _ _ _ _ c.in-Some.is c.deref.ensures c.in-Branch.is) c.requires.placed in
     let below =
     value_at-below g.H.KeyHash.hash_of g.K.Ord.cmp _ _ c.args.at.within _ branch.places_are c.args.key.now
     c.requires.hashed _ c.step.ensures.place in
     (rw c.in_default-2.is at c.in_ok-rest-in-Branch.ensures.missed) (below ∙ rw branch.entries_are at none)
 
-pub returns-in_err-places-in-Branch-clause-missed :
-    goal.returns-in_err-places-in-Branch-clause-missed
-returns-in_err-places-in-Branch-clause-missed g t c = λ none.
+pub returns-in_err-children-in-Branch-clause-missed :
+    goal.returns-in_err-children-in-Branch-clause-missed
+returns-in_err-children-in-Branch-clause-missed g t c = λ none.
     let branch =
-    branch_in g.H.KeyHash.hash_of g.K.Ord.cmp _ _ _ _
+    branch_in g.H.KeyHash.hash_of g.K.Ord.cmp _ _ _ _ _
     (place_is _ _ _ _ c.in-Some.is c.deref.ensures c.in-Branch.is) c.requires.placed in
     let below =
     value_at-below g.H.KeyHash.hash_of g.K.Ord.cmp _ _ c.args.at.within _ branch.places_are c.args.key.now
@@ -117,7 +141,7 @@ returns-in_err-places-in-Branch-clause-missed g t c = λ none.
 pub returns-in_err-node-in-Branch-clause-missed : goal.returns-in_err-node-in-Branch-clause-missed
 returns-in_err-node-in-Branch-clause-missed g t c = λ none.
     let branch =
-    branch_in g.H.KeyHash.hash_of g.K.Ord.cmp _ _ _ _
+    branch_in g.H.KeyHash.hash_of g.K.Ord.cmp _ _ _ _ _
     (place_is _ _ _ _ c.in-Some.is c.deref.ensures c.in-Branch.is) c.requires.placed in
     let below =
     value_at-below g.H.KeyHash.hash_of g.K.Ord.cmp _ _ c.args.at.within _ branch.places_are c.args.key.now
@@ -127,7 +151,7 @@ returns-in_err-node-in-Branch-clause-missed g t c = λ none.
 pub returns-in_ok-node-in-Branch-clause-missed : goal.returns-in_ok-node-in-Branch-clause-missed
 returns-in_ok-node-in-Branch-clause-missed g t c = λ none.
     let branch =
-    branch_in g.H.KeyHash.hash_of g.K.Ord.cmp _ _ _ _
+    branch_in g.H.KeyHash.hash_of g.K.Ord.cmp _ _ _ _ _
     (place_is _ _ _ _ c.in-Some.is c.deref.ensures c.in-Branch.is) c.requires.placed in
     let below =
     value_at-below g.H.KeyHash.hash_of g.K.Ord.cmp _ _ c.args.at.within _ branch.places_are c.args.key.now

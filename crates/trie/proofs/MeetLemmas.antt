@@ -1,0 +1,450 @@
+-- How two places of one prefix meet, and what they become.
+use Rattle.std.proofs.Common.{◌≡◌, ℕ, ◌+◌, ◌<◌, ◌≤◌, ◌^◌, Bool, true, false, Option, Some, None, Vec, List, [], ◌∷◌, ◌++◌, cond, length, set, take, get_or, suc, zero, refl, sym, ap, ◌∙◌, subst, arith, length-append, sum_by, inl, inr}
+use Rattle.std.specs.Bool.{⊤}
+use Rattle.std.specs.List.{AllByRecursion, flat_map}
+use Rattle.std.specs.Option.{MatchOption}
+use Rattle.std.specs.Ordering.{is_eq}
+use Rattle.std.specs.declared.alloc.Global.{Global}
+use Rattle.std.specs.declared.cmp.Ordering.{Ordering}
+use Rattle.std.specs.declared.sync.Arc.{Arc}
+use Rattle.std.proofs.lemmas.Bool.{cases_lt}
+use Rattle.std.proofs.lemmas.Cmp.{tied_itself}
+use Rattle.std.proofs.lemmas.List.{length-map}
+use Rattle.trie.specs.Digits.{digit, digit_count, digit_order, digits, first_digits, place_count}
+use Rattle.trie.specs.Entries.{value_at}
+use Rattle.trie.specs.Holding.{ArePlaces, node_len, pairs_of}
+use Rattle.trie.specs.Merging.{blended, BranchesMeet, BucketsMeet, CanBlend, IsMerged, laid, LeafMeets, Meet, MergeEach, Merges, turned, Turned}
+use Rattle.trie.specs.Tree.{AreChildren, entries_in, IsNode, IsPlace, StartsWith, values}
+use Rattle.trie.specs.declared.node.Node.{Node}
+use Rattle.trie.specs.declared.node.Node.TheVariants.{Leaf, Bucket, Branch}
+use Rattle.trie.proofs.BucketsLemmas.{blended_none, blended_some, found_same}
+use Rattle.trie.proofs.DigitsLemmas.{get_or-digits, length-digits, starts_with-at, starts_with-front, starts_with-next}
+use Rattle.trie.proofs.EntriesLemmas.{with_pair-longer, with_pair-most}
+use Rattle.trie.proofs.ListsLemmas.{all-unmap, flat_map-around}
+use Rattle.trie.proofs.MapsLemmas.{digit_total, HaveHashes, is_Equal, value-with_pair}
+use Rattle.trie.proofs.NodesLemmas.{branch_holds, node_len-is, total_lens}
+use Rattle.trie.proofs.DenseLemmas.{length-places_of}
+use Rattle.trie.specs.Dense.{places_in}
+use Rattle.trie.proofs.OrderLemmas.{value_at-order}
+use Rattle.trie.proofs.PlacesLemmas.{child_at, value_at-below}
+use Rattle.trie.proofs.TreeLemmas.{entries-Bucket, IsNode-Bucket}
+use Rattle.trie.proofs.VariantsLemmas.{branch_in, bucket_in, leaf_in}
+
+read_written : {X : Type 0} (zs : List X) (n : ℕ) (z d : X) → n < length zs → get_or (set zs n z) n d ≡ z
+read_written [] n z d lt = absurd (omega arith)
+read_written (y ∷ zs) zero z d lt = refl
+read_written (y ∷ zs) (suc n) z d lt = read_written zs n z d (omega arith)
+
+read_other : {X : Type 0} (zs : List X) (n k : ℕ) (z d : X) → (k ≡ n → ⊥) → get_or (set zs n z) k d ≡ get_or zs k d
+read_other [] n k z d other = refl
+read_other (y ∷ zs) zero zero z d other = absurd (other refl)
+read_other (y ∷ zs) zero (suc k) z d other = refl
+read_other (y ∷ zs) (suc n) zero z d other = refl
+read_other (y ∷ zs) (suc n) (suc k) z d other = read_other zs n k z d (λ e. other (ap suc e))
+
+-- a prefix that digits begin with is their beginning
+starts_is : (prefix ds : List ℕ) → StartsWith prefix ds → prefix ≡ take (length prefix) ds
+starts_is [] ds s = refl
+starts_is (p ∷ prefix) [] s = absurd s
+starts_is (p ∷ prefix) (d ∷ ds) s = let rest = starts_is prefix ds s.1 in rw (s.0, ← rest) refl
+
+starts_length : (prefix ds : List ℕ) → StartsWith prefix ds → length prefix ≤ length ds
+starts_length [] ds s = omega arith
+starts_length (p ∷ prefix) [] s = absurd s
+starts_length (p ∷ prefix) (d ∷ ds) s = let rest = starts_length prefix ds s.1 in omega arith
+
+-- a blend whose arguments are turned
+blended_turned : {V : Type 0} (f : V → V → V) (x : Option V) (y : V) →
+    Some (laid (turned true f) x y) ≡ blended f (Some y) x
+blended_turned f None y = refl
+blended_turned f (Some x) y = refl
+
+pub one_place : {X A : Type 0} (f : X → List A) (xs : List X) (k : ℕ) (d : X) → k < length xs →
+    length (f (get_or xs k d)) ≤ length (flat_map f xs)
+one_place f xs k d lt =
+    rw (flat_map-around f xs k d lt, length-append, length-append) (omega arith)
+
+-- sums of lengths, place by place
+more_each : {X A : Type 0} (f : X → List A) (d : X) (xs zs : List X) → length xs ≡ length zs →
+    ((k : ℕ) → k < length xs → length (f (get_or xs k d)) ≤ length (f (get_or zs k d))) →
+    length (flat_map f xs) ≤ length (flat_map f zs)
+more_each f d [] [] e each = omega arith
+more_each f d [] (z ∷ zs) e each = absurd (omega arith)
+more_each f d (x ∷ xs) [] e each = absurd (omega arith)
+more_each f d (x ∷ xs) (z ∷ zs) e each =
+    let here : length (f x) ≤ length (f z) = each 0 (omega arith) in
+    let rest = more_each f d xs zs (omega arith) (λ k lt. each (suc k) (omega arith)) in
+    omega (arith, length-append (f x) (flat_map f xs), length-append (f z) (flat_map f zs))
+
+most_each : {X A : Type 0} (f : X → List A) (d : X) (xs ys zs : List X) → length xs ≡ length zs → length ys ≡ length zs →
+    ((k : ℕ) → k < length zs → length (f (get_or zs k d)) ≤ length (f (get_or xs k d)) + length (f (get_or ys k d))) →
+    length (flat_map f zs) ≤ length (flat_map f xs) + length (flat_map f ys)
+most_each f d xs ys [] e g each = omega arith
+most_each f d [] ys (z ∷ zs) e g each = absurd (omega arith)
+most_each f d (x ∷ xs) [] (z ∷ zs) e g each = absurd (omega arith)
+most_each f d (x ∷ xs) (y ∷ ys) (z ∷ zs) e g each =
+    let here : length (f z) ≤ length (f x) + length (f y) = each 0 (omega arith) in
+    let rest = most_each f d xs ys zs (omega arith) (omega arith) (λ k lt. each (suc k) (omega arith)) in
+    omega (arith, length-append (f x) (flat_map f xs), length-append (f y) (flat_map f ys), length-append (f z) (flat_map f zs))
+
+-- children, place by place
+children_each : {X : Type 0} (P : X → List ℕ → Type 0) (prefix : List ℕ) (i : ℕ) (places : List (Option X)) →
+    ((k : ℕ) → k < length places → (x : X) → get_or places k None ≡ Some x → P x (prefix ++ (i + k) ∷ [])) →
+    AreChildren P prefix i places
+children_each P prefix i [] each = tt
+children_each P prefix i (None ∷ places) each =
+    children_each P prefix (i + 1) places (λ k lt x is.
+    let at : i + suc k ≡ i + 1 + k = omega arith in rw at at (each (suc k) (omega arith) x is))
+children_each P prefix i (Some x ∷ places) each =
+    let here : i + 0 ≡ i = omega arith in (
+      rw here at (each 0 (omega arith) x refl),
+      children_each P prefix (i + 1) places (λ k lt x is.
+          let at : i + suc k ≡ i + 1 + k = omega arith in rw at at (each (suc k) (omega arith) x is)),
+    )
+
+tied : {K : Type 0} (hash : K → ℕ) (cmp : K → K → Ordering) (h : HaveHashes hash cmp) (k : K) →
+    is_eq (digit_order hash cmp k k) ≡ true
+tied hash cmp h k = ap is_eq (tied_itself (digit_total hash cmp h) k)
+
+module _ {K V : Type 0} (hash : K → ℕ) (cmp : K → K → Ordering) (h : HaveHashes hash cmp) where
+  module _ (Asks : V → V → Type 0) (blend : V → V → V) (depth : ℕ) (first second : Option (Node K V)) where
+    pub alone_first : first ≡ None → Merges hash cmp blend depth first second second
+    alone_first is = rw is (record {
+      at = λ prefix deep fp sp. record {
+        placed = sp;
+        values = λ key s. refl;
+        first_in = omega arith;
+        most = omega arith;
+      };
+    })
+
+    pub alone_second : second ≡ None → Merges hash cmp blend depth first second first
+    alone_second is = rw is (record {
+      at = λ prefix deep fp sp. record {
+        placed = fp;
+        values = λ key s. sym (blended_none blend (value_at (digit_order hash cmp) (entries_in first) key));
+        first_in = omega arith;
+        most = omega arith;
+      };
+    })
+
+    -- the prefix of a leaf
+    leaf_prefix : (place : Option (Node K V)) (pair : Arc (K × V) Global) → place ≡ Some (Leaf pair) →
+        (prefix : List ℕ) → length prefix ≡ depth → IsPlace hash cmp place prefix →
+        prefix ≡ first_digits (hash pair.value.0) depth
+    leaf_prefix place pair is prefix deep m =
+        rw (← deep) (starts_is prefix (digits (hash pair.value.0)) (leaf_in hash cmp place prefix pair is m).starts)
+
+    module _ (m : Meet hash cmp Asks depth first second) where
+      module _ (pair : Arc (K × V) Global) (some : 0 < length (entries_in first)) (is : second ≡ Some (Leaf pair)) where
+        second_asked : (o : Option V) → o ≡ value_at (digit_order hash cmp) (entries_in first) pair.value.0 →
+            MatchOption o ⊤ (λ v. Turned false Asks v pair.value.1)
+        second_asked None found = tt
+        second_asked (Some x) found =
+            let leaf = leaf_in hash cmp second m.prefix pair is m.second_placed in
+            let there : value_at (digit_order hash cmp) (entries_in second) pair.value.0 ≡ Some pair.value.1 =
+            rw (leaf.entries_are, tied hash cmp h pair.value.0) refl in
+            m.can pair.value.0 leaf.starts x pair.value.1 (sym found) there
+
+        second_values : (q : K) → (b : Bool) → is_eq ((digit_order hash cmp) q pair.value.0) ≡ b →
+            cond b (Some (laid blend (value_at (digit_order hash cmp) (entries_in first) pair.value.0) pair.value.1)) (value_at (digit_order hash cmp) (entries_in first) q)
+            ≡ blended blend (value_at (digit_order hash cmp) (entries_in first) q) (cond b (Some pair.value.1) None)
+        second_values q true e =
+            rw (found_same (digit_total hash cmp h) q pair.value.0 (is_Equal _ e) (entries_in first))
+            (blended_some blend (value_at (digit_order hash cmp) (entries_in first) pair.value.0) pair.value.1)
+        second_values q false e = sym (blended_none blend (value_at (digit_order hash cmp) (entries_in first) q))
+
+        pub leaf_second : LeafMeets hash cmp Asks blend depth first second first pair.value false
+        leaf_second =
+            let leaf = leaf_in hash cmp second m.prefix pair is m.second_placed in
+            let prefix_is = leaf_prefix second pair is m.prefix m.deep m.second_placed in
+            let one : length (entries_in second) ≡ 1 = ap length leaf.entries_are in
+            let low : length m.prefix ≤ digit_count = omega (arith, starts_length _ _ leaf.starts, length-digits (hash pair.value.0)) in
+            let v = laid blend (value_at (digit_order hash cmp) (entries_in first) pair.value.0) pair.value.1 in
+            record {
+              low = omega (arith, low, m.deep);
+              placed = rw prefix_is at m.first_placed;
+              room = omega (arith, m.room, one);
+              can = second_asked _ refl;
+              some_first = some;
+              some_second = omega (arith, one);
+              become = λ n held. record {
+                at = λ prefix deep fp sp.
+                    let longer = with_pair-longer (digit_order hash cmp) pair.value.0 v (entries_in first) in
+                    let most = (with_pair-most (digit_order hash cmp) pair.value.0 v (entries_in first)).1 in
+                    record {
+                      placed = rw (leaf_prefix second pair is prefix deep sp) held.placed;
+                      values = λ q s. rw (held.entries_are, leaf.entries_are)
+                          (value-with_pair (digit_total hash cmp h) (entries_in first) pair.value.0 v q
+                          ∙ second_values q (is_eq ((digit_order hash cmp) q pair.value.0)) refl);
+                      first_in = omega (arith, ap length held.entries_are, longer);
+                      most = omega (arith, ap length held.entries_are, most, one);
+                    };
+              };
+            }
+
+      module _ (pair : Arc (K × V) Global) (some : 0 < length (entries_in second)) (is : first ≡ Some (Leaf pair)) where
+        first_asked : (o : Option V) → o ≡ value_at (digit_order hash cmp) (entries_in second) pair.value.0 →
+            MatchOption o ⊤ (λ v. Turned true Asks v pair.value.1)
+        first_asked None found = tt
+        first_asked (Some x) found =
+            let leaf = leaf_in hash cmp first m.prefix pair is m.first_placed in
+            let there : value_at (digit_order hash cmp) (entries_in first) pair.value.0 ≡ Some pair.value.1 =
+            rw (leaf.entries_are, tied hash cmp h pair.value.0) refl in
+            m.can pair.value.0 leaf.starts pair.value.1 x there (sym found)
+
+        first_values : (q : K) → (b : Bool) → is_eq ((digit_order hash cmp) q pair.value.0) ≡ b →
+            cond b (Some (laid (turned true blend) (value_at (digit_order hash cmp) (entries_in second) pair.value.0) pair.value.1)) (value_at (digit_order hash cmp) (entries_in second) q)
+            ≡ blended blend (cond b (Some pair.value.1) None) (value_at (digit_order hash cmp) (entries_in second) q)
+        first_values q true e =
+            rw (found_same (digit_total hash cmp h) q pair.value.0 (is_Equal _ e) (entries_in second))
+            (blended_turned blend (value_at (digit_order hash cmp) (entries_in second) pair.value.0) pair.value.1)
+        first_values q false e = refl
+
+        pub leaf_first : LeafMeets hash cmp Asks blend depth first second second pair.value true
+        leaf_first =
+            let leaf = leaf_in hash cmp first m.prefix pair is m.first_placed in
+            let prefix_is = leaf_prefix first pair is m.prefix m.deep m.first_placed in
+            let one : length (entries_in first) ≡ 1 = ap length leaf.entries_are in
+            let low : length m.prefix ≤ digit_count = omega (arith, starts_length _ _ leaf.starts, length-digits (hash pair.value.0)) in
+            let v = laid (turned true blend) (value_at (digit_order hash cmp) (entries_in second) pair.value.0) pair.value.1 in
+            record {
+              low = omega (arith, low, m.deep);
+              placed = rw prefix_is at m.second_placed;
+              room = omega (arith, m.room, one);
+              can = first_asked _ refl;
+              some_first = omega (arith, one);
+              some_second = some;
+              become = λ n held. record {
+                at = λ prefix deep fp sp.
+                    let most = with_pair-most (digit_order hash cmp) pair.value.0 v (entries_in second) in
+                    record {
+                      placed = rw (leaf_prefix first pair is prefix deep fp) held.placed;
+                      values = λ q s. rw (held.entries_are, leaf.entries_are)
+                          (value-with_pair (digit_total hash cmp h) (entries_in second) pair.value.0 v q
+                          ∙ first_values q (is_eq ((digit_order hash cmp) q pair.value.0)) refl);
+                      first_in = omega (arith, ap length held.entries_are, most.0, one);
+                      most = omega (arith, ap length held.entries_are, most.1, one);
+                    };
+              };
+            }
+
+      -- a key that is found has the prefix of the others
+      found_below : (prefix : List ℕ) (es : List (K × V)) (key : K) (x : V) →
+          AllByRecursion (λ e. StartsWith prefix (digits (hash e.0))) es → value_at cmp es key ≡ Some x →
+          StartsWith prefix (digits (hash key))
+      found_below prefix [] key x below found = absurd (cc)
+      found_below prefix (e ∷ es) key x below found =
+          found_below_step (is_eq (cmp key e.0)) refl found (λ f. found_below prefix es key x below.1 f)
+        where
+          found_below_step : (b : Bool) → is_eq (cmp key e.0) ≡ b → cond b (Some e.1) (value_at cmp es key) ≡ Some x →
+              (value_at cmp es key ≡ Some x → StartsWith prefix (digits (hash key))) → StartsWith prefix (digits (hash key))
+          found_below_step true is f rest = rw (h.same_hash key e.0 (is_Equal _ is)) below.0
+          found_below_step false is f rest = rest f
+
+      module _ (es fs : Vec (Arc (K × V) Global) Global) (is : first ≡ Some (Bucket es)) (also : second ≡ Some (Bucket fs)) where
+        pub buckets_meet : BucketsMeet hash cmp Asks blend depth first second (pairs_of es.items) (pairs_of fs.items)
+        buckets_meet =
+            let a = bucket_in hash cmp first m.prefix es is m.first_placed in
+            let b = bucket_in hash cmp second m.prefix fs also m.second_placed in
+            let agree = value_at-order hash cmp h.same_hash in
+            record {
+              low = omega (arith, a.full, m.deep);
+              first_rises = a.rising;
+              second_rises = b.rising;
+              can = record {
+                can = λ key x y fx fy.
+                    m.can key (found_below m.prefix (pairs_of es.items) key x a.one_hash fx) x y
+                    (rw a.entries_are (agree key (pairs_of es.items) ∙ fx)) (rw b.entries_are (agree key (pairs_of fs.items) ∙ fy));
+              };
+              some_first = omega (arith, ap length a.entries_are, a.many, length-map es.items (λ p. p.value));
+              some_second = omega (arith, ap length b.entries_are, b.many, length-map fs.items (λ p. p.value));
+              become = λ place made. record {
+                at = λ prefix deep fp sp.
+                    let pairs = made.0 in
+                    let both = made.2 in
+                    let a = bucket_in hash cmp first prefix es is fp in
+                    let b = bucket_in hash cmp second prefix fs also sp in
+                    let held = entries-Bucket pairs in
+                    rw made.1 (record {
+                      placed = subst (λ (F : List ℕ → Type 0). F prefix) (sym (IsNode-Bucket hash cmp pairs)) (
+                        a.full,
+                        omega (arith, a.many, both.merged.first, length-map pairs.items (λ p. p.value), length-map es.items (λ p. p.value)),
+                        both.rising,
+                        all-unmap (λ p. p.value) (λ e. StartsWith prefix (digits (hash e.0))) pairs.items
+                            (both.below prefix a.one_hash b.one_hash),
+                      );
+                      values = λ q s. rw (held, a.entries_are, b.entries_are, agree q (pairs_of pairs.items), agree q (pairs_of es.items), agree q (pairs_of fs.items))
+                          (both.merged.values q);
+                      first_in = omega (arith, ap length held, ap length a.entries_are, both.merged.first);
+                      most = omega (arith, ap length held, ap length a.entries_are, ap length b.entries_are, both.merged.most);
+                    });
+              };
+            }
+
+      -- a value below a place is the value in the branch
+      value_in_place : (prefix : List ℕ) (places : List (Option (Node K V))) → ArePlaces hash cmp prefix places →
+          (k : ℕ) (key : K) → StartsWith (prefix ++ k ∷ []) (digits (hash key)) →
+          value_at (digit_order hash cmp) (entries_in (get_or places k None)) key ≡ value_at (digit_order hash cmp) (flat_map entries_in places) key
+      value_in_place prefix places are k key s =
+          let front = starts_with-front prefix (k ∷ []) (digits (hash key)) s in
+          let prefix_is = starts_is prefix (digits (hash key)) front in
+          let low : length prefix ≤ digit_count = omega (arith, are.short) in
+          let digit_is : k ≡ digit (hash key) (length prefix) =
+          sym (starts_with-at prefix k (digits (hash key)) s) ∙ get_or-digits (hash key) (length prefix) are.short in
+          value_at-below hash cmp (hash key) (length prefix) low places (rw prefix_is at are) key refl
+          (get_or places k None) (ap (λ n. get_or places n None) digit_is)
+
+      module _ (p q : ℕ) (xs ys : Vec (Arc (Node K V) Global) Global) (n o : ℕ) (is : first ≡ Some (Branch n p xs)) (also : second ≡ Some (Branch o q ys)) where
+        branches_fit : (zs : List (Option (Node K V))) → length zs ≡ place_count →
+            MergeEach hash cmp Asks blend depth first second place_count (places_in p xs.items) (places_in q ys.items) zs →
+            (prefix : List ℕ) → length prefix ≡ depth → IsPlace hash cmp first prefix → IsPlace hash cmp second prefix →
+            record {
+              children : AreChildren (IsNode hash cmp) prefix 0 zs;
+              first_in : length (flat_map entries_in (places_in p xs.items)) ≤ length (flat_map entries_in zs);
+              most : length (flat_map entries_in zs) ≤ length (flat_map entries_in (places_in p xs.items)) + length (flat_map entries_in (places_in q ys.items));
+            }
+        branches_fit zs wide each prefix deep fp sp =
+            let a = branch_in hash cmp first prefix n p xs is fp in
+            let b = branch_in hash cmp second prefix o q ys also sp in
+            let at = λ (k : ℕ) (lt : k < place_count). (each k lt).at (prefix ++ k ∷ []) (omega (arith, length-append prefix (k ∷ []), deep))
+            (child_at hash cmp prefix 0 k k (omega arith) (places_in p xs.items) a.places_are.children)
+            (child_at hash cmp prefix 0 k k (omega arith) (places_in q ys.items) b.places_are.children) in
+            record {
+              children = children_each (IsNode hash cmp) prefix 0 zs (λ k lt x x_is.
+                  let here : 0 + k ≡ k = omega arith in
+                  rw here (rw x_is at (at k (rw wide at lt)).placed));
+              first_in = more_each entries_in None (places_in p xs.items) zs (a.places_are.wide ∙ sym wide)
+                  (λ k lt. (at k (rw a.places_are.wide at lt)).first_in);
+              most = most_each entries_in None (places_in p xs.items) (places_in q ys.items) zs (a.places_are.wide ∙ sym wide) (b.places_are.wide ∙ sym wide)
+                  (λ k lt. (at k (rw wide at lt)).most);
+            }
+
+        pub branches_meet : BranchesMeet hash cmp Asks blend depth first second (places_in p xs.items) (places_in q ys.items)
+        branches_meet =
+            let a = branch_in hash cmp first m.prefix n p xs is m.first_placed in
+            let b = branch_in hash cmp second m.prefix o q ys also m.second_placed in
+            let first_len = ap length a.entries_are in
+            let second_len = ap length b.entries_are in
+            record {
+              low = omega (arith, m.deep, a.places_are.short);
+              first_wide = a.places_are.wide;
+              second_wide = b.places_are.wide;
+              children = λ k lt. record {
+                prefix = m.prefix ++ k ∷ [];
+                deep = omega (arith, length-append m.prefix (k ∷ []), m.deep);
+                first_placed = child_at hash cmp m.prefix 0 k k (omega arith) (places_in p xs.items) a.places_are.children;
+                second_placed = child_at hash cmp m.prefix 0 k k (omega arith) (places_in q ys.items) b.places_are.children;
+                room =
+                    let one = one_place entries_in (places_in p xs.items) k None (rw (← a.places_are.wide) at lt) in
+                    let other = one_place entries_in (places_in q ys.items) k None (rw (← b.places_are.wide) at lt) in
+                    omega (arith, one, other, m.room, first_len, second_len);
+                can = λ key s x y fx fy.
+                    m.can key (starts_with-front m.prefix (k ∷ []) (digits (hash key)) s) x y
+                    (rw a.entries_are (sym (value_in_place m.prefix (places_in p xs.items) a.places_are k key s) ∙ fx))
+                    (rw b.entries_are (sym (value_in_place m.prefix (places_in q ys.items) b.places_are k key s) ∙ fy));
+              };
+              first_len = first_len;
+              second_len = second_len;
+              some_first = omega (arith, first_len, a.many);
+              some_second = omega (arith, second_len, b.many);
+              fits = λ bitmap children dense each.
+                  let wide = length-places_of bitmap (values children) in
+                  let fit = branches_fit (places_in bitmap children) wide each m.prefix m.deep m.first_placed m.second_placed in
+                  omega (arith, total_lens hash cmp m.prefix bitmap children dense fit.children, fit.most, m.room, first_len, second_len);
+              become = λ bitmap children dense each place made. record {
+                at = λ prefix deep fp sp.
+                    let a = branch_in hash cmp first prefix n p xs is fp in
+                    let b = branch_in hash cmp second prefix o q ys also sp in
+                    let wide = length-places_of bitmap (values children.items) in
+                    let fit = branches_fit (places_in bitmap children.items) wide each prefix deep fp sp in
+                    let total = total_lens hash cmp prefix bitmap children.items dense fit.children in
+                    let are : ArePlaces hash cmp prefix (places_in bitmap children.items) = record { short = a.places_are.short; wide = wide; children = fit.children } in
+                    let many : 2 ≤ sum_by node_len (values children.items) = omega (arith, total, fit.first_in, a.many) in
+                    let holds = branch_holds hash cmp prefix bitmap children dense are (sum_by node_len (values children.items)) total many
+                    (Branch (sum_by node_len (values children.items)) bitmap children) refl in
+                    rw made (record {
+                      placed = holds.placed;
+                      values = λ key s.
+                          let k = digit (hash key) (length prefix) in
+                          let longer : StartsWith (prefix ++ k ∷ []) (digits (hash key)) =
+                          starts_with-next prefix k (digits (hash key)) s (omega (arith, a.places_are.short, length-digits (hash key)))
+                          (get_or-digits (hash key) (length prefix) a.places_are.short) in
+                          let child = (each k (omega arith)).at (prefix ++ k ∷ []) (omega (arith, length-append prefix (k ∷ []), deep))
+                          (child_at hash cmp prefix 0 k k (omega arith) (places_in p xs.items) a.places_are.children)
+                          (child_at hash cmp prefix 0 k k (omega arith) (places_in q ys.items) b.places_are.children) in
+                          rw (
+                            holds.entries_are,
+                            a.entries_are,
+                            b.entries_are,
+                            ← value_in_place prefix (places_in bitmap children.items) are k key longer,
+                            ← value_in_place prefix (places_in p xs.items) a.places_are k key longer,
+                            ← value_in_place prefix (places_in q ys.items) b.places_are k key longer,
+                          ) (child.values key longer);
+                      first_in = omega (arith, ap length holds.entries_are, ap length a.entries_are, fit.first_in);
+                      most = omega (arith, ap length holds.entries_are, ap length a.entries_are, ap length b.entries_are, fit.most);
+                    });
+              };
+            }
+
+      pub bucket_and_branch : (es : Vec (Arc (K × V) Global) Global) (n q : ℕ) (ys : Vec (Arc (Node K V) Global) Global) →
+          first ≡ Some (Bucket es) → second ≡ Some (Branch n q ys) → ⊥
+      bucket_and_branch es n q ys is also =
+          let a = bucket_in hash cmp first m.prefix es is m.first_placed in
+          let b = branch_in hash cmp second m.prefix n q ys also m.second_placed in
+          absurd (omega (arith, a.full, b.places_are.short))
+
+      pub branch_and_bucket : (n p : ℕ) (xs : Vec (Arc (Node K V) Global) Global) (fs : Vec (Arc (K × V) Global) Global) →
+          first ≡ Some (Branch n p xs) → second ≡ Some (Bucket fs) → ⊥
+      branch_and_bucket n p xs fs is also =
+          let a = branch_in hash cmp first m.prefix n p xs is m.first_placed in
+          let b = bucket_in hash cmp second m.prefix fs also m.second_placed in
+          absurd (omega (arith, b.full, a.places_are.short))
+
+      pub some_first : (n : Node K V) → first ≡ Some n → 0 < length (entries_in first)
+      some_first n is = rw is (node_len-is hash cmp n m.prefix (rw is at m.first_placed)).1
+
+      pub some_second : (n : Node K V) → second ≡ Some n → 0 < length (entries_in second)
+      some_second n is = rw is (node_len-is hash cmp n m.prefix (rw is at m.second_placed)).1
+
+module _ {K V : Type 0} (hash : K → ℕ) (cmp : K → K → Ordering) where
+  -- one place more
+  pub each_more : (Asks : V → V → Type 0) (blend : V → V → V) (depth : ℕ) (first second : Option (Node K V)) (n : ℕ)
+      (xs ys zs : List (Option (Node K V))) (z : Option (Node K V)) → n < length zs →
+      MergeEach hash cmp Asks blend depth first second n xs ys zs →
+      Merges hash cmp blend (depth + 1) (get_or xs n None) (get_or ys n None) z →
+      MergeEach hash cmp Asks blend depth first second (n + 1) xs ys (set zs n z)
+  each_more Asks blend depth first second n xs ys zs z within each here k lt =
+      elim (cases_lt k n) [
+        | inl before ↦
+            let other : k ≡ n → ⊥ = λ (e : k ≡ n). absurd (omega arith) in
+            rw (read_other zs n k z None other) (each k before)
+        | inr after ↦
+            let last : k ≡ n = omega arith in
+            rw (last, read_written zs n z None within) here
+      ]
+
+  -- two whole tries
+  pub roots_meet : (Asks : V → V → Type 0) (first second : Option (Node K V)) (es fs : List (K × V)) →
+      entries_in first ≡ es → entries_in second ≡ fs → IsPlace hash cmp first [] → IsPlace hash cmp second [] →
+      length es + length fs < 2 ^ 64 → CanBlend (digit_order hash cmp) Asks es fs →
+      Meet hash cmp Asks 0 first second
+  roots_meet Asks first second es fs is also placed other room can = record {
+    prefix = [];
+    deep = refl;
+    first_placed = placed;
+    second_placed = other;
+    room = omega (arith, ap length is, ap length also, room);
+    can = λ key s x y fx fy. can.can key x y (rw is at fx) (rw also at fy);
+  }
+
+  pub roots_merged : (blend : V → V → V) (first second third : Option (Node K V)) (es fs : List (K × V)) →
+      entries_in first ≡ es → entries_in second ≡ fs → IsPlace hash cmp first [] → IsPlace hash cmp second [] →
+      Merges hash cmp blend 0 first second third → IsMerged (digit_order hash cmp) blend es fs (entries_in third)
+  roots_merged blend first second third es fs is also placed other merges =
+      let merged = merges.at [] refl placed other in
+      record {
+        values = λ key. rw (← is, ← also) (merged.values key tt);
+        first = omega (arith, merged.first_in, ap length is);
+        most = omega (arith, merged.most, ap length is, ap length also);
+      }

@@ -1,0 +1,7 @@
+use Rattle.trie.proofs.MapRisingLemmas.{piece_rises}
+use Rattle.trie.proofs.split.Piece.keys_rise.Goals as goal
+
+pub returns : goal.returns
+returns g c =
+    rw (← c.self.view_is)
+    (piece_rises g.H.KeyHash.hash_of g.K.Ord.cmp c.self.inside.node.value c.self.invariant)

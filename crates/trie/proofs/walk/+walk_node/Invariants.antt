@@ -1,0 +1,9 @@
+use Rattle.std.proofs.Common.{take}
+use Rattle.std.specs.List.{flat_map}
+use Rattle.trie.specs.Tree.{entries, values}
+use Rattle.trie.specs.Walks.{TakesAll}
+use Rattle.trie.proofs.walk.+walk_node.Given as goal
+
+abbrev pub invariant-loop-child : goal.invariant-loop-child
+invariant-loop-child g l =
+    TakesAll g.W.Visitor.takes l.initial.visitor (flat_map entries (take l.child-index (values l.child-items))) l.visitor

@@ -1,0 +1,80 @@
+//! Cutting a map into pieces.
+use super::hashes::filled;
+use crate::{Cutting, MAX_DEPTH, Piece, Visitor};
+use cells::{Cell, Plain};
+use std::alloc::{AllocError, Global};
+use std::process::Abort;
+use std::test::Fail;
+
+/// How many entries were lent.
+#[derive(Drop)]
+struct Counter {
+    number: u64,
+}
+
+impl Visitor<Cell, Cell> for Counter {
+    ghost use Rattle.std.specs.Prelude.{⊤};
+
+    ghost takes = { λ _ _ _ _. ⊤ };
+
+    fn visit(&mut self, _key: &Cell, _value: &Cell) -> Result<(), AllocError> {
+        self.number = self.number.wrapping_add(1);
+        Ok(())
+    }
+}
+
+/// How many entries a piece lends, one by one and as a list.
+fn lent(
+    rt: &impl Abort,
+    alloc: Global,
+    piece: &Piece<Cell, Cell, Plain>,
+) -> Result<u64, AllocError> {
+    let mut lent = Counter { number: 0 };
+    piece.walk(&mut lent)?;
+    piece.keys_rise();
+    assert_eq!(*rt; piece.entries(alloc)?.len() as u64, lent.number);
+    Ok(lent.number)
+}
+
+/// The keys 1, 17, 33 and 2, by depth and by the number that is small: how many pieces there are.
+#[test]
+fn pieces_of_four_keys(rt: HostRuntime) -> Result<(), Fail> {
+    let alloc = rt.alloc();
+    let map = filled::<Plain>(&rt, alloc, &[(1, 1), (17, 1), (33, 1), (2, 1)])?;
+    let rows = [
+        (0, 0, 1),
+        (1, 0, 2),
+        (2, 0, 4),
+        (MAX_DEPTH, 0, 4),
+        (MAX_DEPTH, 3, 2),
+    ];
+    for (depth, small, number) in &rows {
+        let cutting = Cutting {
+            depth: *depth,
+            small: *small,
+        };
+        let pieces = map.split(alloc, &cutting)?;
+        assert_eq!(rt; pieces.len(), *number);
+        let mut all: u64 = 0;
+        for piece in &pieces {
+            all = all.wrapping_add(lent(&rt, alloc, piece)?);
+        }
+        assert_eq!(rt; all, 4);
+    }
+    Ok(())
+}
+
+/// A whole map lends its entries, too, and one without entries has no piece.
+#[test]
+fn whole_maps(rt: HostRuntime) -> Result<(), Fail> {
+    let alloc = rt.alloc();
+    let map = filled::<Plain>(&rt, alloc, &[(1, 1), (17, 1)])?;
+    let none = filled::<Plain>(&rt, alloc, &[])?;
+    let mut lent = Counter { number: 0 };
+    map.walk(&mut lent)?;
+    none.walk(&mut lent)?;
+    assert_eq!(rt; lent.number, 2);
+    let cutting = Cutting { depth: 0, small: 0 };
+    assert_eq!(rt; none.split(alloc, &cutting)?.len(), 0);
+    Ok(())
+}

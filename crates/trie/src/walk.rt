@@ -1,0 +1,57 @@
+//! Lending the entries of a map one after another, with no list of them.
+ghost use Rattle.std.specs.Prelude.{OnOk};
+ghost use Rattle.trie.specs.Holding.{pairs_of};
+ghost use Rattle.trie.specs.Tree.{entries};
+ghost use Rattle.trie.specs.Walks.{TakesAll};
+
+use crate::node::Node;
+use std::alloc::AllocError;
+use std::sync::Arc;
+
+/// What is lent the entries of a map, one after another.
+pub trait Visitor<K, V> {
+    /// What it is to take an entry: what the visitor was, the key, the value, and what it is then.
+    ghost takes: { Self → K → V → Self → Type 0 };
+
+    /// Takes an entry. An error, for want of memory, ends the walk.
+    fn visit(&mut self, key: &K, value: &V) -> Result<(), AllocError>
+        ensures { OnOk result (takes self.old key.now value.now self.new) };
+}
+
+/// Lends the entries of the node, in digit order.
+pub fn walk_node<K, V, W: Visitor<K, V>>(
+    node: &Arc<Node<K, V>>,
+    visitor: &mut W,
+) -> Result<(), AllocError>
+    ensures { OnOk result (TakesAll W.takes visitor.old (entries node.now.value) visitor.new) }
+{
+    match &**node {
+        Node::Leaf(pair) => {
+            visitor.visit(&pair.0, &pair.1)?;
+            Ok(())
+        }
+        Node::Bucket(pairs) => {
+            walk_pairs(pairs, visitor)?;
+            Ok(())
+        }
+        Node::Branch { children, .. } => {
+            for child in children {
+                walk_node(child, visitor)?;
+            }
+            Ok(())
+        }
+    }
+}
+
+/// Lends these entries.
+fn walk_pairs<K, V, W: Visitor<K, V>>(
+    pairs: &Vec<Arc<(K, V)>>,
+    visitor: &mut W,
+) -> Result<(), AllocError>
+    ensures { OnOk result (TakesAll W.takes visitor.old (pairs_of pairs.now.items) visitor.new) }
+{
+    for pair in pairs {
+        visitor.visit(&pair.0, &pair.1)?;
+    }
+    Ok(())
+}
