@@ -4,6 +4,7 @@ pub mod ColumnsLemmas
 pub mod FittingLemmas
 pub mod HashesLemmas
 pub mod IntegersLemmas
+pub mod LiteralsLemmas
 pub mod MarksLemmas
 pub mod NamesLemmas
 pub mod NumbersLemmas

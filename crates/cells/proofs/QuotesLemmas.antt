@@ -37,10 +37,10 @@ unquoted_other : (b : ℕ) (bs : List ℕ) → (b == 39) ≡ false → unquoted 
 unquoted_other b [] e = rw e refl
 unquoted_other b (c ∷ bs) e = rw e refl
 
-no_quote_first : (b : ℕ) (bs : List ℕ) → NoQuote (b ∷ bs) → (b == 39) ≡ false
+pub no_quote_first : (b : ℕ) (bs : List ℕ) → NoQuote (b ∷ bs) → (b == 39) ≡ false
 no_quote_first b bs h = let differs : b ≢ 39 = h 0 (omega arith) in grind (arith, nat_tests)
 
-no_quote_rest : (b : ℕ) (bs : List ℕ) → NoQuote (b ∷ bs) → NoQuote bs
+pub no_quote_rest : (b : ℕ) (bs : List ℕ) → NoQuote (b ∷ bs) → NoQuote bs
 no_quote_rest b bs h i lt = h (suc i) (omega arith)
 
 unquoted_part : (part text : List ℕ) → NoQuote part → unquoted (part ++ text) ≡ after part (unquoted text)

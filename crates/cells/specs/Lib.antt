@@ -5,6 +5,7 @@ pub mod Hashes
 pub mod Integers
 pub mod Laws
 pub mod Limits
+pub mod Literals
 pub mod Reading
 pub mod Records
 pub mod Refusals

@@ -13,6 +13,7 @@ mod scan;
 mod schema;
 mod text;
 mod token;
+mod total;
 mod tuple;
 mod updates;
 
@@ -27,6 +28,7 @@ pub use scan::{tokens, tokens_or};
 pub use schema::{Column, ColumnType, Schema, is_reserved};
 pub use text::Text;
 pub use token::{Mark, Token, TokenFault};
+pub use total::{Total, literal};
 pub use tuple::Tuple;
 pub use updates::{updates_leave_the_last_puts, updates_make_a_map};
 

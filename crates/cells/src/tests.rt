@@ -4,6 +4,7 @@ mod hashes;
 mod records;
 mod schemas;
 mod token_lists;
+mod totals;
 mod values;
 
 use crate::{Cell, Text};

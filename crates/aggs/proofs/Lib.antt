@@ -1,0 +1,2 @@
+pub mod DifferingLemmas
+pub mod StoredLemmas

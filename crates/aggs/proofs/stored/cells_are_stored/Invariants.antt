@@ -1,0 +1,6 @@
+use Rattle.std.proofs.Common.{take}
+use Rattle.aggs.specs.Room.{AreStored}
+use Rattle.aggs.proofs.stored.cells_are_stored.Given as goal
+
+abbrev pub invariant-loop-cell : goal.invariant-loop-cell
+invariant-loop-cell l = AreStored (take l.cell-index l.cells)

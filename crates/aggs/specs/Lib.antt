@@ -1,0 +1,10 @@
+pub mod Accs
+pub mod Bags
+pub mod Counts
+pub mod Differing
+pub mod Extremes
+pub mod Picks
+pub mod Reducing
+pub mod Room
+pub mod Sums
+pub mod Values

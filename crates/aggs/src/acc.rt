@@ -1,0 +1,125 @@
+//! An accumulator of any of the aggregates.
+ghost use Rattle.std.specs.Prelude.{◌≡◌, [], ◌∷◌, IfOk, OnErr};
+ghost use Rattle.aggs.specs.Accs.{AccTakes, AccsFit, acc_of, acc_together, acc_total, kind_of};
+
+use crate::aggregate::Aggregate;
+use crate::count::{Count, CountRows};
+use crate::distinct::CountDistinct;
+use crate::extreme::{Max, Min};
+use crate::sum::Sum;
+use cells::{Cell, KeyHash, Total};
+use std::alloc::{AllocError, Global};
+
+/// Which aggregate: the set functions of ISO/IEC 9075-2:1999, 6.16, but AVG.
+#[derive(Clone, Copy, Debug, PartialEq, Eq, Drop)]
+pub enum Kind {
+    /// COUNT(*)
+    CountRows,
+    /// COUNT of a column
+    Count,
+    /// COUNT DISTINCT of a column
+    CountDistinct,
+    /// SUM of a column of integers
+    Sum,
+    /// MIN of a column
+    Min,
+    /// MAX of a column
+    Max,
+}
+
+/// An accumulator of one of the aggregates, chosen when the program runs. It owes what the trait
+/// [`Aggregate`] asks, and does not implement it, since its `empty` needs a kind.
+#[derive(Drop)]
+pub enum Acc<H: KeyHash<Cell>> {
+    CountRows(CountRows),
+    Count(Count),
+    CountDistinct(CountDistinct<H>),
+    Sum(Sum),
+    Min(Min),
+    Max(Max),
+}
+
+impl<H: KeyHash<Cell>> Clone for Acc<H> {
+    ghost is_clone = { λ s t. t ≡ s };
+
+    fn clone(&self) -> Result<Acc<H>, AllocError> {
+        match self {
+            Acc::CountRows(acc) => Ok(Acc::CountRows(*acc)),
+            Acc::Count(acc) => Ok(Acc::Count(*acc)),
+            Acc::CountDistinct(acc) => Ok(Acc::CountDistinct(acc.clone()?)),
+            Acc::Sum(acc) => Ok(Acc::Sum(*acc)),
+            Acc::Min(acc) => Ok(Acc::Min(acc.clone()?)),
+            Acc::Max(acc) => Ok(Acc::Max(acc.clone()?)),
+        }
+    }
+}
+
+impl<H: KeyHash<Cell>> Acc<H> {
+    /// The accumulator of no cells. It takes no memory.
+    pub fn empty(kind: Kind) -> Acc<H>
+        ensures { result ≡ acc_of kind [] }
+    {
+        match kind {
+            Kind::CountRows => Acc::CountRows(CountRows::empty()),
+            Kind::Count => Acc::Count(Count::empty()),
+            Kind::CountDistinct => Acc::CountDistinct(CountDistinct::empty()),
+            Kind::Sum => Acc::Sum(Sum::empty()),
+            Kind::Min => Acc::Min(Min::empty()),
+            Kind::Max => Acc::Max(Max::empty()),
+        }
+    }
+
+    /// Makes it the accumulator of its list and the cell behind it. It takes memory only where the
+    /// cell or a part of it is kept. For a sum the cell is no text. After a refusal, which is want of
+    /// memory, it is as it was.
+    pub fn step(&mut self, alloc: Global, cell: &Cell) -> Result<(), AllocError>
+        requires kind { AccTakes self.old cell.now }
+        requires room { AccsFit self.old (acc_of (kind_of self.old) (cell.now ∷ [])) }
+        ensures stepped { IfOk result (λ _. self.new ≡ acc_together self.old (acc_of (kind_of self.old) (cell.now ∷ []))) }
+        ensures unchanged { OnErr result (self.new ≡ self.old) }
+    {
+        match self {
+            Acc::CountRows(acc) => acc.step(alloc, cell),
+            Acc::Count(acc) => acc.step(alloc, cell),
+            Acc::CountDistinct(acc) => acc.step(alloc, cell),
+            Acc::Sum(acc) => acc.step(alloc, cell),
+            Acc::Min(acc) => acc.step(alloc, cell),
+            Acc::Max(acc) => acc.step(alloc, cell),
+        }
+    }
+
+    /// The accumulator of both lists put together. Both are of one aggregate.
+    pub fn join(&self, alloc: Global, other: &Acc<H>) -> Result<Acc<H>, AllocError>
+        requires fits { AccsFit self.now other.now }
+        requires one { kind_of self.now ≡ kind_of other.now }
+        ensures { IfOk result (λ both. both ≡ acc_together self.now other.now) }
+    {
+        match (self, other) {
+            (Acc::CountRows(first), Acc::CountRows(second)) => {
+                Ok(Acc::CountRows(first.join(alloc, second)?))
+            }
+            (Acc::Count(first), Acc::Count(second)) => Ok(Acc::Count(first.join(alloc, second)?)),
+            (Acc::CountDistinct(first), Acc::CountDistinct(second)) => {
+                Ok(Acc::CountDistinct(first.join(alloc, second)?))
+            }
+            (Acc::Sum(first), Acc::Sum(second)) => Ok(Acc::Sum(first.join(alloc, second)?)),
+            (Acc::Min(first), Acc::Min(second)) => Ok(Acc::Min(first.join(alloc, second)?)),
+            (Acc::Max(first), Acc::Max(second)) => Ok(Acc::Max(first.join(alloc, second)?)),
+            _ => unreachable!(),
+        }
+    }
+
+    /// The value of the aggregate over the list.
+    pub fn finish(&self) -> Result<Total, AllocError>
+        ensures { IfOk result (λ t. t ≡ acc_total self.now) }
+    {
+        match self {
+            Acc::CountRows(acc) => acc.finish(),
+            Acc::Count(acc) => acc.finish(),
+            Acc::CountDistinct(acc) => acc.finish(),
+            Acc::Sum(acc) => acc.finish(),
+            Acc::Min(acc) => acc.finish(),
+            Acc::Max(acc) => acc.finish(),
+        }
+    }
+}

@@ -1,0 +1,174 @@
+//! COUNT of a column's different cells.
+ghost use Rattle.std.specs.Prelude.{◌≡◌, ◌+◌, ◌<◌, ◌^◌, List, ⊤, IfOk, pos};
+ghost use Rattle.std.specs.FinSet.{contains, from_list, insert, len, union};
+ghost use Rattle.std.specs.Map.{keys_of};
+ghost use Rattle.aggs.specs.Differing as differing;
+ghost use Rattle.aggs.specs.Differing.{different};
+ghost use Rattle.aggs.specs.Values.{different_count, is_null, present};
+ghost use Rattle.cells.specs.CellOrder.{cell_cmp};
+ghost use Rattle.cells.specs.declared.cell.Cell.{Cell};
+ghost use Rattle.cells.specs.declared.total.Total.TheVariants as total;
+ghost use Rattle.trie.specs.Maps.{HaveSameKeys, RiseByHash};
+
+use crate::aggregate::Aggregate;
+use cells::{Cell, KeyHash, Total};
+use std::alloc::{AllocError, Global};
+use std::marker::Model;
+use trie::{Later, Ticks, Trie, entries_are_a_map};
+
+/// The different cells that are not NULL, in a trie, which owns a copy of each: COUNT DISTINCT of a
+/// column. Contracts see it as the set of these cells, whatever the hash and the shape of the trie.
+#[derive(Drop)]
+pub struct CountDistinct<H: KeyHash<Cell>> {
+    cells: Trie<Cell, (), H>,
+}
+
+impl<H: KeyHash<Cell>> Model for CountDistinct<H> {
+    ghost use Rattle.std.specs.FinSet.{code, from_list};
+    ghost use Rattle.std.specs.Map.{keys_of};
+    ghost use Rattle.aggs.specs.Differing.{Cells};
+    ghost use Rattle.cells.specs.CellOrder.{cell_cmp};
+    ghost use Rattle.cells.specs.Codes.{coded_cell};
+    ghost use Rattle.trie.specs.Maps.{RiseByHash};
+
+    ghost Value = { Cells };
+
+    ghost coded = { code coded_cell };
+
+    ghost view = { λ c. from_list (keys_of c.cells) };
+
+    // No cell comes twice.
+    ghost invariant = { λ c. RiseByHash H.hash_of cell_cmp (keys_of c.cells) };
+}
+
+// The calls of `entries_are_a_map` do nothing: it is the trie's law, by which its entries are a map.
+impl<H: KeyHash<Cell>> CountDistinct<H> {
+    /// The accumulator of the cells that a trie holds.
+    fn holding(cells: Trie<Cell, (), H>) -> CountDistinct<H>
+        ensures { result ≡ from_list (keys_of cells) }
+    {
+        cells.keys_rise();
+        CountDistinct { cells }
+    }
+
+    /// The trie that holds the cells: its keys are the different cells of the list without NULL, each
+    /// once. It takes no memory.
+    pub fn cells(&self) -> &Trie<Cell, (), H>
+        ensures set { from_list (keys_of result.now) ≡ self.now }
+        ensures keys { (xs : List Cell) → self.now ≡ different xs → HaveSameKeys cell_cmp (keys_of result.now) (present xs) }
+        ensures rise { RiseByHash H.hash_of cell_cmp (keys_of result.now) }
+    {
+        &self.cells
+    }
+
+    /// Whether the cell is there.
+    fn contains(&self, cell: &Cell) -> bool
+        ensures { result ≡ contains self.now cell.now }
+    {
+        entries_are_a_map::<Cell, (), H>();
+        self.cells.get(cell).is_some()
+    }
+
+    /// The cells with this one.
+    fn with_cell(&self, alloc: Global, cell: &Cell) -> Result<CountDistinct<H>, AllocError>
+        requires { len self.now + 1 < 2 ^ 64 }
+        ensures { IfOk result (λ c. c ≡ insert self.now cell.now) }
+    {
+        entries_are_a_map::<Cell, (), H>();
+        let key = cell.clone()?;
+        let cells = self.cells.put(alloc, key, (), &mut Ticks::new())?;
+        Ok(CountDistinct::holding(cells))
+    }
+
+    /// The cells of both.
+    fn with_cells(
+        &self,
+        alloc: Global,
+        other: &CountDistinct<H>,
+    ) -> Result<CountDistinct<H>, AllocError>
+        requires { len self.now + len other.now < 2 ^ 64 }
+        ensures { IfOk result (λ c. c ≡ union self.now other.now) }
+    {
+        entries_are_a_map::<Cell, (), H>();
+        let cells = self
+            .cells
+            .merge(alloc, &other.cells, &Later, &mut Ticks::new())?;
+        Ok(CountDistinct::holding(cells))
+    }
+
+    /// How many cells there are.
+    fn len(&self) -> u64
+        ensures { result ≡ len self.now }
+    {
+        entries_are_a_map::<Cell, (), H>();
+        self.cells.len()
+    }
+}
+
+/// Whether the cell is NULL.
+fn is_null(cell: &Cell) -> bool
+    ensures { result ≡ is_null cell.now }
+{
+    matches!(cell, Cell::Null)
+}
+
+impl<H: KeyHash<Cell>> Clone for CountDistinct<H> {
+    ghost is_clone = { λ s t. t ≡ s };
+
+    fn clone(&self) -> Result<CountDistinct<H>, AllocError> {
+        Ok(CountDistinct::holding(self.cells.share()?))
+    }
+}
+
+impl<H: KeyHash<Cell>> Aggregate for CountDistinct<H> {
+    ghost of = { different };
+
+    ghost together = { union };
+
+    ghost total = { λ a. total.Int (pos (len a)) };
+
+    ghost fits = { λ a b. len a + len b < 2 ^ 64 };
+
+    ghost may_take = { λ _. ⊤ };
+
+    ghost value = { different_count };
+
+    fn empty() -> CountDistinct<H> {
+        CountDistinct::holding(Trie::empty())
+    }
+
+    fn step(&mut self, alloc: Global, cell: &Cell) -> Result<(), AllocError> {
+        if is_null(cell) {
+            return Ok(());
+        }
+        if self.contains(cell) {
+            return Ok(());
+        }
+        *self = self.with_cell(alloc, cell)?;
+        Ok(())
+    }
+
+    fn join(
+        &self,
+        alloc: Global,
+        other: &CountDistinct<H>,
+    ) -> Result<CountDistinct<H>, AllocError> {
+        self.with_cells(alloc, other)
+    }
+
+    fn finish(&self) -> Result<Total, AllocError> {
+        Ok(Total::Int(i128::from(self.len())))
+    }
+
+    ghost joins = { differing.different_joins };
+
+    ghost unit_first = { differing.nothing_first };
+
+    ghost unit_second = { differing.nothing_second };
+
+    ghost any_order = { differing.different_any_order };
+
+    ghost finishes = { differing.different_finishes };
+
+    ghost room = { differing.different_room };
+}

@@ -1,0 +1,21 @@
+//! Aggregates of lists of cells: accumulators that are stepped with cells, joined and finished, with
+//! the laws by which the work may be cut into parts and joined in any order.
+#![tactic(auto)]
+
+mod acc;
+mod aggregate;
+mod count;
+mod distinct;
+mod extreme;
+mod laws;
+mod stored;
+mod sum;
+
+pub use acc::{Acc, Kind};
+pub use aggregate::Aggregate;
+pub use count::{Count, CountRows};
+pub use distinct::CountDistinct;
+pub use extreme::{Max, Min};
+pub use laws::{accumulators_keep_the_laws, worked_aggregates};
+pub use stored::{cell_is_stored, cells_are_stored};
+pub use sum::Sum;
