@@ -1,0 +1,16 @@
+//! Queries: the syntax tree of a query.
+#![tactic(auto)]
+
+mod element;
+mod item;
+mod limits;
+mod predicate;
+mod query;
+mod test;
+
+pub use element::{Element, ElementForm, Unit};
+pub use item::Item;
+pub use limits::{MAX_ITEMS, MAX_OPEN_PARENTHESES, MAX_QUERY_BYTES};
+pub use predicate::{Predicate, PredicateForm};
+pub use query::Query;
+pub use test::{Comparison, Literal, Literals, Operand, Test};
