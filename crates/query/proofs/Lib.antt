@@ -1,1 +1,11 @@
-mod Trees
+pub mod Trees
+pub mod Lists
+pub mod PhrasesLemmas
+pub mod Units
+pub mod Elements
+pub mod Tests
+pub mod Predicates
+pub mod Ends
+pub mod Filled
+pub mod DepthLemmas
+pub mod Faults

@@ -6,3 +6,9 @@ pub mod PredicateViews
 pub mod PredicateFalls
 pub mod Limits
 pub mod Values
+pub mod Grammar
+pub mod Reading
+pub mod Phrases
+pub mod Depth
+pub mod Queries
+pub mod Ends

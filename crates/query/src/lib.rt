@@ -1,11 +1,17 @@
-//! Queries: the syntax tree of a query.
+//! Queries: how a text is read, and the syntax tree that it is read into.
 #![tactic(auto)]
 
+mod conditions;
+mod depth;
 mod element;
+mod grouping;
 mod item;
 mod limits;
+mod phrases;
 mod predicate;
 mod query;
+mod reading;
+mod select_list;
 mod test;
 
 pub use element::{Element, ElementForm, Unit};
@@ -13,4 +19,5 @@ pub use item::Item;
 pub use limits::{MAX_ITEMS, MAX_OPEN_PARENTHESES, MAX_QUERY_BYTES};
 pub use predicate::{Predicate, PredicateForm};
 pub use query::Query;
+pub use reading::read;
 pub use test::{Comparison, Literal, Literals, Operand, Test};
