@@ -10,7 +10,7 @@ use Rattle.query.specs.Ends.{SpellsEnd, SpellsFrom, SpellsTail, Whole}
 use Rattle.query.specs.declared.item.Item.{Item}
 use Rattle.query.specs.declared.test.Test.{Test}
 use Rattle.query.proofs.Lists.{Turns}
-use Rattle.query.proofs.Tests.{words_differ}
+use Rattle.query.proofs.TestsLemmas.{words_differ}
 
 abbrev P : Type 0
 P = PredicateTree (Test (List ℕ))

@@ -3,9 +3,11 @@ pub mod Lists
 pub mod PhrasesLemmas
 pub mod Units
 pub mod Elements
-pub mod Tests
+pub mod TestsLemmas
 pub mod Predicates
 pub mod Ends
 pub mod Filled
 pub mod DepthLemmas
 pub mod Faults
+pub mod Decisions
+pub mod Shorter

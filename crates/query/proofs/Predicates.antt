@@ -9,7 +9,7 @@ use Rattle.query.specs.Grammar.{Separated, last, next, SpellsTest, SpellsPredica
 use Rattle.query.specs.Reading.{AfterAnd, AfterOr, Any, BeginsNot, Starts}
 use Rattle.query.specs.declared.test.Test.{Test}
 use Rattle.query.proofs.Lists.{Turns}
-use Rattle.query.proofs.Tests.{test_head}
+use Rattle.query.proofs.TestsLemmas.{test_head}
 
 abbrev P : Type 0
 P = PredicateTree (Test (List ℕ))

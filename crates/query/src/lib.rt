@@ -21,3 +21,6 @@ pub use predicate::{Predicate, PredicateForm};
 pub use query::Query;
 pub use reading::read;
 pub use test::{Comparison, Literal, Literals, Operand, Test};
+
+#[cfg(test)]
+mod tests;

@@ -1,5 +1,5 @@
 use Rattle.query.proofs.Lists.{turn_found}
-use Rattle.query.proofs.Tests.{range_list, range_low}
+use Rattle.query.proofs.TestsLemmas.{range_list, range_low}
 use Rattle.query.proofs.conditions.range_test.Goals as goal
 
 pub returns-in-Some-clause-reads : goal.returns-in-Some-clause-reads

@@ -1,6 +1,6 @@
 use Rattle.std.proofs.lemmas.Result.{err_from_is_err_and}
 use Rattle.query.proofs.Lists.{turn_err, turn_found}
-use Rattle.query.proofs.Tests.{test_operand}
+use Rattle.query.proofs.TestsLemmas.{test_operand}
 use Rattle.query.proofs.conditions.test.Goals as goal
 
 pub returns-in_err-test-clause-reads : goal.returns-in_err-test-clause-reads

@@ -1,4 +1,4 @@
-use Rattle.query.proofs.Tests.{marked, unmarked}
+use Rattle.query.proofs.TestsLemmas.{marked, unmarked}
 use Rattle.query.proofs.phrases.not_mark.Goals as goal
 
 pub returns-in-Some-clause-marked : goal.returns-in-Some-clause-marked
