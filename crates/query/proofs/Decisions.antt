@@ -81,15 +81,25 @@ begins_close ts = begins_by is_close rparen refl close_alone ts
 pub begins_word : (w : List ℕ) (ts : List Token) → Begins (Word w) ts
 begins_word w ts = begins_by (is_word w) (Word w) ((bytes_eq-Decides w w).1 refl) (word_alone w) ts
 
+pub tail_same : (t : Token) (us vs : List Token) → t ∷ us ≡ t ∷ vs → us ≡ vs
+tail_same t us vs e = cc
+
+-- two tokens
+abbrev pub BeginsBoth : Token → Token → List Token → Type 0
+BeginsBoth t u ts = ((more : List Token) × (ts ≡ t ∷ u ∷ more)) ⊎ ((more : List Token) → ts ≢ t ∷ u ∷ more)
+
+pub begins_both : (t u : Token) → ((ts : List Token) → Begins t ts) → ((ts : List Token) → Begins u ts) → (ts : List Token) → BeginsBoth t u ts
+begins_both t u begins_first begins_second ts = after (begins_first ts) where
+  behind : (us : List Token) → ts ≡ t ∷ us → Begins u us → BeginsBoth t u ts
+  behind us e (inl h) = inl (h.0, e ∙ ap (λ v. t ∷ v) h.1)
+  behind us e (inr other) = inr (λ r f. other r (tail_same t us (u ∷ r) (sym e ∙ f)))
+  after : Begins t ts → BeginsBoth t u ts
+  after (inl h) = behind h.0 h.1 (begins_second h.0)
+  after (inr other) = inr (λ r f. other (u ∷ r) f)
+
 -- a word and "("
-pub begins_call : (w : List ℕ) (ts : List Token) → ((more : List Token) × (ts ≡ Word w ∷ lparen ∷ more)) ⊎ BeginsNotCall (Word w) ts
-begins_call w ts = after (begins_word w ts) where
-  behind : (us : List Token) → ts ≡ Word w ∷ us → Begins lparen us → ((more : List Token) × (ts ≡ Word w ∷ lparen ∷ more)) ⊎ BeginsNotCall (Word w) ts
-  behind us e (inl h) = inl (h.0, e ∙ ap (λ v. Word w ∷ v) h.1)
-  behind us e (inr other) = inr (λ r f. other r (let both : Word w ∷ us ≡ Word w ∷ lparen ∷ r = sym e ∙ f in cc))
-  after : Begins (Word w) ts → ((more : List Token) × (ts ≡ Word w ∷ lparen ∷ more)) ⊎ BeginsNotCall (Word w) ts
-  after (inl h) = behind h.0 h.1 (begins_open h.0)
-  after (inr other) = inr (λ r f. other (lparen ∷ r) f)
+pub begins_call : (w : List ℕ) (ts : List Token) → BeginsBoth (Word w) lparen ts
+begins_call w ts = begins_both (Word w) lparen (begins_word w) begins_open ts
 
 -- ---- up to a token that ends it
 module _ {X : Type 0} (Sp : List Token → X → List Token → Type 0) (Apart : List Token → Type 0) (t : Token) (begins : (us : List Token) → Begins t us) (ts : List Token) (apart : (r : List Token) → Apart (t ∷ r)) where

@@ -11,3 +11,4 @@ pub mod DepthLemmas
 pub mod Faults
 pub mod Decisions
 pub mod Shorter
+pub mod Deciding
