@@ -6,7 +6,7 @@ use Rattle.cells.specs.declared.token.Token.{Token}
 use Rattle.query.specs.Ends.{SpellsEnd, SpellsFrom, SpellsTail, Whole}
 use Rattle.query.specs.Grammar.{Separated, SpellsElement, SpellsFactor, SpellsItem, SpellsLiteral, SpellsName, SpellsOperand, SpellsPredicate, SpellsPrimary, SpellsQuery, SpellsTerm, SpellsTest, SpellsUnit, AND, BETWEEN, BY, CUBE, FROM, GROUP, GROUPING, IN, IS, NOT, NULL, OR, ROLLUP, SELECT, SETS, WHERE, comma, lparen, rparen}
 use Rattle.query.specs.Phrases.{NullAfter, RangeAfter, TestAfter, comparison_at, item_at, literal_at, name_at, operand_at}
-use Rattle.query.specs.Reading.{AfterAnd, AfterOr, Any, BeginsNot, BeginsNotCall, Ends, Found, Marked, Starts}
+use Rattle.query.specs.Reading.{AfterAnd, AfterOr, Any, BeginsNot, BeginsNotCall, Ends, Marked, Starts}
 use Rattle.query.specs.Trees.{Empty}
 use Rattle.query.specs.declared.test.Comparison.{Comparison}
 use Rattle.query.specs.declared.test.Operand.{Operand}
@@ -14,7 +14,6 @@ use Rattle.query.specs.declared.test.Test.TheVariants as test
 use Rattle.query.proofs.Decisions.{Begins, BeginsBoth, Decided, begins_both, begins_call, begins_close, begins_comma, begins_open, begins_word, computed_phrase, ended, list_decided, no_phrase, one_phrase, tail_same, turned}
 use Rattle.query.proofs.Elements.{element_cube, element_empty, element_rollup, element_sets, element_unit}
 use Rattle.query.proofs.Ends.{elements_end, elements_no_end, elements_none, from_name, from_no_name, groups_by, groups_none, groups_other, query_items, query_no_items, query_none, tail_no_where, tail_none, tail_where}
-use Rattle.query.proofs.Lists.{turn_found, turn_nothing}
 use Rattle.query.proofs.PhrasesLemmas.{item_computes, literal_computes, name_computes, operand_computes}
 use Rattle.query.proofs.Predicates.{factor_not, factor_plain, or_ends_and, paren_ends, predicate_terms, primary_parens, primary_test, term_factors}
 use Rattle.query.proofs.Shorter.{shorter_element, shorter_factor, shorter_item, shorter_literal, shorter_name, shorter_term, shorter_unit}
@@ -52,6 +51,7 @@ begins_sets ts = after (begins_word (codes "GROUPING") ts) where
   behind : (us : List Token) → ts ≡ GROUPING ∷ us → BeginsBoth SETS lparen us → ((more : List Token) × (ts ≡ GROUPING ∷ SETS ∷ lparen ∷ more)) ⊎ ((more : List Token) → ts ≢ GROUPING ∷ SETS ∷ lparen ∷ more)
   behind us e (inl h) = inl (h.0, e ∙ ap (λ v. GROUPING ∷ v) h.1)
   behind us e (inr other) = inr (λ r f. other r (tail_same GROUPING us (SETS ∷ lparen ∷ r) (sym e ∙ f)))
+
   after : Begins GROUPING ts → ((more : List Token) × (ts ≡ GROUPING ∷ SETS ∷ lparen ∷ more)) ⊎ ((more : List Token) → ts ≢ GROUPING ∷ SETS ∷ lparen ∷ more)
   after (inl h) = behind h.0 h.1 (begins_call (codes "SETS") h.0)
   after (inr other) = inr (λ r f. other (SETS ∷ lparen ∷ r) f)
@@ -63,12 +63,15 @@ element_by ts inner = first (begins_both lparen rparen begins_open begins_close 
       → ((more : List Token) × (ts ≡ GROUPING ∷ SETS ∷ lparen ∷ more)) ⊎ ((more : List Token) → ts ≢ GROUPING ∷ SETS ∷ lparen ∷ more) → Decided (Starts SpellsElement Any ts)
   fourth e r c (inl h) = turned (element_sets ts h.0 h.1) (inner h.0 (omega (arith, ap length h.1)))
   fourth e r c (inr s) = turned (element_unit ts (record { no_empty = e; no_rollup = r; no_cube = c; no_sets = s })) (unit_decided ts)
+
   third : ((more : List Token) → ts ≢ lparen ∷ rparen ∷ more) → BeginsNotCall ROLLUP ts → BeginsBoth CUBE lparen ts → Decided (Starts SpellsElement Any ts)
   third e r (inl h) = turned (element_cube ts h.0 h.1) (list_in SpellsUnit shorter_unit unit_decided h.0)
   third e r (inr c) = fourth e r c (begins_sets ts)
+
   second : ((more : List Token) → ts ≢ lparen ∷ rparen ∷ more) → BeginsBoth ROLLUP lparen ts → Decided (Starts SpellsElement Any ts)
   second e (inl h) = turned (element_rollup ts h.0 h.1) (list_in SpellsUnit shorter_unit unit_decided h.0)
   second e (inr r) = third e r (begins_call (codes "CUBE") ts)
+
   first : BeginsBoth lparen rparen ts → Decided (Starts SpellsElement Any ts)
   first (inl h) = one_phrase Empty h.0 (element_empty ts h.0 h.1)
   first (inr e) = second e (begins_call (codes "ROLLUP") ts)

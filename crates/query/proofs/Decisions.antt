@@ -5,11 +5,11 @@ use Rattle.std.proofs.lemmas.Bool.{cases_Bool}
 use Rattle.std.proofs.lemmas.Option.{none-some, some_pair_parts}
 use Rattle.std.proofs.lemmas.Slice.Eq.{bytes_eq-Decides}
 use Rattle.cells.specs.declared.token.Token.{Token}
-use Rattle.cells.specs.declared.token.Token.TheVariants.{Word, Number, Quoted, Mark}
+use Rattle.cells.specs.declared.token.Token.TheVariants.{Word, Mark}
 use Rattle.cells.specs.declared.token.Mark.TheVariants.{LeftParen, RightParen, Comma}
 use Rattle.query.specs.Depth.{is_close, is_open}
 use Rattle.query.specs.Grammar.{Separated, comma, lparen, rparen}
-use Rattle.query.specs.Reading.{Any, BeginsNot, BeginsNotCall, Ends, Found, Nothing, Starts}
+use Rattle.query.specs.Reading.{Any, BeginsNot, Ends, Found, Nothing, Starts}
 use Rattle.query.proofs.Lists.{Turns, closed, list_end, list_next, list_none, none_closed, not_closed, turn_found, turn_nothing}
 use Rattle.query.proofs.PhrasesLemmas.{Computes}
 
@@ -93,6 +93,7 @@ begins_both t u begins_first begins_second ts = after (begins_first ts) where
   behind : (us : List Token) → ts ≡ t ∷ us → Begins u us → BeginsBoth t u ts
   behind us e (inl h) = inl (h.0, e ∙ ap (λ v. t ∷ v) h.1)
   behind us e (inr other) = inr (λ r f. other r (tail_same t us (u ∷ r) (sym e ∙ f)))
+
   after : Begins t ts → BeginsBoth t u ts
   after (inl h) = behind h.0 h.1 (begins_second h.0)
   after (inr other) = inr (λ r f. other (u ∷ r) f)

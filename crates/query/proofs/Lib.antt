@@ -12,3 +12,4 @@ pub mod Faults
 pub mod Decisions
 pub mod Shorter
 pub mod Deciding
+pub mod QueriesLaws

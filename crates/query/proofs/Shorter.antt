@@ -1,5 +1,5 @@
 -- What follows a phrase is shorter than the tokens that begin with it.
-use Rattle.std.proofs.Common.{◌<◌, ◌≤◌, ℕ, List, [], ◌∷◌, length, arith}
+use Rattle.std.proofs.Common.{◌<◌, ◌≤◌, List, ◌∷◌, length, arith}
 use Rattle.cells.specs.declared.token.Token.{Token}
 use Rattle.query.specs.Grammar.{Separated, last, next, SpellsComparison, equal, not_equal, less, less_or_equal, greater, greater_or_equal, SpellsElement, empty, unit, rollup, cube, sets, SpellsElements, last_element, next_element, SpellsFactor, plain, not, SpellsFactors, last_factor, next_factor, SpellsItem, column, grouping, count_rows, count, count_distinct, sum, min, max, SpellsLiteral, number, text, SpellsName, name, SpellsNot, without, with, SpellsOperand, name_operand, literal_operand, SpellsPredicate, one_term, or, SpellsPrimary, parens, tested, SpellsTerm, one_factor, and, SpellsTerms, last_term, next_term, SpellsTest, compare, is_null, between, among, SpellsUnit, one, several}
 

@@ -34,3 +34,8 @@ pub data FirstFault (text : List ℕ) : Refused → Type 0 where
   too_deep : {ts : List Token} → length text ≤ query_limit → tokens_of text ≡ Some ts → is_too_deep ts ≡ true → FirstFault text Limit
   no_query : {ts : List Token} → HasTokens text ts → IsNoQuery ts → FirstFault text QuerySyntax
   too_many_items : {ts : List Token} {q : QueryTree} → HasTokens text ts → SpellsQuery ts q → item_limit < length q.items → FirstFault text Limit
+
+-- the text is a query, or it has a first fault
+pub data IsAnswered (text : List ℕ) : Type 0 where
+  a_query : (q : QueryTree) → IsQuery text q → IsAnswered text
+  a_fault : (e : Refused) → FirstFault text e → IsAnswered text

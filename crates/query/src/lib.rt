@@ -6,6 +6,7 @@ mod depth;
 mod element;
 mod grouping;
 mod item;
+mod laws;
 mod limits;
 mod phrases;
 mod predicate;
@@ -16,6 +17,7 @@ mod test;
 
 pub use element::{Element, ElementForm, Unit};
 pub use item::Item;
+pub use laws::{a_text_has_one_answer, each_text_has_an_answer};
 pub use limits::{MAX_ITEMS, MAX_OPEN_PARENTHESES, MAX_QUERY_BYTES};
 pub use predicate::{Predicate, PredicateForm};
 pub use query::Query;
