@@ -134,7 +134,7 @@ fn test(alloc: Global, tokens: &[Token]) -> Result<(Test<Text>, &[Token]), Refus
     Ok((test, rest))
 }
 
-/// A predicate in parentheses or a test, and what follows it.
+/// The primary at the front, a predicate in parentheses or a test, and what follows it.
 #[cycle(reader)]
 fn primary(alloc: Global, tokens: &[Token]) -> Result<(Predicate<Text>, &[Token]), Refused>
     ensures reads { Reads (λ x. (x.0, x.1.now)) (Starts SpellsPrimary Any tokens.now) result }
@@ -148,7 +148,7 @@ fn primary(alloc: Global, tokens: &[Token]) -> Result<(Predicate<Text>, &[Token]
     Ok((Predicate::test(test), rest))
 }
 
-/// The same with an optional NOT before it.
+/// A primary with an optional NOT before it, and what follows it.
 #[cycle(reader)]
 fn factor(alloc: Global, tokens: &[Token]) -> Result<(Predicate<Text>, &[Token]), Refused>
     ensures reads { Reads (λ x. (x.0, x.1.now)) (Starts SpellsFactor Any tokens.now) result }
@@ -162,7 +162,7 @@ fn factor(alloc: Global, tokens: &[Token]) -> Result<(Predicate<Text>, &[Token])
     Ok((inner, rest))
 }
 
-/// Several of them with AND between, and what follows them.
+/// The factors at the front, with AND between, and what follows them.
 #[cycle(reader)]
 fn factors(alloc: Global, tokens: &[Token]) -> Result<(Vec<Predicate<Text>>, &[Token]), Refused>
     ensures reads { Reads (λ x. (x.0.items, x.1.now)) (Starts (Separated AND SpellsFactor) AfterAnd tokens.now) result }
@@ -190,7 +190,7 @@ fn term(alloc: Global, tokens: &[Token]) -> Result<(Predicate<Text>, &[Token]), 
     Ok((Predicate::all_of(factors), rest))
 }
 
-/// Several of them with OR between, and what follows them.
+/// The terms at the front, with OR between, and what follows them.
 #[cycle(reader)]
 fn terms(alloc: Global, tokens: &[Token]) -> Result<(Vec<Predicate<Text>>, &[Token]), Refused>
     ensures reads { Reads (λ x. (x.0.items, x.1.now)) (Starts (Separated OR SpellsTerm) AfterOr tokens.now) result }
@@ -208,7 +208,7 @@ fn terms(alloc: Global, tokens: &[Token]) -> Result<(Vec<Predicate<Text>>, &[Tok
     }
 }
 
-/// The predicate at the front, and what follows it.
+/// The predicate at the front, which is its terms with OR between, and what follows it.
 #[cycle(reader)]
 pub fn predicate(alloc: Global, tokens: &[Token]) -> Result<(Predicate<Text>, &[Token]), Refused>
     ensures reads { Reads (λ x. (x.0, x.1.now)) (Starts SpellsPredicate AfterOr tokens.now) result }

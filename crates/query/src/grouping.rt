@@ -1,4 +1,4 @@
-//! Reads the elements of GROUP BY.
+//! Reads the elements of GROUP BY. Lists are read by loops, so that only a nested GROUPING SETS goes deep.
 ghost use Rattle.std.specs.Prelude.{◌≡◌, ◌≢◌, ◌<◌, ◌∷◌, List, IfOk, MatchOption, length};
 ghost use Rattle.cells.specs.declared.token.Token.{Token};
 ghost use Rattle.query.specs.Grammar.{GROUPING, SETS, Separated, SpellsElement, SpellsName, SpellsUnit, comma, lparen, rparen};

@@ -1,4 +1,6 @@
-//! The short phrases at the front of tokens: words, signs, names, literals, operands.
+//! The short phrases at the front of tokens: words, signs, names, literals, operands. A reader answers
+//! [`Refused::QuerySyntax`] exactly where the tokens begin with no such phrase, and [`Refused::OutOfMemory`] only
+//! where a growth was refused. Each `.._at` is joined to its rule of the grammar by the function without it.
 ghost use Rattle.std.specs.Bool.{Decides};
 ghost use Rattle.std.specs.Prelude.{◌≡◌, ◌<◌, ◌≤◌, ◌∷◌, IfOk, IfSome, None, Some, MatchOption, length};
 ghost use Rattle.cells.specs.Refusals.{AnswersBy};
@@ -64,7 +66,7 @@ fn name_at(tokens: &[Token]) -> Result<(Text, &[Token]), Refused>
     Ok((name.clone()?, rest))
 }
 
-/// The name at the front, and what follows it.
+/// The name at the front by the rule of the grammar, and what follows it.
 pub fn name(tokens: &[Token]) -> Result<(Text, &[Token]), Refused>
     ensures reads { Reads (λ x. (x.0, x.1.now)) (Starts SpellsName Any tokens.now) result }
     ensures shorter { IfOk result (λ x. length x.1.now < length tokens.now) }
@@ -87,7 +89,7 @@ fn literal_at(tokens: &[Token]) -> Result<(Literal, &[Token]), Refused>
     }
 }
 
-/// The literal at the front, and what follows it.
+/// The literal at the front by the rule of the grammar, and what follows it.
 pub fn literal(tokens: &[Token]) -> Result<(Literal, &[Token]), Refused>
     ensures reads { Reads (λ x. (x.0, x.1.now)) (Starts SpellsLiteral Any tokens.now) result }
     ensures shorter { IfOk result (λ x. length x.1.now < length tokens.now) }
@@ -104,11 +106,11 @@ fn operand_at(tokens: &[Token]) -> Result<(Operand<Text>, &[Token]), Refused>
         return Err(Refused::QuerySyntax);
     };
     match first {
-        Token::Word(name) => {
-            if is_reserved(name.as_str()) {
+        Token::Word(word) => {
+            if is_reserved(word.as_str()) {
                 return Err(Refused::QuerySyntax);
             }
-            Ok((Operand::Column(name.clone()?), rest))
+            Ok((Operand::Column(word.clone()?), rest))
         }
         Token::Number(n) => Ok((Operand::Literal(Literal::Int(*n)), rest)),
         Token::Quoted(text) => Ok((Operand::Literal(Literal::Text(text.clone()?)), rest)),
@@ -116,7 +118,7 @@ fn operand_at(tokens: &[Token]) -> Result<(Operand<Text>, &[Token]), Refused>
     }
 }
 
-/// The operand at the front, and what follows it.
+/// The operand at the front by the rule of the grammar, and what follows it.
 pub fn operand(tokens: &[Token]) -> Result<(Operand<Text>, &[Token]), Refused>
     ensures reads { Reads (λ x. (x.0, x.1.now)) (Starts SpellsOperand Any tokens.now) result }
     ensures shorter { IfOk result (λ x. length x.1.now < length tokens.now) }

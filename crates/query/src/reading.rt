@@ -1,4 +1,4 @@
-//! Reads a text into a query.
+//! Reads a text into a query: its tokens, and then clause by clause.
 ghost use Rattle.std.specs.Bool.{Decides};
 ghost use Rattle.std.specs.Prelude.{◌≡◌, ◌≢◌, ◌⊎◌, ◌∷◌, [], List, IfOk, MatchOption, MatchResult};
 ghost use Rattle.cells.specs.Refusals.{Answers};
@@ -24,11 +24,13 @@ use cells::{Refused, Text, Token, tokens_or};
 use std::alloc::{AllocError, Global};
 
 /// The query that the text spells. The refusal is the first fault of the text: [`Refused::Limit`]
-/// where it has more than 65,536 bytes, [`Refused::QuerySyntax`] where it is no list of tokens,
-/// [`Refused::Limit`] where more than 64 parentheses are open at some token, [`Refused::QuerySyntax`]
-/// where the tokens are no query, [`Refused::Limit`] where there are more than 32 items; or
-/// [`Refused::OutOfMemory`].
+/// where it has more than [`MAX_QUERY_BYTES`], [`Refused::QuerySyntax`] where it is no list of tokens,
+/// [`Refused::Limit`] where more than [`MAX_OPEN_PARENTHESES`](crate::MAX_OPEN_PARENTHESES) are open at some
+/// token (those closed so far are taken from those opened so far), [`Refused::QuerySyntax`] where the tokens
+/// are no query, [`Refused::Limit`] where there are more than [`MAX_ITEMS`]; or [`Refused::OutOfMemory`]
+/// where a growth was refused. Its time is linear in the text's length.
 pub fn read(alloc: Global, text: &str) -> Result<Query, Refused>
+    // What is answered is the text's query, or its first fault.
     ensures found { MatchResult result (λ q. IsQuery text.now q) (λ e. (e ≡ Refused.OutOfMemory) ⊎ FirstFault text.now e) }
     // What is a query is read, unless memory is wanting, and the text spells no other query.
     ensures only { (q : QueryTree) → IsQuery text.now q → Answers Refused.QuerySyntax (Some q) result }

@@ -1,4 +1,4 @@
-//! Reads the items of a select list.
+//! Reads the items of a select list, up to what follows them.
 ghost use Rattle.std.specs.Prelude.{◌≡◌, ◌<◌, IfOk, length};
 ghost use Rattle.cells.specs.Refusals.{AnswersBy};
 ghost use Rattle.query.specs.Grammar.{Separated, SpellsItem, comma};
@@ -27,7 +27,7 @@ pub fn items(alloc: Global, tokens: &[Token]) -> Result<(Vec<Item<Text>>, &[Toke
     }
 }
 
-/// The item at the front, and what follows it.
+/// The item at the front by the rule of the grammar, and what follows it.
 fn item(tokens: &[Token]) -> Result<(Item<Text>, &[Token]), Refused>
     ensures reads { Reads (λ x. (x.0, x.1.now)) (Starts SpellsItem Any tokens.now) result }
     ensures shorter { IfOk result (λ x. length x.1.now < length tokens.now) }
