@@ -1,0 +1,15 @@
+pub mod Trees
+pub mod Lists
+pub mod PhrasesLemmas
+pub mod Units
+pub mod Elements
+pub mod TestsLemmas
+pub mod Predicates
+pub mod Ends
+pub mod Filled
+pub mod DepthLemmas
+pub mod Faults
+pub mod Decisions
+pub mod Shorter
+pub mod Deciding
+pub mod QueriesLaws

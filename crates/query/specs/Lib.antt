@@ -1,0 +1,14 @@
+pub mod Trees
+pub mod Codes
+pub mod ElementViews
+pub mod ElementFalls
+pub mod PredicateViews
+pub mod PredicateFalls
+pub mod Limits
+pub mod Values
+pub mod Grammar
+pub mod Reading
+pub mod Phrases
+pub mod Depth
+pub mod Queries
+pub mod Ends

@@ -1,0 +1,10 @@
+//! The limits of what this crate reads, each named here and in `specs/Limits.antt`.
+
+/// The most bytes of a query.
+pub const MAX_QUERY_BYTES: usize = 65_536;
+
+/// The most parentheses of a query that may be open at once.
+pub const MAX_OPEN_PARENTHESES: usize = 64;
+
+/// The most items of a select list.
+pub const MAX_ITEMS: usize = 32;
