@@ -1,1 +1,3 @@
 mod Trees
+pub mod CountsLemmas
+pub mod MarksLemmas

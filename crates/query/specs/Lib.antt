@@ -6,3 +6,7 @@ pub mod PredicateViews
 pub mod PredicateFalls
 pub mod Limits
 pub mod Values
+pub mod Sets
+pub mod Marks
+pub mod Truth
+pub mod Lent
