@@ -1,3 +1,4 @@
 mod Trees
 pub mod CountsLemmas
 pub mod MarksLemmas
+pub mod GroupedLemmas

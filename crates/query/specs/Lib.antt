@@ -10,3 +10,7 @@ pub mod Sets
 pub mod Marks
 pub mod Truth
 pub mod Lent
+pub mod Names
+pub mod Checks
+pub mod Headings
+pub mod Plans

@@ -3,13 +3,17 @@
 
 mod counting;
 mod element;
+mod grouped;
 mod item;
 mod limits;
+mod names;
+mod places;
 mod predicate;
 mod query;
 mod sets;
 mod test;
 mod truth;
+mod types;
 
 pub use element::{Element, ElementForm, Unit};
 pub use item::Item;
