@@ -14,3 +14,4 @@ pub mod Names
 pub mod Checks
 pub mod Headings
 pub mod Plans
+pub mod Worked

@@ -4,6 +4,7 @@ use Rattle.std.specs.List.{AllByRecursion, position_or_len, slice_get}
 use Rattle.cells.specs.Values.{Table}
 use Rattle.cells.specs.declared.refused.Refused.{Refused}
 use Rattle.cells.specs.declared.schema.Column.{Column}
+use Rattle.cells.specs.declared.schema.ColumnType.{ColumnType}
 use Rattle.cells.specs.declared.schema.ColumnType.TheVariants.{Int}
 use Rattle.query.specs.Checks.{fault_of}
 use Rattle.query.specs.Headings.{heading}
@@ -85,6 +86,10 @@ abbrev pub IsRising : List ℕ → Type 0
 IsRising [] = ⊤
 IsRising (p ∷ ps) = AllByRecursion (λ q. p < q) ps × IsRising ps
 
+-- the type of the column at the place, if there is one
+abbrev pub type_at : List Column → ℕ → Option ColumnType
+type_at columns place = option_map (λ c. c.kind) (slice_get columns place)
+
 -- the place is that of a column, in SUM of an INT column
 abbrev pub IsItemOf : List Column → Item ℕ → Type 0
 IsItemOf columns (item.Column p) = p < length columns
@@ -92,7 +97,7 @@ IsItemOf columns (item.Grouping p) = p < length columns
 IsItemOf columns item.CountRows = ⊤
 IsItemOf columns (item.Count p) = p < length columns
 IsItemOf columns (item.CountDistinct p) = p < length columns
-IsItemOf columns (item.Sum p) = option_map (λ c. c.kind) (slice_get columns p) ≡ Some Int
+IsItemOf columns (item.Sum p) = type_at columns p ≡ Some Int
 IsItemOf columns (item.Min p) = p < length columns
 IsItemOf columns (item.Max p) = p < length columns
 

@@ -70,7 +70,10 @@ fn is_named(element: &Element, name: &Text) -> bool
     match &element.form {
         ElementForm::Empty => false,
         ElementForm::Unit(unit) => is_of_unit(unit, name),
-        ElementForm::Rollup(units) | ElementForm::Cube(units) => is_of_units(units.as_slice(), name),
+        ElementForm::Rollup(units) | ElementForm::Cube(units) => is_of_units(
+            units.as_slice(),
+            name,
+        ),
         ElementForm::Sets(elements) => {
             for inner in elements {
                 if is_named(inner, name) {

@@ -1,13 +1,17 @@
-//! Queries: the syntax tree of a query.
+//! Queries: how a text is read, what a query means for a table, and what its predicate says of a row.
 #![tactic(auto)]
 
+mod checking;
 mod counting;
 mod element;
 mod grouped;
+mod headings;
 mod item;
 mod limits;
 mod names;
 mod places;
+mod plan;
+mod plan_laws;
 mod predicate;
 mod query;
 mod sets;
@@ -15,9 +19,12 @@ mod test;
 mod truth;
 mod types;
 
+pub use checking::check;
 pub use element::{Element, ElementForm, Unit};
 pub use item::Item;
 pub use limits::{MAX_ITEMS, MAX_OPEN_PARENTHESES, MAX_QUERY_BYTES};
+pub use plan::Plan;
+pub use plan_laws::{predicates_fit_rows, rows_fit_columns, worked_sets, worked_truths};
 pub use predicate::{Predicate, PredicateForm};
 pub use query::Query;
 pub use sets::GroupSet;

@@ -96,7 +96,10 @@ fn is_unknown_test(columns: &[Column], test: &Test<Text>) -> bool
         }
         Test::IsNull { operand, .. } => is_unknown_operand(columns, operand),
         Test::Between {
-            operand, low, high, ..
+            operand,
+            low,
+            high,
+            ..
         } => {
             if is_unknown_operand(columns, operand) {
                 return true;

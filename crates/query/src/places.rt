@@ -13,17 +13,26 @@ use std::alloc::{AllocError, Global};
 fn place_of(columns: &[Column], name: &Text) -> usize
     ensures { result ≡ place_of columns.now name.now }
 {
-    columns
-        .iter()
-        .position(|column| column.name == *name)
-        .unwrap_or(columns.len())
+    for (place, column) in columns.iter().enumerate() {
+        if column.name == *name {
+            return place;
+        }
+    }
+    columns.len()
 }
 
 /// The items with places for names.
-pub fn placed_items(alloc: Global, columns: &[Column], items: &[Item<Text>]) -> Result<Vec<Item<usize>>, AllocError>
+pub fn placed_items(
+    alloc: Global,
+    columns: &[Column],
+    items: &[Item<Text>],
+) -> Result<Vec<Item<usize>>, AllocError>
     ensures { IfOk result (λ placed. placed.items ≡ map (placed_item columns.now) items.now) }
 {
-    items.iter().map(|item| placed_item(columns, item)).collect(alloc)
+    items
+        .iter()
+        .map(|item| placed_item(columns, item))
+        .collect(alloc)
 }
 
 /// The item with a place for its name.
@@ -43,7 +52,11 @@ fn placed_item(columns: &[Column], item: &Item<Text>) -> Item<usize>
 }
 
 /// The predicate of WHERE with places for names, where there is one.
-pub fn placed_condition(alloc: Global, columns: &[Column], condition: Option<Predicate<Text>>) -> Result<Option<Predicate<usize>>, AllocError>
+pub fn placed_condition(
+    alloc: Global,
+    columns: &[Column],
+    condition: Option<Predicate<Text>>,
+) -> Result<Option<Predicate<usize>>, AllocError>
     ensures { IfOk result (λ placed. placed ≡ option_map (placed_predicate columns.now) condition) }
 {
     match condition {
@@ -53,7 +66,11 @@ pub fn placed_condition(alloc: Global, columns: &[Column], condition: Option<Pre
 }
 
 /// The predicate with places for names.
-fn placed_predicate(alloc: Global, columns: &[Column], predicate: Predicate<Text>) -> Result<Predicate<usize>, AllocError>
+fn placed_predicate(
+    alloc: Global,
+    columns: &[Column],
+    predicate: Predicate<Text>,
+) -> Result<Predicate<usize>, AllocError>
     ensures { IfOk result (λ placed. placed ≡ placed_predicate columns.now predicate) }
 {
     match predicate.form {
@@ -75,7 +92,10 @@ fn placed_predicate(alloc: Global, columns: &[Column], predicate: Predicate<Text
                 form: PredicateForm::And(placed),
             })
         }
-        PredicateForm::Not(inner) => Predicate::not(alloc, placed_predicate(alloc, columns, *inner)?),
+        PredicateForm::Not(inner) => Predicate::not(
+            alloc,
+            placed_predicate(alloc, columns, Box::into_inner(inner))?,
+        ),
         PredicateForm::Test(test) => Ok(Predicate::test(placed_test(columns, test))),
     }
 }

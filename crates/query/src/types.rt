@@ -89,7 +89,10 @@ fn is_mixed(columns: &[Column], test: &Test<Text>) -> bool
         Test::Compare(a, _, b) => differ(is_text_operand(columns, a), is_text_operand(columns, b)),
         Test::IsNull { .. } => false,
         Test::Between {
-            operand, low, high, ..
+            operand,
+            low,
+            high,
+            ..
         } => {
             let is_text = is_text_operand(columns, operand);
             if differ(is_text, is_text_operand(columns, low)) {
@@ -126,7 +129,9 @@ fn is_text_literal(literal: &Literal) -> bool
 fn has_other(is_text: bool, literals: &[Literal]) -> bool
     ensures { result ≡ list_any (λ l. differ is_text (is_text_literal l)) literals.now }
 {
-    literals.iter().any(|literal| differ(is_text, is_text_literal(literal)))
+    literals
+        .iter()
+        .any(|literal| differ(is_text, is_text_literal(literal)))
 }
 
 fn differ(a: bool, b: bool) -> bool
