@@ -13,3 +13,9 @@ pub mod Decisions
 pub mod Shorter
 pub mod Deciding
 pub mod QueriesLaws
+pub mod CountsLemmas
+pub mod MarksLemmas
+pub mod GroupedLemmas
+pub mod PlacesLemmas
+pub mod PlansLemmas
+pub mod PlanLawsLemmas

@@ -12,3 +12,12 @@ pub mod Phrases
 pub mod Depth
 pub mod Queries
 pub mod Ends
+pub mod Sets
+pub mod Marks
+pub mod Truth
+pub mod Lent
+pub mod Names
+pub mod Checks
+pub mod Headings
+pub mod Plans
+pub mod Worked

@@ -1,0 +1,101 @@
+-- Grouping sets as marks, column by column.
+use Rattle.std.proofs.Common.{◌≡◌, ℕ, ◌+◌, ◌-◌, ◌<◌, ◌≤◌, Bool, true, false, cond, ◌||◌, append_assoc, drop, get_or, length, take, List, [], ◌∷◌, ◌++◌, map, ◌⊎◌, if◌then◌else◌, inl, inr, refl, sym, ap, ap₂, ◌∙◌}
+use Rattle.std.proofs.lemmas.List.{at_drop_more, map-append, take_all}
+use Rattle.std.proofs.lemmas.List.Folds.{list_any-append}
+use Rattle.std.specs.List.{flat_map}
+use Rattle.std.specs.Prelude.{bytes_eq}
+use Rattle.cells.specs.declared.schema.Column.{Column}
+use Rattle.query.specs.Trees.{ElementTree, elements_of}
+use Rattle.query.specs.Marks.{joined, marked_from, marks}
+use Rattle.query.specs.Sets.{Names, cube, grouping_sets, names_column, places, places_from, rollup, sets_of, sets_of_each}
+use Rattle.query.proofs.CountsLemmas.{drop_back}
+
+pub joined_end : (aes bs : List Bool) → (aes ≡ []) ⊎ (bs ≡ []) → joined aes bs ≡ []
+joined_end [] bs h = refl
+joined_end (a ∷ aes) [] h = refl
+joined_end (a ∷ aes) (b ∷ bs) (inl e) = absurd cc
+joined_end (a ∷ aes) (b ∷ bs) (inr e) = absurd cc
+
+-- the marks of a union are joined marks
+pub marks_joined : (cs : List Column) (g h : Names) → marks cs (g ++ h) ≡ joined (marks cs g) (marks cs h)
+marks_joined [] g h = refl
+marks_joined (c ∷ cs) g h =
+    ap (λ b. b ∷ marks cs (g ++ h)) (list_any-append (λ n. bytes_eq c.name n) g h)
+    ∙ ap (λ m. (names_column g c || names_column h c) ∷ m) (marks_joined cs g h)
+
+pub each_joined : (cs : List Column) (g : Names) (hs : List Names) → map (marks cs) (map (λ h. g ++ h) hs) ≡ map (joined (marks cs g)) (map (marks cs) hs)
+each_joined cs g [] = refl
+each_joined cs g (h ∷ hs) = ap (λ m. m ∷ map (marks cs) (map (λ x. g ++ x) hs)) (marks_joined cs g h) ∙ ap (λ l. joined (marks cs g) (marks cs h) ∷ l) (each_joined cs g hs)
+
+pub marks_rollup : (cs : List Column) (u : Names) (us : List Names) → map (marks cs) (rollup (u ∷ us)) ≡ map (joined (marks cs u)) (map (marks cs) (rollup us)) ++ marks cs [] ∷ []
+marks_rollup cs u us = map-append (marks cs) (map (λ g. u ++ g) (rollup us)) ([] ∷ []) ∙ ap (λ l. l ++ marks cs [] ∷ []) (each_joined cs u (rollup us))
+
+pub marks_cube : (cs : List Column) (u : Names) (us : List Names) → map (marks cs) (cube (u ∷ us)) ≡ map (joined (marks cs u)) (map (marks cs) (cube us)) ++ map (marks cs) (cube us)
+marks_cube cs u us = map-append (marks cs) (map (λ g. u ++ g) (cube us)) (cube us) ∙ ap (λ l. l ++ map (marks cs) (cube us)) (each_joined cs u (cube us))
+
+marks_choices : (cs : List Column) (gs hs : List Names) → map (marks cs) (flat_map (λ g. map (λ h. g ++ h) hs) gs) ≡ flat_map (λ f. map (joined f) (map (marks cs) hs)) (map (marks cs) gs)
+marks_choices cs [] hs = refl
+marks_choices cs (g ∷ gs) hs =
+    map-append (marks cs) (map (λ h. g ++ h) hs) (flat_map (λ x. map (λ h. x ++ h) hs) gs)
+    ∙ ap (λ l. l ++ map (marks cs) (flat_map (λ x. map (λ h. x ++ h) hs) gs)) (each_joined cs g hs)
+    ∙ ap (λ l. map (joined (marks cs g)) (map (marks cs) hs) ++ l) (marks_choices cs gs hs)
+
+pub marks_sets : (cs : List Column) (e : ElementTree) (es : List ElementTree) → map (marks cs) (grouping_sets (e ∷ es)) ≡ flat_map (λ f. map (joined f) (map (marks cs) (grouping_sets es))) (map (marks cs) (sets_of e))
+marks_sets cs e es = marks_choices cs (sets_of e) (grouping_sets es)
+
+module _ (cs : List Column) (us : List Names) (left : ℕ) (u : Names) (some : 0 < left) (within : left ≤ length us) (is : u ≡ get_or us (left - 1) u) (sets new : List (List Bool)) where
+  module _ (first : List Bool) (marked : first ≡ marks cs u) (slice longer : List (List Bool)) (lent : slice ≡ sets) (each : longer ≡ map (joined first) slice) where
+    longer_is : longer ≡ map (joined (marks cs u)) sets
+    longer_is = each ∙ ap₂ (λ f s. map (joined f) s) marked lent
+
+    pub rollup_step : sets ≡ map (marks cs) (rollup (drop left us)) → (none : List Bool) → none ≡ marks cs [] → new ≡ longer ++ none ∷ [] → new ≡ map (marks cs) (rollup (drop (left - 1) us))
+    rollup_step made none blank e = e ∙ ap₂ (λ l m. l ++ m ∷ []) longer_is blank ∙ ap (λ s. map (joined (marks cs u)) s ++ marks cs [] ∷ []) made ∙ sym (marks_rollup cs u (drop left us)) ∙ ap (λ v. map (marks cs) (rollup v)) (sym (drop_back us left u some within is))
+
+    pub cube_step : sets ≡ map (marks cs) (cube (drop left us)) → new ≡ longer ++ sets → new ≡ map (marks cs) (cube (drop (left - 1) us))
+    cube_step made e = e ∙ ap (λ l. l ++ sets) longer_is ∙ ap (λ s. map (joined (marks cs u)) s ++ s) made ∙ sym (marks_cube cs u (drop left us)) ∙ ap (λ v. map (marks cs) (cube v)) (sym (drop_back us left u some within is))
+
+pub sets_step : (cs : List Column) (es : List ElementTree) (left : ℕ) (e : ElementTree) → 0 < left → left ≤ length es → e ≡ get_or es (left - 1) e → (sets new : List (List Bool))
+    → sets ≡ map (marks cs) (grouping_sets (drop left es)) → new ≡ flat_map (λ f. map (joined f) sets) (map (marks cs) (sets_of e)) → new ≡ map (marks cs) (grouping_sets (drop (left - 1) es))
+sets_step cs es left e some within is sets new made n =
+    n ∙ ap (λ s. flat_map (λ f. map (joined f) s) (map (marks cs) (sets_of e))) made ∙ sym (marks_sets cs e (drop left es))
+    ∙ ap (λ v. map (marks cs) (grouping_sets v)) (sym (drop_back es left e some within is))
+
+pub places_step : (bs : List Bool) (i : ℕ) (b : Bool) (found new : List ℕ) → i < length bs → b ≡ get_or bs i b → marked_from 0 bs ≡ found ++ marked_from i (drop i bs)
+    → new ≡ cond b (found ++ i ∷ []) found → marked_from 0 bs ≡ new ++ marked_from (i + 1) (drop (i + 1) bs)
+places_step bs i true found new within is kept n =
+    kept ∙ ap (λ l. found ++ l) (at_drop_more (marked_from i) bs i true within ∙ ap (λ b. marked_from i (b ∷ drop (i + 1) bs)) (sym is))
+    ∙ sym (append_assoc found (i ∷ []) (marked_from (i + 1) (drop (i + 1) bs))) ∙ ap (λ l. l ++ marked_from (i + 1) (drop (i + 1) bs)) (sym n)
+places_step bs i false found new within is kept n =
+    kept ∙ ap (λ l. found ++ l) (at_drop_more (marked_from i) bs i false within ∙ ap (λ b. marked_from i (b ∷ drop (i + 1) bs)) (sym is))
+    ∙ ap (λ l. l ++ marked_from (i + 1) (drop (i + 1) bs)) (sym n)
+
+-- the places that are marked are those of the columns that the set names
+marked_places : (cs : List Column) (k : ℕ) (g : Names) → marked_from k (marks cs g) ≡ places_from k cs g
+marked_places [] k g = refl
+marked_places (c ∷ cs) k g = ap (λ l. if names_column g c then k ∷ l else l) (marked_places cs (k + 1) g)
+
+places_of_marks : (cs : List Column) (gs : List Names) → map (marked_from 0) (map (marks cs) gs) ≡ map (places cs) gs
+places_of_marks cs [] = refl
+places_of_marks cs (g ∷ gs) = ap₂ (λ p l. p ∷ l) (marked_places cs 0 g) (places_of_marks cs gs)
+
+pub each_step : (cs : List Column) (es : List ElementTree) (i : ℕ) (e : ElementTree) (whole found more new : List (List Bool)) → i < length es → e ≡ get_or es i e
+    → whole ≡ found ++ map (marks cs) (sets_of_each (elements_of (drop i es))) → more ≡ map (marks cs) (sets_of e) → new ≡ found ++ more
+    → whole ≡ new ++ map (marks cs) (sets_of_each (elements_of (drop (i + 1) es)))
+each_step cs es i e whole found more new within is kept m n =
+    kept ∙ ap (λ l. found ++ l)
+    (at_drop_more (λ xs. map (marks cs) (sets_of_each (elements_of xs))) es i e within
+    ∙ ap (λ x. map (marks cs) (sets_of_each (elements_of (x ∷ drop (i + 1) es)))) (sym is)
+    ∙ map-append (marks cs) (sets_of e) (sets_of_each (elements_of (drop (i + 1) es)))
+    ∙ ap (λ l. l ++ map (marks cs) (sets_of_each (elements_of (drop (i + 1) es)))) (sym m))
+    ∙ sym (append_assoc found more (map (marks cs) (sets_of_each (elements_of (drop (i + 1) es)))))
+    ∙ ap (λ l. l ++ map (marks cs) (sets_of_each (elements_of (drop (i + 1) es)))) (sym n)
+
+pub grouping_step : (cs : List Column) (es : List ElementTree) (left : ℕ) (e : ElementTree) → 0 < left → left ≤ length es → e ≡ get_or es (left - 1) e → (sets new firsts lent_firsts lent_sets : List (List Bool))
+    → sets ≡ map (marks cs) (grouping_sets (drop left es)) → firsts ≡ map (marks cs) (sets_of e) → lent_firsts ≡ firsts → lent_sets ≡ sets
+    → new ≡ flat_map (λ f. map (joined f) lent_sets) lent_firsts → new ≡ map (marks cs) (grouping_sets (drop (left - 1) es))
+grouping_step cs es left e some within is sets new firsts lf ls made f a b n =
+    sets_step cs es left e some within is sets new made (n ∙ ap₂ (λ x y. flat_map (λ g. map (joined g) x) y) b (a ∙ f))
+
+pub places_all : (cs : List Column) (gs : List Names) (made lent : List (List Bool)) (i : ℕ) (found : List (List ℕ)) → made ≡ map (marks cs) gs → lent ≡ made → length lent ≤ i
+    → found ≡ map (marked_from 0) (take i lent) → found ≡ map (places cs) gs
+places_all cs gs made lent i found m l all e = e ∙ ap (map (marked_from 0)) (take_all i lent all ∙ l ∙ m) ∙ places_of_marks cs gs

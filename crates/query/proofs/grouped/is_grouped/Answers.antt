@@ -1,0 +1,6 @@
+use Rattle.std.proofs.Common.{◌∙◌, sym}
+use Rattle.query.proofs.GroupedLemmas.{named_or_not}
+use Rattle.query.proofs.grouped.is_grouped.Goals as goal
+
+pub returns : goal.returns
+returns c = c.is_named_in.ensures ∙ sym (named_or_not c.args.name.now c.args.elements.now c.requires)

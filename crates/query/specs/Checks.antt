@@ -1,0 +1,96 @@
+-- The faults of a query that is asked of a table: each by itself, and the one that is answered.
+use Rattle.std.specs.Prelude.{ℕ, Bool, true, false, not, ◌||◌, List, [], ◌∷◌, Option, Some, None, bytes_eq, if◌then◌else◌, length, nat_lt}
+use Rattle.std.specs.List.{list_any}
+use Rattle.cells.specs.Values.{Table}
+use Rattle.cells.specs.declared.refused.Refused.{Refused}
+use Rattle.cells.specs.declared.refused.Refused.TheVariants.{NotGrouped, TooManySets, Unknown, WrongType}
+use Rattle.cells.specs.declared.schema.Column.{Column}
+use Rattle.cells.specs.declared.schema.ColumnType.{ColumnType}
+use Rattle.cells.specs.declared.schema.ColumnType.TheVariants as kind
+use Rattle.query.specs.Names.{names_of, tests_where}
+use Rattle.query.specs.Sets.{Names, grouping_sets, set_limit}
+use Rattle.query.specs.Values.{QueryTree}
+use Rattle.query.specs.declared.item.Item.{Item}
+use Rattle.query.specs.declared.item.Item.TheVariants as item
+use Rattle.query.specs.declared.test.Literal.{Literal}
+use Rattle.query.specs.declared.test.Literal.TheVariants as literal
+use Rattle.query.specs.declared.test.Operand.{Operand}
+use Rattle.query.specs.declared.test.Operand.TheVariants as operand
+use Rattle.query.specs.declared.test.Test.{Test}
+use Rattle.query.specs.declared.test.Test.TheVariants.{Compare, IsNull, Between, In}
+
+-- ---- Unknown: the query is of another table, or some name in it is no column
+
+abbrev pub is_column : List Column → List ℕ → Bool
+is_column columns name = list_any (λ c. bytes_eq c.name name) columns
+
+abbrev pub has_unknown : List Column → List (List ℕ) → Bool
+has_unknown columns names = list_any (λ n. not (is_column columns n)) names
+
+abbrev pub is_unknown : Table → QueryTree → Bool
+is_unknown table query = not (bytes_eq query.table table.name) || has_unknown table.columns (names_of query)
+
+-- ---- WrongType: a sum over texts (6.16 of the standard), or an integer beside a text (8.2, 8.3 and 8.4)
+
+abbrev pub is_text_type : ColumnType → Bool
+is_text_type kind.Int = false
+is_text_type kind.Text = true
+
+-- the column of the name is of type TEXT
+abbrev pub is_text_column : List Column → List ℕ → Bool
+is_text_column [] name = false
+is_text_column (c ∷ cs) name = if bytes_eq c.name name then is_text_type c.kind else is_text_column cs name
+
+abbrev pub is_text_literal : Literal → Bool
+is_text_literal (literal.Int n) = false
+is_text_literal (literal.Text t) = true
+
+abbrev pub is_text_operand : List Column → Operand (List ℕ) → Bool
+is_text_operand columns (operand.Column n) = is_text_column columns n
+is_text_operand columns (operand.Literal l) = is_text_literal l
+
+-- one is a text, and the other is none
+abbrev pub differ : Bool → Bool → Bool
+differ true b = not b
+differ false b = b
+
+abbrev pub is_mixed : List Column → Test (List ℕ) → Bool
+is_mixed columns (Compare a c b) = differ (is_text_operand columns a) (is_text_operand columns b)
+is_mixed columns (IsNull a not) = false
+is_mixed columns (Between a low high not) = differ (is_text_operand columns a) (is_text_operand columns low) || differ (is_text_operand columns a) (is_text_operand columns high)
+is_mixed columns (In a ls not) = list_any (λ l. differ (is_text_operand columns a) (is_text_literal l)) ls
+
+abbrev pub is_text_sum : List Column → Item (List ℕ) → Bool
+is_text_sum columns (item.Sum n) = is_text_column columns n
+is_text_sum columns i = false
+
+abbrev pub is_wrong_type : Table → QueryTree → Bool
+is_wrong_type table query = list_any (is_text_sum table.columns) query.items || list_any (is_mixed table.columns) (tests_where query.condition)
+
+-- ---- NotGrouped: an item is a column alone, or GROUPING of one, that is in no grouping set (7.11)
+
+-- one of the sets names the column
+abbrev pub is_in_some : List Names → List ℕ → Bool
+is_in_some sets name = list_any (λ s. list_any (bytes_eq name) s) sets
+
+abbrev pub is_ungrouped : List Names → Item (List ℕ) → Bool
+is_ungrouped sets (item.Column n) = not (is_in_some sets n)
+is_ungrouped sets (item.Grouping n) = not (is_in_some sets n)
+is_ungrouped sets i = false
+
+abbrev pub is_not_grouped : QueryTree → Bool
+is_not_grouped query = list_any (is_ungrouped (grouping_sets query.elements)) query.items
+
+-- ---- TooManySets: there are more grouping sets than the limit, repeated ones counted
+
+abbrev pub has_too_many_sets : QueryTree → Bool
+has_too_many_sets query = nat_lt set_limit (length (grouping_sets query.elements))
+
+-- ---- the first of them in this order, if there is one
+abbrev pub fault_of : Table → QueryTree → Option Refused
+fault_of table query =
+    if is_unknown table query then Some Unknown
+    else if is_wrong_type table query then Some WrongType
+    else if is_not_grouped query then Some NotGrouped
+    else if has_too_many_sets query then Some TooManySets
+    else None

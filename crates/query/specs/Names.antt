@@ -1,0 +1,64 @@
+-- The names of columns in a query.
+use Rattle.std.specs.Prelude.{ℕ, List, [], ◌∷◌, ◌++◌, Option, Some, None}
+use Rattle.std.specs.List.{flat_map}
+use Rattle.query.specs.Trees.{ElementTree, Empty, OneUnit, Rollup, Cube, Sets, ElementTrees, NoElements, MoreElements, PredicateTree, Or, And, Not, Holds, PredicateTrees, NoPredicates, MorePredicates}
+use Rattle.query.specs.Values.{QueryTree}
+use Rattle.query.specs.declared.item.Item.{Item}
+use Rattle.query.specs.declared.item.Item.TheVariants as item
+use Rattle.query.specs.declared.test.Test.{Test}
+use Rattle.query.specs.declared.test.Test.TheVariants.{Compare, IsNull, Between, In}
+use Rattle.query.specs.declared.test.Operand.{Operand}
+use Rattle.query.specs.declared.test.Operand.TheVariants as operand
+
+abbrev pub item_names : Item (List ℕ) → List (List ℕ)
+item_names (item.Column n) = n ∷ []
+item_names (item.Grouping n) = n ∷ []
+item_names item.CountRows = []
+item_names (item.Count n) = n ∷ []
+item_names (item.CountDistinct n) = n ∷ []
+item_names (item.Sum n) = n ∷ []
+item_names (item.Min n) = n ∷ []
+item_names (item.Max n) = n ∷ []
+
+abbrev pub operand_names : Operand (List ℕ) → List (List ℕ)
+operand_names (operand.Column n) = n ∷ []
+operand_names (operand.Literal l) = []
+
+abbrev pub test_names : Test (List ℕ) → List (List ℕ)
+test_names (Compare a c b) = operand_names a ++ operand_names b
+test_names (IsNull a not) = operand_names a
+test_names (Between a low high not) = operand_names a ++ operand_names low ++ operand_names high
+test_names (In a ls not) = operand_names a
+
+abbrev mutual
+  -- the tests of which a predicate is made
+  pub tests_of : {T : Type 0} → PredicateTree T → List T
+  tests_of (Or ps) = tests_of_each ps
+  tests_of (And ps) = tests_of_each ps
+  tests_of (Not p) = tests_of p
+  tests_of (Holds t) = t ∷ []
+
+  pub tests_of_each : {T : Type 0} → PredicateTrees T → List T
+  tests_of_each NoPredicates = []
+  tests_of_each (MorePredicates p ps) = tests_of p ++ tests_of_each ps
+
+-- the tests of WHERE
+abbrev pub tests_where : {T : Type 0} → Option (PredicateTree T) → List T
+tests_where None = []
+tests_where (Some p) = tests_of p
+
+abbrev mutual
+  pub element_names : ElementTree → List (List ℕ)
+  element_names Empty = []
+  element_names (OneUnit u) = u
+  element_names (Rollup us) = flat_map (λ u. u) us
+  element_names (Cube us) = flat_map (λ u. u) us
+  element_names (Sets es) = names_of_each es
+
+  pub names_of_each : ElementTrees → List (List ℕ)
+  names_of_each NoElements = []
+  names_of_each (MoreElements e es) = element_names e ++ names_of_each es
+
+-- the names in the items, in the predicate and in the elements of GROUP BY
+abbrev pub names_of : QueryTree → List (List ℕ)
+names_of q = flat_map item_names q.items ++ flat_map test_names (tests_where q.condition) ++ flat_map element_names q.elements

@@ -1,0 +1,120 @@
+-- Plans: queries with the places of columns for their names.
+use Rattle.std.specs.Prelude.{◌≡◌, ℕ, ◌<◌, ◌≤◌, List, [], ◌∷◌, Option, Some, None, Result, Ok, Err, bytes_eq, length, map, option_map, ⊤}
+use Rattle.std.specs.List.{AllByRecursion, position_or_len, slice_get}
+use Rattle.cells.specs.Values.{Table}
+use Rattle.cells.specs.declared.refused.Refused.{Refused}
+use Rattle.cells.specs.declared.schema.Column.{Column}
+use Rattle.cells.specs.declared.schema.ColumnType.{ColumnType}
+use Rattle.cells.specs.declared.schema.ColumnType.TheVariants.{Int}
+use Rattle.query.specs.Checks.{fault_of}
+use Rattle.query.specs.Headings.{heading}
+use Rattle.query.specs.Sets.{grouping_sets, places, set_limit}
+use Rattle.query.specs.Trees.{PredicateTree, Or, And, Not, Holds, PredicateTrees, NoPredicates, MorePredicates}
+use Rattle.query.specs.Truth.{IsOver}
+use Rattle.query.specs.Values.{QueryTree}
+use Rattle.query.specs.declared.item.Item.{Item}
+use Rattle.query.specs.declared.item.Item.TheVariants as item
+use Rattle.query.specs.declared.test.Operand.{Operand}
+use Rattle.query.specs.declared.test.Operand.TheVariants as operand
+use Rattle.query.specs.declared.test.Test.{Test}
+use Rattle.query.specs.declared.test.Test.TheVariants.{Compare, IsNull, Between, In}
+
+-- a plan: its items and the texts that a header has of them, its predicate, and its grouping sets as places that rise
+pub record PlanTree : Type 0 where
+  pub items : List (Item ℕ)
+  pub headings : List (List ℕ)
+  pub condition : Option (PredicateTree (Test ℕ))
+  pub sets : List (List ℕ)
+
+-- ---- names as places
+
+-- the place of the column of the name
+abbrev pub place_of : List Column → List ℕ → ℕ
+place_of columns name = position_or_len (λ c. bytes_eq c.name name) columns
+
+abbrev pub placed_item : List Column → Item (List ℕ) → Item ℕ
+placed_item columns (item.Column n) = item.Column (place_of columns n)
+placed_item columns (item.Grouping n) = item.Grouping (place_of columns n)
+placed_item columns item.CountRows = item.CountRows
+placed_item columns (item.Count n) = item.Count (place_of columns n)
+placed_item columns (item.CountDistinct n) = item.CountDistinct (place_of columns n)
+placed_item columns (item.Sum n) = item.Sum (place_of columns n)
+placed_item columns (item.Min n) = item.Min (place_of columns n)
+placed_item columns (item.Max n) = item.Max (place_of columns n)
+
+abbrev pub placed_operand : List Column → Operand (List ℕ) → Operand ℕ
+placed_operand columns (operand.Column n) = operand.Column (place_of columns n)
+placed_operand columns (operand.Literal l) = operand.Literal l
+
+abbrev pub placed_test : List Column → Test (List ℕ) → Test ℕ
+placed_test columns (Compare a c b) = Compare (placed_operand columns a) c (placed_operand columns b)
+placed_test columns (IsNull a not) = IsNull (placed_operand columns a) not
+placed_test columns (Between a low high not) = Between (placed_operand columns a) (placed_operand columns low) (placed_operand columns high) not
+placed_test columns (In a ls not) = In (placed_operand columns a) ls not
+
+abbrev mutual
+  pub placed_predicate : List Column → PredicateTree (Test (List ℕ)) → PredicateTree (Test ℕ)
+  placed_predicate columns (Or ps) = Or (placed_each columns ps)
+  placed_predicate columns (And ps) = And (placed_each columns ps)
+  placed_predicate columns (Not p) = Not (placed_predicate columns p)
+  placed_predicate columns (Holds t) = Holds (placed_test columns t)
+
+  pub placed_each : List Column → PredicateTrees (Test (List ℕ)) → PredicateTrees (Test ℕ)
+  placed_each columns NoPredicates = NoPredicates
+  placed_each columns (MorePredicates p ps) = MorePredicates (placed_predicate columns p) (placed_each columns ps)
+
+-- the plan of a query for a table
+abbrev pub plan_of : Table → QueryTree → PlanTree
+plan_of table query = record {
+  items = map (placed_item table.columns) query.items;
+  headings = map heading query.items;
+  condition = option_map (placed_predicate table.columns) query.condition;
+  sets = map (places table.columns) (grouping_sets query.elements);
+}
+
+-- the fault that is answered, and the plan where there is none
+abbrev pub checked_by : Option Refused → PlanTree → Result PlanTree Refused
+checked_by None plan = Ok plan
+checked_by (Some fault) plan = Err fault
+
+abbrev pub checked : Table → QueryTree → Result PlanTree Refused
+checked table query = checked_by (fault_of table query) (plan_of table query)
+
+-- ---- what holds of each plan for a table
+
+abbrev pub IsRising : List ℕ → Type 0
+IsRising [] = ⊤
+IsRising (p ∷ ps) = AllByRecursion (λ q. p < q) ps × IsRising ps
+
+-- the type of the column at the place, if there is one
+abbrev pub type_at : List Column → ℕ → Option ColumnType
+type_at columns place = option_map (λ c. c.kind) (slice_get columns place)
+
+-- the place is that of a column, in SUM of an INT column
+abbrev pub IsItemOf : List Column → Item ℕ → Type 0
+IsItemOf columns (item.Column p) = p < length columns
+IsItemOf columns (item.Grouping p) = p < length columns
+IsItemOf columns item.CountRows = ⊤
+IsItemOf columns (item.Count p) = p < length columns
+IsItemOf columns (item.CountDistinct p) = p < length columns
+IsItemOf columns (item.Sum p) = type_at columns p ≡ Some Int
+IsItemOf columns (item.Min p) = p < length columns
+IsItemOf columns (item.Max p) = p < length columns
+
+abbrev pub IsConditionOf : List Column → Option (PredicateTree (Test ℕ)) → Type 0
+IsConditionOf columns None = ⊤
+IsConditionOf columns (Some p) = IsOver (length columns) p
+
+-- places of columns, rising
+pub record IsSetOf (columns : List Column) (set : List ℕ) : Type 0 where
+  pub within : AllByRecursion (λ p. p < length columns) set
+  pub rising : IsRising set
+
+-- the plan may be carried out over rows of the table
+pub record IsPlanOf (table : Table) (plan : PlanTree) : Type 0 where
+  pub items : AllByRecursion (IsItemOf table.columns) plan.items
+  pub headings : length plan.headings ≡ length plan.items
+  pub condition : IsConditionOf table.columns plan.condition
+  pub sets : AllByRecursion (IsSetOf table.columns) plan.sets
+  pub some : 0 < length plan.sets
+  pub few : length plan.sets ≤ set_limit

@@ -1,0 +1,59 @@
+-- The grouping sets of GROUP BY (ISO/IEC 9075-2:1999, 7.9 <group by clause>). A set is a list of names, and stands for the
+-- columns that it names. Sets that are equal all stay, as in the standard; the order of the sets is this project's own.
+use Rattle.std.specs.Prelude.{ℕ, ◌+◌, Bool, List, [], ◌∷◌, ◌++◌, bytes_eq, if◌then◌else◌, map, min}
+use Rattle.std.specs.List.{flat_map, list_any}
+use Rattle.cells.specs.declared.schema.Column.{Column}
+use Rattle.query.specs.Trees.{ElementTree, Empty, OneUnit, Rollup, Cube, Sets, ElementTrees, NoElements, MoreElements}
+
+abbrev pub Names : Type 0
+Names = List (List ℕ)
+
+-- ROLLUP: the union of all units, of all but the last, and so on down to the empty set
+abbrev pub rollup : List Names → List Names
+rollup [] = [] ∷ []
+rollup (u ∷ us) = map (λ s. u ++ s) (rollup us) ++ [] ∷ []
+
+-- CUBE: the unions of all choices of units. They count down in binary, the first unit the highest digit
+abbrev pub cube : List Names → List Names
+cube [] = [] ∷ []
+cube (u ∷ us) = map (λ s. u ++ s) (cube us) ++ cube us
+
+abbrev mutual
+  -- the sets of an element
+  pub sets_of : ElementTree → List Names
+  sets_of Empty = [] ∷ []
+  sets_of (OneUnit u) = u ∷ []
+  sets_of (Rollup us) = rollup us
+  sets_of (Cube us) = cube us
+  sets_of (Sets es) = sets_of_each es
+
+  -- GROUPING SETS: the sets of its elements, one after another
+  pub sets_of_each : ElementTrees → List Names
+  sets_of_each NoElements = []
+  sets_of_each (MoreElements e es) = sets_of e ++ sets_of_each es
+
+-- GROUP BY: the union of each choice of one set from every element, the last varying fastest; with no element, the empty set
+abbrev pub grouping_sets : List ElementTree → List Names
+grouping_sets [] = [] ∷ []
+grouping_sets (e ∷ es) = flat_map (λ s. map (λ r. s ++ r) (grouping_sets es)) (sets_of e)
+
+-- whether the set names the column
+abbrev pub names_column : Names → Column → Bool
+names_column set column = list_any (λ n. bytes_eq column.name n) set
+
+-- the places, counted from k, of the columns that the set names
+abbrev pub places_from : ℕ → List Column → Names → List ℕ
+places_from k [] set = []
+places_from k (c ∷ cs) set = if names_column set c then k ∷ places_from (k + 1) cs set else places_from (k + 1) cs set
+
+-- the places of the columns that the set names, rising
+abbrev pub places : List Column → Names → List ℕ
+places columns set = places_from 0 columns set
+
+-- the most grouping sets of a query
+abbrev pub set_limit : ℕ
+set_limit = 256
+
+-- a number of sets as far as it is counted: one above the limit stands for all that are more
+abbrev pub counted : ℕ → ℕ
+counted n = min 257 n

@@ -1,0 +1,105 @@
+//! Whether the columns of a select list are in the grouping sets. No set is made for it.
+ghost use Rattle.std.specs.Prelude.{◌≡◌, bytes_eq};
+ghost use Rattle.std.specs.List.{flat_map, list_any};
+ghost use Rattle.query.specs.Checks.{is_in_some, is_not_grouped, is_ungrouped};
+ghost use Rattle.query.specs.Names.{element_names};
+ghost use Rattle.query.specs.Sets.{grouping_sets};
+ghost use Rattle.query.specs.Values.{AreFilled};
+
+use crate::element::{Element, ElementForm, Unit};
+use crate::item::Item;
+use crate::query::Query;
+use cells::Text;
+
+/// Whether some item is a column alone, or GROUPING of one, that is in no grouping set.
+pub fn is_not_grouped(query: &Query) -> bool
+    ensures { result ≡ is_not_grouped query.now }
+{
+    let elements = query.elements();
+    has_ungrouped(elements, query.items())
+}
+
+/// Whether some item is ungrouped.
+fn has_ungrouped(elements: &[Element], items: &[Item<Text>]) -> bool
+    requires { AreFilled elements.now }
+    ensures { result ≡ list_any (is_ungrouped (grouping_sets elements.now)) items.now }
+{
+    for item in items {
+        if is_ungrouped(elements, item) {
+            return true;
+        }
+    }
+    false
+}
+
+/// Whether the item is a column alone, or GROUPING of one, that is in no grouping set of the elements.
+fn is_ungrouped(elements: &[Element], item: &Item<Text>) -> bool
+    requires { AreFilled elements.now }
+    ensures { result ≡ is_ungrouped (grouping_sets elements.now) item.now }
+{
+    match item {
+        Item::Column(name) | Item::Grouping(name) => !is_grouped(elements, name),
+        _ => false,
+    }
+}
+
+/// Whether some grouping set of the elements has the name: it has exactly where some element names it.
+fn is_grouped(elements: &[Element], name: &Text) -> bool
+    requires { AreFilled elements.now }
+    ensures { result ≡ is_in_some (grouping_sets elements.now) name.now }
+{
+    is_named_in(elements, name)
+}
+
+/// Whether some element names the name.
+fn is_named_in(elements: &[Element], name: &Text) -> bool
+    ensures { result ≡ list_any (bytes_eq name.now) (flat_map element_names elements.now) }
+{
+    for element in elements {
+        if is_named(element, name) {
+            return true;
+        }
+    }
+    false
+}
+
+/// Whether the element names the name.
+fn is_named(element: &Element, name: &Text) -> bool
+    ensures { result ≡ list_any (bytes_eq name.now) (element_names element.now) }
+{
+    match &element.form {
+        ElementForm::Empty => false,
+        ElementForm::Unit(unit) => is_of_unit(unit, name),
+        ElementForm::Rollup(units) | ElementForm::Cube(units) => is_of_units(
+            units.as_slice(),
+            name,
+        ),
+        ElementForm::Sets(elements) => {
+            for inner in elements {
+                if is_named(inner, name) {
+                    return true;
+                }
+            }
+            false
+        }
+    }
+}
+
+/// Whether some unit has the name.
+fn is_of_units(units: &[Unit], name: &Text) -> bool
+    ensures { result ≡ list_any (bytes_eq name.now) (flat_map (λ u. u) units.now) }
+{
+    for unit in units {
+        if is_of_unit(unit, name) {
+            return true;
+        }
+    }
+    false
+}
+
+/// Whether the unit has the name.
+fn is_of_unit(unit: &Unit, name: &Text) -> bool
+    ensures { result ≡ list_any (bytes_eq name.now) unit.now }
+{
+    unit.names().iter().any(|other| *name == *other)
+}

@@ -1,0 +1,148 @@
+//! The columns of a query, by their places in place of their names.
+ghost use Rattle.std.specs.Prelude.{◌≡◌, IfOk, map, option_map};
+ghost use Rattle.query.specs.Plans.{place_of, placed_item, placed_operand, placed_predicate, placed_test};
+ghost use Rattle.query.specs.PredicateViews.{predicate_tree};
+
+use crate::item::Item;
+use crate::predicate::{Predicate, PredicateForm};
+use crate::test::{Operand, Test};
+use cells::{Column, Text};
+use std::alloc::{AllocError, Global};
+
+/// The place of the column of the name, and the number of columns where there is none.
+fn place_of(columns: &[Column], name: &Text) -> usize
+    ensures { result ≡ place_of columns.now name.now }
+{
+    for (place, column) in columns.iter().enumerate() {
+        if column.name == *name {
+            return place;
+        }
+    }
+    columns.len()
+}
+
+/// The items with places for names.
+pub fn placed_items(
+    alloc: Global,
+    columns: &[Column],
+    items: &[Item<Text>],
+) -> Result<Vec<Item<usize>>, AllocError>
+    ensures { IfOk result (λ placed. placed.items ≡ map (placed_item columns.now) items.now) }
+{
+    items
+        .iter()
+        .map(|item| placed_item(columns, item))
+        .collect(alloc)
+}
+
+/// The item with a place for its name.
+fn placed_item(columns: &[Column], item: &Item<Text>) -> Item<usize>
+    ensures { result ≡ placed_item columns.now item.now }
+{
+    match item {
+        Item::Column(name) => Item::Column(place_of(columns, name)),
+        Item::Grouping(name) => Item::Grouping(place_of(columns, name)),
+        Item::CountRows => Item::CountRows,
+        Item::Count(name) => Item::Count(place_of(columns, name)),
+        Item::CountDistinct(name) => Item::CountDistinct(place_of(columns, name)),
+        Item::Sum(name) => Item::Sum(place_of(columns, name)),
+        Item::Min(name) => Item::Min(place_of(columns, name)),
+        Item::Max(name) => Item::Max(place_of(columns, name)),
+    }
+}
+
+/// The predicate of WHERE with places for names, where there is one.
+pub fn placed_condition(
+    alloc: Global,
+    columns: &[Column],
+    condition: Option<Predicate<Text>>,
+) -> Result<Option<Predicate<usize>>, AllocError>
+    ensures { IfOk result (λ placed. placed ≡ option_map (placed_predicate columns.now) condition) }
+{
+    match condition {
+        Some(predicate) => Ok(Some(placed_predicate(alloc, columns, predicate)?)),
+        None => Ok(None),
+    }
+}
+
+/// The predicate with places for names.
+fn placed_predicate(
+    alloc: Global,
+    columns: &[Column],
+    predicate: Predicate<Text>,
+) -> Result<Predicate<usize>, AllocError>
+    ensures { IfOk result (λ placed. placed ≡ placed_predicate columns.now predicate) }
+{
+    match predicate.form {
+        PredicateForm::Or(inners) => {
+            let mut placed = Vec::new(alloc);
+            for inner in inners {
+                placed.push(placed_predicate(alloc, columns, inner)?)?;
+            }
+            Ok(Predicate {
+                form: PredicateForm::Or(placed),
+            })
+        }
+        PredicateForm::And(inners) => {
+            let mut placed = Vec::new(alloc);
+            for inner in inners {
+                placed.push(placed_predicate(alloc, columns, inner)?)?;
+            }
+            Ok(Predicate {
+                form: PredicateForm::And(placed),
+            })
+        }
+        PredicateForm::Not(inner) => Predicate::not(
+            alloc,
+            placed_predicate(alloc, columns, Box::into_inner(inner))?,
+        ),
+        PredicateForm::Test(test) => Ok(Predicate::test(placed_test(columns, test))),
+    }
+}
+
+/// The test with places for names.
+fn placed_test(columns: &[Column], test: Test<Text>) -> Test<usize>
+    ensures { result ≡ placed_test columns.now test }
+{
+    match test {
+        Test::Compare(a, comparison, b) => Test::Compare(
+            placed_operand(columns, a),
+            comparison,
+            placed_operand(columns, b),
+        ),
+        Test::IsNull { operand, negated } => Test::IsNull {
+            operand: placed_operand(columns, operand),
+            negated,
+        },
+        Test::Between {
+            operand,
+            low,
+            high,
+            negated,
+        } => Test::Between {
+            operand: placed_operand(columns, operand),
+            low: placed_operand(columns, low),
+            high: placed_operand(columns, high),
+            negated,
+        },
+        Test::In {
+            operand,
+            list,
+            negated,
+        } => Test::In {
+            operand: placed_operand(columns, operand),
+            list,
+            negated,
+        },
+    }
+}
+
+/// The operand with a place for its name.
+fn placed_operand(columns: &[Column], operand: Operand<Text>) -> Operand<usize>
+    ensures { result ≡ placed_operand columns.now operand }
+{
+    match operand {
+        Operand::Column(name) => Operand::Column(place_of(columns, &name)),
+        Operand::Literal(literal) => Operand::Literal(literal),
+    }
+}

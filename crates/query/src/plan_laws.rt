@@ -1,0 +1,59 @@
+//! Laws of grouping sets, of truth and of plans: functions that do nothing, whose clauses say them.
+ghost use Rattle.std.specs.Prelude.{◌≡◌, ◌≢◌, ◌++◌, ℕ, List, [], ◌∷◌, Some, false, length, pos, slice_index_or, true};
+ghost use Rattle.cells.specs.Fitting.{IsRowOf};
+ghost use Rattle.cells.specs.Values.{Entry, Table};
+ghost use Rattle.query.specs.Plans.{IsPlanOf, PlanTree, type_at};
+ghost use Rattle.query.specs.Trees.{Cube, Empty, MoreElements, NoElements, Not, OneUnit, PredicateTree, Rollup, Sets, Holds};
+ghost use Rattle.query.specs.Truth.{IsOver, truth};
+ghost use Rattle.query.specs.Worked.{A, B, C, sets_over};
+ghost use Rattle.query.specs.declared.test.Test.{Test as TestTree};
+
+use crate::item::Item;
+use crate::test::{Comparison, Literal, Operand, Test};
+use crate::truth::Truth;
+use cells::{Cell, ColumnType};
+
+/// The grouping sets of examples over a table of the columns A, B and C, computed by the definition.
+pub fn worked_sets()
+    // CUBE(A, B)
+    ensures cube { sets_over (Cube (A ∷ B ∷ []) ∷ []) ≡ (0 ∷ 1 ∷ []) ∷ (0 ∷ []) ∷ (1 ∷ []) ∷ [] ∷ [] }
+    // ROLLUP((A, B), C)
+    ensures rollup { sets_over (Rollup ((A ++ B) ∷ C ∷ []) ∷ []) ≡ (0 ∷ 1 ∷ 2 ∷ []) ∷ (0 ∷ 1 ∷ []) ∷ [] ∷ [] }
+    // A, ROLLUP(B)
+    ensures partly { sets_over (OneUnit A ∷ Rollup (B ∷ []) ∷ []) ≡ (0 ∷ 1 ∷ []) ∷ (0 ∷ []) ∷ [] }
+    // ROLLUP(A), ROLLUP(B)
+    ensures choices { sets_over (Rollup (A ∷ []) ∷ Rollup (B ∷ []) ∷ []) ≡ (0 ∷ 1 ∷ []) ∷ (0 ∷ []) ∷ (1 ∷ []) ∷ [] ∷ [] }
+    // GROUPING SETS (A, ROLLUP(B), ())
+    ensures listed { sets_over (Sets (MoreElements (OneUnit A) (MoreElements (Rollup (B ∷ [])) (MoreElements Empty NoElements))) ∷ []) ≡ (0 ∷ []) ∷ (1 ∷ []) ∷ [] ∷ [] ∷ [] }
+    // A, A
+    ensures again { sets_over (OneUnit A ∷ OneUnit A ∷ []) ≡ (0 ∷ []) ∷ [] }
+    // (C, A)
+    ensures rising { sets_over (OneUnit (C ++ A) ∷ []) ≡ (0 ∷ 2 ∷ []) ∷ [] }
+    // No GROUP BY.
+    ensures none { sets_over [] ≡ [] ∷ [] }
+{}
+
+/// The truth of examples over rows of one cell, computed by the definition.
+pub fn worked_truths()
+    // NOT (UNITS > 0) where UNITS is NULL
+    ensures not_of_unknown { truth (Not (Holds (Test.Compare (Operand.Column 0) Comparison.Greater (Operand.Literal (Literal.Int (pos 0)))))) (Cell.Null ∷ []) ≡ Truth.Unknown }
+    // UNITS IS NULL
+    ensures null { truth (Holds (Test.IsNull (Operand.Column 0) false)) (Cell.Null ∷ []) ≡ Truth.True }
+    // UNITS NOT IN (1, 2), where UNITS is NULL
+    ensures not_in { truth (Holds (Test.In (Operand.Column 0) (Literal.Int (pos 1) ∷ Literal.Int (pos 2) ∷ []) true)) (Cell.Null ∷ []) ≡ Truth.Unknown }
+    // UNITS BETWEEN 1 AND 2, where UNITS is 2
+    ensures between { truth (Holds (Test.Between (Operand.Column 0) (Operand.Literal (Literal.Int (pos 1))) (Operand.Literal (Literal.Int (pos 2))) false)) (Cell.Int (pos 2) ∷ []) ≡ Truth.True }
+{}
+
+/// The predicate of a plan may be asked of each row of the table that the plan is for.
+pub fn predicates_fit_rows()
+    ensures { (table : Table) (plan : PlanTree) (row : Entry) (predicate : PredicateTree (TestTree ℕ)) →
+        IsPlanOf table plan → plan.condition ≡ Some predicate → IsRowOf table row → IsOver (length row.cells) predicate }
+{}
+
+/// Each row of a table has a cell for each column, and no text in an INT column.
+pub fn rows_fit_columns()
+    ensures cells { (table : Table) (row : Entry) → IsRowOf table row → length row.cells ≡ length table.columns }
+    ensures integers { (table : Table) (row : Entry) (place : ℕ) (text : List ℕ) →
+        IsRowOf table row → type_at table.columns place ≡ Some ColumnType.Int → slice_index_or row.cells place Cell.Null ≢ Cell.Text text }
+{}
