@@ -2,31 +2,33 @@
 use Rattle.std.proofs.Common.{◌≡◌, ℕ, ◌+◌, ◌<◌, ◌≤◌, ◌^◌, Bool, true, false, Option, Some, None, Vec, List, [], ◌∷◌, ◌++◌, cond, length, set, take, get_or, suc, zero, refl, sym, ap, ◌∙◌, subst, arith, length-append, sum_by, inl, inr}
 use Rattle.std.specs.Bool.{⊤}
 use Rattle.std.specs.List.{AllByRecursion, flat_map}
-use Rattle.std.specs.Option.{MatchOption}
+use Rattle.std.specs.Option.{MatchOption, option_map}
 use Rattle.std.specs.Ordering.{is_eq}
 use Rattle.std.specs.declared.alloc.Global.{Global}
 use Rattle.std.specs.declared.cmp.Ordering.{Ordering}
+use Rattle.std.specs.declared.cmp.Ordering.TheVariants.{Equal}
 use Rattle.std.specs.declared.sync.Arc.{Arc}
 use Rattle.std.proofs.lemmas.Bool.{cases_lt}
-use Rattle.std.proofs.lemmas.Cmp.{tied_itself}
+use Rattle.std.proofs.lemmas.Cmp.{alike_right, tied_itself}
 use Rattle.std.proofs.lemmas.List.{length-map}
 use Rattle.trie.specs.Digits.{digit, digit_count, digit_order, digits, first_digits, place_count}
-use Rattle.trie.specs.Entries.{value_at}
-use Rattle.trie.specs.Holding.{ArePlaces, node_len, pairs_of}
-use Rattle.trie.specs.Merging.{blended, BranchesMeet, BucketsMeet, CanBlend, IsMerged, laid, LeafMeets, Meet, MergeEach, Merges, turned, Turned}
+use Rattle.trie.specs.Entries.{entry_at, value_at}
+use Rattle.trie.specs.Holding.{ArePlaces, node_len, pairs_of, prefix_of}
+use Rattle.trie.specs.Merging.{AsksOf, blend_entries, blended, BranchesMeet, BucketsMeet, CanBlend, HasEntries, IsMerged, laid, laid_pair, LeafMeets, Meet, MergeEach, Merges, turned, Turned}
 use Rattle.trie.specs.Tree.{AreChildren, entries_in, IsNode, IsPlace, StartsWith, values}
 use Rattle.trie.specs.declared.node.Node.{Node}
 use Rattle.trie.specs.declared.node.Node.TheVariants.{Leaf, Bucket, Branch}
-use Rattle.trie.proofs.BucketsLemmas.{blended_none, blended_some, found_same}
+use Rattle.trie.proofs.BucketsLemmas.{blended_none}
+use Rattle.trie.proofs.FoundLemmas.{entry_at-order, entry-with_pair, found-passes, found_alike, value_blended, value-entry}
 use Rattle.trie.proofs.DigitsLemmas.{get_or-digits, length-digits, starts_with-at, starts_with-front, starts_with-next}
 use Rattle.trie.proofs.EntriesLemmas.{with_pair-longer, with_pair-most}
 use Rattle.trie.proofs.ListsLemmas.{all-unmap, flat_map-around}
-use Rattle.trie.proofs.MapsLemmas.{digit_total, HaveHashes, is_Equal, value-with_pair}
+use Rattle.trie.proofs.MapsLemmas.{digit_total, HaveHashes, is_Equal}
 use Rattle.trie.proofs.NodesLemmas.{branch_holds, node_len-is, total_lens}
 use Rattle.trie.proofs.DenseLemmas.{length-places_of}
 use Rattle.trie.specs.Dense.{places_in}
 use Rattle.trie.proofs.OrderLemmas.{value_at-order}
-use Rattle.trie.proofs.PlacesLemmas.{child_at, value_at-below}
+use Rattle.trie.proofs.PlacesLemmas.{child_at, entry_at-below, value_at-below}
 use Rattle.trie.proofs.TreeLemmas.{entries-Bucket, IsNode-Bucket}
 use Rattle.trie.proofs.VariantsLemmas.{branch_in, bucket_in, leaf_in}
 
@@ -53,11 +55,14 @@ starts_length [] ds s = omega arith
 starts_length (p ∷ prefix) [] s = absurd s
 starts_length (p ∷ prefix) (d ∷ ds) s = let rest = starts_length prefix ds s.1 in omega arith
 
--- a blend whose arguments are turned
-blended_turned : {V : Type 0} (f : V → V → V) (x : Option V) (y : V) →
-    Some (laid (turned true f) x y) ≡ blended f (Some y) x
-blended_turned f None y = refl
-blended_turned f (Some x) y = refl
+-- what is laid over an entry, or over none, is the blend of both
+laid_blended : {V : Type 0} (f : V → V → V) (x : Option V) (y : V) → Some (laid (turned false f) x y) ≡ blended f x (Some y)
+laid_blended f None y = refl
+laid_blended f (Some x) y = refl
+
+laid_turned : {V : Type 0} (f : V → V → V) (x : Option V) (y : V) → Some (laid (turned true f) x y) ≡ blended f (Some y) x
+laid_turned f None y = refl
+laid_turned f (Some x) y = refl
 
 pub one_place : {X A : Type 0} (f : X → List A) (xs : List X) (k : ℕ) (d : X) → k < length xs →
     length (f (get_or xs k d)) ≤ length (flat_map f xs)
@@ -108,11 +113,25 @@ tied hash cmp h k = ap is_eq (tied_itself (digit_total hash cmp h) k)
 
 module _ {K V : Type 0} (hash : K → ℕ) (cmp : K → K → Ordering) (h : HaveHashes hash cmp) where
   module _ (Asks : V → V → Type 0) (blend : V → V → V) (depth : ℕ) (first second : Option (Node K V)) where
+    like_step : (pair : K × V) (is_first : Bool) (q : K) (o : Option (K × V)) →
+        ((e : K × V) → o ≡ Some e → digit_order hash cmp pair.0 e.0 ≡ Equal) →
+        is_eq (digit_order hash cmp q (laid (turned is_first (blend_entries blend)) o pair).0) ≡ is_eq (digit_order hash cmp q pair.0)
+    like_step pair is_first q None same = refl
+    like_step pair true q (Some e) same = ap is_eq (sym (alike_right (digit_total hash cmp h) pair.0 e.0 q (same e refl)))
+    like_step pair false q (Some e) same = refl
+
+    -- the key that is laid is equal to its pair's
+    laid_like : (pair : K × V) (held : List (K × V)) (is_first : Bool) (q : K) →
+        is_eq (digit_order hash cmp q (laid_pair hash cmp blend held pair is_first).0) ≡ is_eq (digit_order hash cmp q pair.0)
+    laid_like pair held is_first q =
+        like_step pair is_first q (entry_at (digit_order hash cmp) held pair.0) (λ e found.
+        is_Equal _ (found-passes (λ d. is_eq (digit_order hash cmp pair.0 d.0)) held e found))
+
     pub alone_first : first ≡ None → Merges hash cmp blend depth first second second
     alone_first is = rw is (record {
       at = λ prefix deep fp sp. record {
         placed = sp;
-        values = λ key s. refl;
+        entries = λ key s. refl;
         first_in = omega arith;
         most = omega arith;
       };
@@ -122,7 +141,7 @@ module _ {K V : Type 0} (hash : K → ℕ) (cmp : K → K → Ordering) (h : Hav
     alone_second is = rw is (record {
       at = λ prefix deep fp sp. record {
         placed = fp;
-        values = λ key s. sym (blended_none blend (value_at (digit_order hash cmp) (entries_in first) key));
+        entries = λ key s. sym (blended_none (blend_entries blend) (entry_at (digit_order hash cmp) (entries_in first) key));
         first_in = omega arith;
         most = omega arith;
       };
@@ -136,23 +155,29 @@ module _ {K V : Type 0} (hash : K → ℕ) (cmp : K → K → Ordering) (h : Hav
         rw (← deep) (starts_is prefix (digits (hash pair.value.0)) (leaf_in hash cmp place prefix pair is m).starts)
 
     module _ (m : Meet hash cmp Asks depth first second) where
+      -- the value of an entry that is found
+      value_found : (place : Option (Node K V)) (q : K) (e : K × V) → Some e ≡ entry_at (digit_order hash cmp) (entries_in place) q →
+          value_at (digit_order hash cmp) (entries_in place) q ≡ Some e.1
+      value_found place q e found =
+          value-entry (digit_order hash cmp) (entries_in place) q ∙ ap (λ o. option_map (λ d. d.1) o) (sym found)
+
       module _ (pair : Arc (K × V) Global) (some : 0 < length (entries_in first)) (is : second ≡ Some (Leaf pair)) where
-        second_asked : (o : Option V) → o ≡ value_at (digit_order hash cmp) (entries_in first) pair.value.0 →
-            MatchOption o ⊤ (λ v. Turned false Asks v pair.value.1)
+        second_asked : (o : Option (K × V)) → o ≡ entry_at (digit_order hash cmp) (entries_in first) pair.value.0 →
+            MatchOption o ⊤ (λ e. Turned false (AsksOf Asks) e pair.value)
         second_asked None found = tt
-        second_asked (Some x) found =
+        second_asked (Some e) found =
             let leaf = leaf_in hash cmp second m.prefix pair is m.second_placed in
             let there : value_at (digit_order hash cmp) (entries_in second) pair.value.0 ≡ Some pair.value.1 =
             rw (leaf.entries_are, tied hash cmp h pair.value.0) refl in
-            m.can pair.value.0 leaf.starts x pair.value.1 (sym found) there
+            m.can pair.value.0 leaf.starts e.1 pair.value.1 (value_found first pair.value.0 e found) there
 
-        second_values : (q : K) → (b : Bool) → is_eq ((digit_order hash cmp) q pair.value.0) ≡ b →
-            cond b (Some (laid blend (value_at (digit_order hash cmp) (entries_in first) pair.value.0) pair.value.1)) (value_at (digit_order hash cmp) (entries_in first) q)
-            ≡ blended blend (value_at (digit_order hash cmp) (entries_in first) q) (cond b (Some pair.value.1) None)
-        second_values q true e =
-            rw (found_same (digit_total hash cmp h) q pair.value.0 (is_Equal _ e) (entries_in first))
-            (blended_some blend (value_at (digit_order hash cmp) (entries_in first) pair.value.0) pair.value.1)
-        second_values q false e = sym (blended_none blend (value_at (digit_order hash cmp) (entries_in first) q))
+        second_entries : (q : K) → (b : Bool) → is_eq ((digit_order hash cmp) q pair.value.0) ≡ b →
+            cond b (Some (laid_pair hash cmp blend (entries_in first) pair.value false)) (entry_at (digit_order hash cmp) (entries_in first) q)
+            ≡ blended (blend_entries blend) (entry_at (digit_order hash cmp) (entries_in first) q) (cond b (Some pair.value) None)
+        second_entries q true e =
+            rw (found_alike (digit_order hash cmp) (digit_total hash cmp h) q pair.value.0 (is_Equal _ e) (entries_in first))
+            (laid_blended (blend_entries blend) (entry_at (digit_order hash cmp) (entries_in first) pair.value.0) pair.value)
+        second_entries q false e = sym (blended_none (blend_entries blend) (entry_at (digit_order hash cmp) (entries_in first) q))
 
         pub leaf_second : LeafMeets hash cmp Asks blend depth first second first pair.value false
         leaf_second =
@@ -160,23 +185,27 @@ module _ {K V : Type 0} (hash : K → ℕ) (cmp : K → K → Ordering) (h : Hav
             let prefix_is = leaf_prefix second pair is m.prefix m.deep m.second_placed in
             let one : length (entries_in second) ≡ 1 = ap length leaf.entries_are in
             let low : length m.prefix ≤ digit_count = omega (arith, starts_length _ _ leaf.starts, length-digits (hash pair.value.0)) in
-            let v = laid blend (value_at (digit_order hash cmp) (entries_in first) pair.value.0) pair.value.1 in
+            let new = laid_pair hash cmp blend (entries_in first) pair.value false in
             record {
               low = omega (arith, low, m.deep);
-              placed = rw prefix_is at m.first_placed;
-              room = omega (arith, m.room, one);
-              can = second_asked _ refl;
               some_first = some;
               some_second = omega (arith, one);
-              become = λ n held. record {
-                at = λ prefix deep fp sp.
-                    let longer = with_pair-longer (digit_order hash cmp) pair.value.0 v (entries_in first) in
-                    let most = (with_pair-most (digit_order hash cmp) pair.value.0 v (entries_in first)).1 in
+              can = λ at hashed deep. record {
+                hashed = hashed;
+                placed = rw (hashed, deep) (rw prefix_is at m.first_placed);
+                room = omega (arith, m.room, one);
+                can = second_asked _ refl;
+              };
+              become = λ at hashed deep n held. record {
+                at = λ prefix deep_too fp sp.
+                    let longer = with_pair-longer (digit_order hash cmp) new.0 new.1 (entries_in first) in
+                    let most = (with_pair-most (digit_order hash cmp) new.0 new.1 (entries_in first)).1 in
+                    let here : prefix_of at ≡ first_digits (hash pair.value.0) depth = rw (hashed, deep) refl in
                     record {
-                      placed = rw (leaf_prefix second pair is prefix deep sp) held.placed;
-                      values = λ q s. rw (held.entries_are, leaf.entries_are)
-                          (value-with_pair (digit_total hash cmp h) (entries_in first) pair.value.0 v q
-                          ∙ second_values q (is_eq ((digit_order hash cmp) q pair.value.0)) refl);
+                      placed = rw (leaf_prefix second pair is prefix deep_too sp) (rw here at held.placed);
+                      entries = λ q s. rw (held.entries_are, leaf.entries_are)
+                          (entry-with_pair (digit_order hash cmp) (digit_total hash cmp h) (entries_in first) new.0 new.1 q
+                          ∙ rw (laid_like pair.value (entries_in first) false q) (second_entries q (is_eq ((digit_order hash cmp) q pair.value.0)) refl));
                       first_in = omega (arith, ap length held.entries_are, longer);
                       most = omega (arith, ap length held.entries_are, most, one);
                     };
@@ -184,22 +213,22 @@ module _ {K V : Type 0} (hash : K → ℕ) (cmp : K → K → Ordering) (h : Hav
             }
 
       module _ (pair : Arc (K × V) Global) (some : 0 < length (entries_in second)) (is : first ≡ Some (Leaf pair)) where
-        first_asked : (o : Option V) → o ≡ value_at (digit_order hash cmp) (entries_in second) pair.value.0 →
-            MatchOption o ⊤ (λ v. Turned true Asks v pair.value.1)
+        first_asked : (o : Option (K × V)) → o ≡ entry_at (digit_order hash cmp) (entries_in second) pair.value.0 →
+            MatchOption o ⊤ (λ e. Turned true (AsksOf Asks) e pair.value)
         first_asked None found = tt
-        first_asked (Some x) found =
+        first_asked (Some e) found =
             let leaf = leaf_in hash cmp first m.prefix pair is m.first_placed in
             let there : value_at (digit_order hash cmp) (entries_in first) pair.value.0 ≡ Some pair.value.1 =
             rw (leaf.entries_are, tied hash cmp h pair.value.0) refl in
-            m.can pair.value.0 leaf.starts pair.value.1 x there (sym found)
+            m.can pair.value.0 leaf.starts pair.value.1 e.1 there (value_found second pair.value.0 e found)
 
-        first_values : (q : K) → (b : Bool) → is_eq ((digit_order hash cmp) q pair.value.0) ≡ b →
-            cond b (Some (laid (turned true blend) (value_at (digit_order hash cmp) (entries_in second) pair.value.0) pair.value.1)) (value_at (digit_order hash cmp) (entries_in second) q)
-            ≡ blended blend (cond b (Some pair.value.1) None) (value_at (digit_order hash cmp) (entries_in second) q)
-        first_values q true e =
-            rw (found_same (digit_total hash cmp h) q pair.value.0 (is_Equal _ e) (entries_in second))
-            (blended_turned blend (value_at (digit_order hash cmp) (entries_in second) pair.value.0) pair.value.1)
-        first_values q false e = refl
+        first_entries : (q : K) → (b : Bool) → is_eq ((digit_order hash cmp) q pair.value.0) ≡ b →
+            cond b (Some (laid_pair hash cmp blend (entries_in second) pair.value true)) (entry_at (digit_order hash cmp) (entries_in second) q)
+            ≡ blended (blend_entries blend) (cond b (Some pair.value) None) (entry_at (digit_order hash cmp) (entries_in second) q)
+        first_entries q true e =
+            rw (found_alike (digit_order hash cmp) (digit_total hash cmp h) q pair.value.0 (is_Equal _ e) (entries_in second))
+            (laid_turned (blend_entries blend) (entry_at (digit_order hash cmp) (entries_in second) pair.value.0) pair.value)
+        first_entries q false e = refl
 
         pub leaf_first : LeafMeets hash cmp Asks blend depth first second second pair.value true
         leaf_first =
@@ -207,22 +236,26 @@ module _ {K V : Type 0} (hash : K → ℕ) (cmp : K → K → Ordering) (h : Hav
             let prefix_is = leaf_prefix first pair is m.prefix m.deep m.first_placed in
             let one : length (entries_in first) ≡ 1 = ap length leaf.entries_are in
             let low : length m.prefix ≤ digit_count = omega (arith, starts_length _ _ leaf.starts, length-digits (hash pair.value.0)) in
-            let v = laid (turned true blend) (value_at (digit_order hash cmp) (entries_in second) pair.value.0) pair.value.1 in
+            let new = laid_pair hash cmp blend (entries_in second) pair.value true in
             record {
               low = omega (arith, low, m.deep);
-              placed = rw prefix_is at m.second_placed;
-              room = omega (arith, m.room, one);
-              can = first_asked _ refl;
               some_first = omega (arith, one);
               some_second = some;
-              become = λ n held. record {
-                at = λ prefix deep fp sp.
-                    let most = with_pair-most (digit_order hash cmp) pair.value.0 v (entries_in second) in
+              can = λ at hashed deep. record {
+                hashed = hashed;
+                placed = rw (hashed, deep) (rw prefix_is at m.second_placed);
+                room = omega (arith, m.room, one);
+                can = first_asked _ refl;
+              };
+              become = λ at hashed deep n held. record {
+                at = λ prefix deep_too fp sp.
+                    let most = with_pair-most (digit_order hash cmp) new.0 new.1 (entries_in second) in
+                    let here : prefix_of at ≡ first_digits (hash pair.value.0) depth = rw (hashed, deep) refl in
                     record {
-                      placed = rw (leaf_prefix first pair is prefix deep fp) held.placed;
-                      values = λ q s. rw (held.entries_are, leaf.entries_are)
-                          (value-with_pair (digit_total hash cmp h) (entries_in second) pair.value.0 v q
-                          ∙ first_values q (is_eq ((digit_order hash cmp) q pair.value.0)) refl);
+                      placed = rw (leaf_prefix first pair is prefix deep_too fp) (rw here at held.placed);
+                      entries = λ q s. rw (held.entries_are, leaf.entries_are)
+                          (entry-with_pair (digit_order hash cmp) (digit_total hash cmp h) (entries_in second) new.0 new.1 q
+                          ∙ rw (laid_like pair.value (entries_in second) true q) (first_entries q (is_eq ((digit_order hash cmp) q pair.value.0)) refl));
                       first_in = omega (arith, ap length held.entries_are, most.0, one);
                       most = omega (arith, ap length held.entries_are, most.1, one);
                     };
@@ -269,31 +302,52 @@ module _ {K V : Type 0} (hash : K → ℕ) (cmp : K → K → Ordering) (h : Hav
                     rw made.1 (record {
                       placed = subst (λ (F : List ℕ → Type 0). F prefix) (sym (IsNode-Bucket hash cmp pairs)) (
                         a.full,
-                        omega (arith, a.many, both.merged.first, length-map pairs.items (λ p. p.value), length-map es.items (λ p. p.value)),
+                        omega (arith, a.many, both.first, length-map pairs.items (λ p. p.value), length-map es.items (λ p. p.value)),
                         both.rising,
                         all-unmap (λ p. p.value) (λ e. StartsWith prefix (digits (hash e.0))) pairs.items
                             (both.below prefix a.one_hash b.one_hash),
                       );
-                      values = λ q s. rw (held, a.entries_are, b.entries_are, agree q (pairs_of pairs.items), agree q (pairs_of es.items), agree q (pairs_of fs.items))
-                          (both.merged.values q);
-                      first_in = omega (arith, ap length held, ap length a.entries_are, both.merged.first);
-                      most = omega (arith, ap length held, ap length a.entries_are, ap length b.entries_are, both.merged.most);
+                      entries = λ q s. rw (held, a.entries_are, b.entries_are, entry_at-order hash cmp h q (pairs_of pairs.items), entry_at-order hash cmp h q (pairs_of es.items), entry_at-order hash cmp h q (pairs_of fs.items))
+                          (both.merged.entries q);
+                      first_in = omega (arith, ap length held, ap length a.entries_are, both.first);
+                      most = omega (arith, ap length held, ap length a.entries_are, ap length b.entries_are, both.most);
                     });
               };
             }
 
-      -- a value below a place is the value in the branch
+      -- the place of a key
+      place_of_key : (prefix : List ℕ) (places : List (Option (Node K V))) → ArePlaces hash cmp prefix places →
+          (k : ℕ) (key : K) → StartsWith (prefix ++ k ∷ []) (digits (hash key)) →
+          record {
+            low : length prefix ≤ digit_count;
+            are : ArePlaces hash cmp (first_digits (hash key) (length prefix)) places;
+            digit_is : k ≡ digit (hash key) (length prefix);
+          }
+      place_of_key prefix places are k key s =
+          let front = starts_with-front prefix (k ∷ []) (digits (hash key)) s in
+          let prefix_is = starts_is prefix (digits (hash key)) front in
+          record {
+            low = omega (arith, are.short);
+            are = rw prefix_is at are;
+            digit_is = sym (starts_with-at prefix k (digits (hash key)) s) ∙ get_or-digits (hash key) (length prefix) are.short;
+          }
+
+      -- a value or an entry below a place is that in the branch
       value_in_place : (prefix : List ℕ) (places : List (Option (Node K V))) → ArePlaces hash cmp prefix places →
           (k : ℕ) (key : K) → StartsWith (prefix ++ k ∷ []) (digits (hash key)) →
           value_at (digit_order hash cmp) (entries_in (get_or places k None)) key ≡ value_at (digit_order hash cmp) (flat_map entries_in places) key
       value_in_place prefix places are k key s =
-          let front = starts_with-front prefix (k ∷ []) (digits (hash key)) s in
-          let prefix_is = starts_is prefix (digits (hash key)) front in
-          let low : length prefix ≤ digit_count = omega (arith, are.short) in
-          let digit_is : k ≡ digit (hash key) (length prefix) =
-          sym (starts_with-at prefix k (digits (hash key)) s) ∙ get_or-digits (hash key) (length prefix) are.short in
-          value_at-below hash cmp (hash key) (length prefix) low places (rw prefix_is at are) key refl
-          (get_or places k None) (ap (λ n. get_or places n None) digit_is)
+          let found = place_of_key prefix places are k key s in
+          value_at-below hash cmp (hash key) (length prefix) found.low places found.are key refl
+          (get_or places k None) (ap (λ n. get_or places n None) found.digit_is)
+
+      entry_in_place : (prefix : List ℕ) (places : List (Option (Node K V))) → ArePlaces hash cmp prefix places →
+          (k : ℕ) (key : K) → StartsWith (prefix ++ k ∷ []) (digits (hash key)) →
+          entry_at (digit_order hash cmp) (entries_in (get_or places k None)) key ≡ entry_at (digit_order hash cmp) (flat_map entries_in places) key
+      entry_in_place prefix places are k key s =
+          let found = place_of_key prefix places are k key s in
+          entry_at-below hash cmp (hash key) (length prefix) found.low places found.are key refl
+          (get_or places k None) (ap (λ n. get_or places n None) found.digit_is)
 
       module _ (p q : ℕ) (xs ys : Vec (Arc (Node K V) Global) Global) (n o : ℕ) (is : first ≡ Some (Branch n p xs)) (also : second ≡ Some (Branch o q ys)) where
         branches_fit : (zs : List (Option (Node K V))) → length zs ≡ place_count →
@@ -365,7 +419,7 @@ module _ {K V : Type 0} (hash : K → ℕ) (cmp : K → K → Ordering) (h : Hav
                     (Branch (sum_by node_len (values children.items)) bitmap children) refl in
                     rw made (record {
                       placed = holds.placed;
-                      values = λ key s.
+                      entries = λ key s.
                           let k = digit (hash key) (length prefix) in
                           let longer : StartsWith (prefix ++ k ∷ []) (digits (hash key)) =
                           starts_with-next prefix k (digits (hash key)) s (omega (arith, a.places_are.short, length-digits (hash key)))
@@ -377,10 +431,10 @@ module _ {K V : Type 0} (hash : K → ℕ) (cmp : K → K → Ordering) (h : Hav
                             holds.entries_are,
                             a.entries_are,
                             b.entries_are,
-                            ← value_in_place prefix (places_in bitmap children.items) are k key longer,
-                            ← value_in_place prefix (places_in p xs.items) a.places_are k key longer,
-                            ← value_in_place prefix (places_in q ys.items) b.places_are k key longer,
-                          ) (child.values key longer);
+                            ← entry_in_place prefix (places_in bitmap children.items) are k key longer,
+                            ← entry_in_place prefix (places_in p xs.items) a.places_are k key longer,
+                            ← entry_in_place prefix (places_in q ys.items) b.places_are k key longer,
+                          ) (child.entries key longer);
                       first_in = omega (arith, ap length holds.entries_are, ap length a.entries_are, fit.first_in);
                       most = omega (arith, ap length holds.entries_are, ap length a.entries_are, ap length b.entries_are, fit.most);
                     });
@@ -438,13 +492,25 @@ module _ {K V : Type 0} (hash : K → ℕ) (cmp : K → K → Ordering) where
     can = λ key s x y fx fy. can.can key x y (rw is at fx) (rw also at fy);
   }
 
+  pub roots_entries : (blend : V → V → V) (first second third : Option (Node K V)) (es fs : List (K × V)) →
+      entries_in first ≡ es → entries_in second ≡ fs → IsPlace hash cmp first [] → IsPlace hash cmp second [] →
+      Merges hash cmp blend 0 first second third → HasEntries (digit_order hash cmp) blend es fs (entries_in third)
+  roots_entries blend first second third es fs is also placed other merges =
+      let merged = merges.at [] refl placed other in
+      record { entries = λ key. rw (← is, ← also) (merged.entries key tt) }
+
   pub roots_merged : (blend : V → V → V) (first second third : Option (Node K V)) (es fs : List (K × V)) →
       entries_in first ≡ es → entries_in second ≡ fs → IsPlace hash cmp first [] → IsPlace hash cmp second [] →
       Merges hash cmp blend 0 first second third → IsMerged (digit_order hash cmp) blend es fs (entries_in third)
   roots_merged blend first second third es fs is also placed other merges =
       let merged = merges.at [] refl placed other in
+      let whole = roots_entries blend first second third es fs is also placed other merges in
+      let order = digit_order hash cmp in
       record {
-        values = λ key. rw (← is, ← also) (merged.values key tt);
+        values = λ key.
+            value-entry order (entries_in third) key ∙ ap (λ o. option_map (λ e. e.1) o) (whole.entries key)
+            ∙ value_blended blend (entry_at order es key) (entry_at order fs key)
+            ∙ rw (value-entry order es key, value-entry order fs key) refl;
         first = omega (arith, merged.first_in, ap length is);
         most = omega (arith, merged.most, ap length is, ap length also);
       }

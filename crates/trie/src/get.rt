@@ -2,7 +2,7 @@
 ghost use Rattle.std.specs.Prelude.{◌≡◌};
 ghost use Rattle.std.specs.Option.{option_copied};
 ghost use Rattle.trie.specs.Digits.{digit_order};
-ghost use Rattle.trie.specs.Entries.{value_at};
+ghost use Rattle.trie.specs.Entries.{entry_at};
 ghost use Rattle.trie.specs.Holding.{held_at, IsPlaced, seen_in};
 
 use crate::bucket::find;
@@ -10,22 +10,22 @@ use crate::digits::HashPrefix;
 use crate::node::{Node, Seen, step};
 use cells::KeyHash;
 
-/// The value of the key below the prefix. It takes no memory.
+/// The entry of the key below the prefix. It takes no memory.
 pub fn get_at<'a, K: Ord, V, H: KeyHash<K>>(
     place: Seen<'a, K, V>,
     key: &K,
     at: HashPrefix,
-) -> Option<&'a V>
+) -> Option<&'a (K, V)>
     requires hashed { at.hash ≡ H.hash_of key.now }
     requires placed { IsPlaced H.hash_of K.cmp at (seen_in place) }
-    ensures { option_copied result ≡ value_at (digit_order H.hash_of K.cmp) (held_at place.entry) key.now }
+    ensures { option_copied result ≡ entry_at (digit_order H.hash_of K.cmp) (held_at place.entry) key.now }
 {
     match place {
         None => None,
         Some(node) => match &**node {
             Node::Leaf(pair) => {
                 if key.cmp(&pair.0).is_eq() {
-                    Some(&pair.1)
+                    Some(&**pair)
                 } else {
                     None
                 }

@@ -14,6 +14,8 @@ mod digits;
 mod entries;
 mod get;
 mod laws;
+mod lay;
+mod meeting;
 mod merge;
 mod node;
 mod put;

@@ -1,5 +1,5 @@
 //! Nodes: what stands below a prefix of digits.
-ghost use Rattle.std.specs.Prelude.{◌≡◌, ◌+◌, ◌-◌, ◌<◌, ◌≤◌, ◌^◌, false, None, Some, IfOk, IsTrue, OnErr, OnOk, length, set};
+ghost use Rattle.std.specs.Prelude.{◌≡◌, ◌+◌, ◌-◌, ◌<◌, ◌≤◌, ◌^◌, [], false, None, Some, IfOk, IsTrue, OnErr, OnOk, length, set};
 ghost use Rattle.std.specs.Prelude.{get_or, slice_index_or, sum_by};
 ghost use Rattle.std.specs.List.{flat_map};
 ghost use Rattle.trie.specs.Counts.{next_count};
@@ -102,14 +102,14 @@ pub fn shared<K: Drop, V: Drop>(place: Seen<'_, K, V>) -> Result<Place<K, V>, Al
     }
 }
 
-/// The same children, each with one owner more.
+/// The same children, each with one owner more, with room for one more of them.
 pub fn shared_children<K: Drop, V: Drop>(
     alloc: Global,
     children: &Vec<Arc<Node<K, V>>>,
 ) -> Result<Vec<Arc<Node<K, V>>>, AllocError>
     ensures { IfOk result (λ copy. values copy.items ≡ values children.now.items) }
 {
-    let mut copy = Vec::new(alloc);
+    let mut copy = Vec::with_capacity(alloc, children.len() + 1)?;
     for child in children {
         copy.push(Arc::try_clone(child)?)?;
     }
@@ -201,6 +201,52 @@ pub fn written<K: Drop, V: Drop>(
     children.insert(position, child)?;
     let bitmap = bitmap + bit(digit);
     Ok(Children { bitmap, children })
+}
+
+/// No children yet, with room for those of two branches.
+pub fn room_for_both<K: Drop, V: Drop>(
+    alloc: Global,
+    first: Bitmap,
+    second: Bitmap,
+) -> Result<Children<K, V>, AllocError>
+    ensures { IfOk result (λ made. (made.bitmap ≡ 0) × (made.children.items ≡ [])) }
+{
+    let children = Vec::with_capacity(alloc, (first | second).count_ones() as usize)?;
+    Ok(Children {
+        bitmap: 0,
+        children,
+    })
+}
+
+/// Whether the place of a digit has a child in one of two branches.
+pub fn either_has(first: Bitmap, second: Bitmap, digit: usize) -> bool
+    requires { digit < place_count }
+    ensures { result ≡ false → (bit_at first digit ≡ 0) × (bit_at second digit ≡ 0) }
+{
+    has(first, digit) || has(second, digit)
+}
+
+/// These children, all of them in places before that of the digit, with this one in its place.
+pub fn grown<K: Drop, V: Drop>(
+    made: Children<K, V>,
+    digit: usize,
+    place: Place<K, V>,
+) -> Result<Children<K, V>, AllocError>
+    requires digit { digit < place_count }
+    requires dense { IsDense made.bitmap (length made.children.items) }
+    requires before { made.bitmap < 2 ^ digit }
+    ensures written { IfOk result (IsWritten (set (places_in made.bitmap made.children.items) digit (node_of place))) }
+    ensures before { IfOk result (λ more. more.bitmap < 2 ^ (digit + 1)) }
+{
+    let Some(child) = place else {
+        return Ok(made);
+    };
+    let mut children = made.children;
+    children.push(child)?;
+    Ok(Children {
+        bitmap: made.bitmap + bit(digit),
+        children,
+    })
 }
 
 /// The node of these children with this place in the place after the prefix. Where one entry is

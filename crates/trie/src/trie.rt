@@ -8,7 +8,7 @@ ghost use Rattle.trie.specs.Digits.{digit_count, digit_order};
 ghost use Rattle.trie.specs.Entries.{value_at, with_pair, without_key};
 ghost use Rattle.trie.specs.Holding.{lent};
 ghost use Rattle.trie.specs.Maps.{RiseByHash};
-ghost use Rattle.trie.specs.Merging.{CanBlend, ClonesEqual, IsMerged};
+ghost use Rattle.trie.specs.Merging.{CanBlend, ClonesEqual, HasEntries, IsMerged};
 ghost use Rattle.trie.specs.Shapes.{shape_of};
 ghost use Rattle.trie.specs.Walks.{TakesAll};
 
@@ -66,7 +66,11 @@ impl<K: Ord, V, H: KeyHash<K>> Trie<K, V, H> {
     pub fn get(&self, key: &K) -> Option<&V>
         ensures { option_copied result ≡ value_at (digit_order H.hash_of K.cmp) self.now key.now }
     {
-        get_at::<K, V, H>(seen(&self.root), key, HashPrefix::empty(H::hash(key)))
+        let at = HashPrefix::empty(H::hash(key));
+        let Some(entry) = get_at::<K, V, H>(seen(&self.root), key, at) else {
+            return None;
+        };
+        Some(&entry.1)
     }
 
     /// How many entries there are. It takes no memory.
@@ -181,7 +185,7 @@ impl<K: Ord + Drop, V: Drop, H: KeyHash<K>> Trie<K, V, H> {
 
 impl<K: Ord + Clone + Drop, V: Drop, H: KeyHash<K>> Trie<K, V, H> {
     /// The map with the entries of both: keys of one keep their value, keys of both have the blend of
-    /// this map's value and the other's, under either of the two equal keys. What only one of them
+    /// this map's value and the other's, under the other's key. What only one of them
     /// has below a prefix is shared, so the nodes that are made are at most a whole path for each
     /// entry of the smaller one. Both maps stay as they are, whatever the answer.
     pub fn merge<B: Blend<V>>(
@@ -195,6 +199,7 @@ impl<K: Ord + Clone + Drop, V: Drop, H: KeyHash<K>> Trie<K, V, H> {
         requires clones { ClonesEqual K.is_clone }
         requires can { CanBlend (digit_order H.hash_of K.cmp) (B.asks blend.now) self.now other.now }
         ensures map { IfOk result (λ t. IsMerged (digit_order H.hash_of K.cmp) (B.blend_of blend.now) self.now other.now t) }
+        ensures entries { IfOk result (λ t. HasEntries (digit_order H.hash_of K.cmp) (B.blend_of blend.now) self.now other.now t) }
         ensures counted { ticks.new ≤ ticks.old + (digit_count + 1) * min (length self.now) (length other.now) }
         ensures grows { ticks.old ≤ ticks.new }
     {
