@@ -8,8 +8,8 @@ use Rattle.aggs.specs.Counts.{present_append}
 use Rattle.aggs.specs.Picks.{pick_assoc, pick_turns}
 use Rattle.aggs.specs.Reducing.{merged, merged_none, picked_any_order, picked_joins}
 use Rattle.aggs.specs.Values.{greater, greatest_of, least_of, lesser, present}
-use Rattle.aggs.specs.declared.extreme.Max.{Max}
-use Rattle.aggs.specs.declared.extreme.Min.{Min}
+use Rattle.aggs.specs.declared.greatest.Max.{Max}
+use Rattle.aggs.specs.declared.least.Min.{Min}
 use Rattle.cells.specs.CellOrder.{cell_cmp, cell_cmp-total}
 use Rattle.cells.specs.SameKeys.{exact_cells}
 use Rattle.cells.specs.declared.cell.Cell.{Cell}

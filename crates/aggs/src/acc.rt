@@ -5,7 +5,8 @@ ghost use Rattle.aggs.specs.Accs.{AccTakes, AccsFit, acc_of, acc_together, acc_t
 use crate::aggregate::Aggregate;
 use crate::count::{Count, CountRows};
 use crate::distinct::CountDistinct;
-use crate::extreme::{Max, Min};
+use crate::greatest::Max;
+use crate::least::Min;
 use crate::sum::Sum;
 use cells::{Cell, KeyHash, Total};
 use std::alloc::{AllocError, Global};

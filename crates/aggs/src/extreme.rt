@@ -1,50 +1,13 @@
-//! MIN and MAX.
-ghost use Rattle.std.specs.Prelude.{◌≡◌, ⊤, IfOk, None, refl};
+//! What MIN and MAX share: a cell that may be there.
+ghost use Rattle.std.specs.Prelude.{◌≡◌, IfOk};
 ghost use Rattle.std.specs.Option.{option_copied};
-ghost use Rattle.aggs.specs.Extremes;
-ghost use Rattle.aggs.specs.Reducing.{merged};
-ghost use Rattle.aggs.specs.Values.{cell_total, greater, greatest, greatest_of, least, least_of, lesser, total_or_null};
+ghost use Rattle.aggs.specs.Values.{cell_total, total_or_null};
 
-use crate::aggregate::Aggregate;
 use cells::{Cell, Total};
-use std::alloc::{AllocError, Global};
-
-/// The least of the cells that are not NULL, where there is one: MIN of a column. It owns a copy of it.
-#[derive(Debug, Drop)]
-pub struct Min {
-    least: Option<Cell>,
-}
-
-/// The greatest of the cells that are not NULL, where there is one: MAX of a column. It owns a copy of it.
-#[derive(Debug, Drop)]
-pub struct Max {
-    greatest: Option<Cell>,
-}
-
-/// The lesser of two cells that may be there.
-fn lesser_of<'a>(first: Option<&'a Cell>, second: Option<&'a Cell>) -> Option<&'a Cell>
-    ensures { option_copied result ≡ merged lesser (option_copied first.entry) (option_copied second.entry) }
-{
-    match (first, second) {
-        (None, second) => second,
-        (first, None) => first,
-        (Some(first), Some(second)) => Some(if second < first { second } else { first }),
-    }
-}
-
-/// The greater of two cells that may be there.
-fn greater_of<'a>(first: Option<&'a Cell>, second: Option<&'a Cell>) -> Option<&'a Cell>
-    ensures { option_copied result ≡ merged greater (option_copied first.entry) (option_copied second.entry) }
-{
-    match (first, second) {
-        (None, second) => second,
-        (first, None) => first,
-        (Some(first), Some(second)) => Some(if first < second { second } else { first }),
-    }
-}
+use std::alloc::AllocError;
 
 /// A copy of a cell that may be there.
-fn copied(cell: Option<&Cell>) -> Result<Option<Cell>, AllocError>
+pub fn copied(cell: Option<&Cell>) -> Result<Option<Cell>, AllocError>
     ensures { IfOk result (λ c. c ≡ option_copied cell.entry) }
 {
     match cell {
@@ -54,7 +17,7 @@ fn copied(cell: Option<&Cell>) -> Result<Option<Cell>, AllocError>
 }
 
 /// A cell that may be there as a value.
-fn total_of(cell: Option<&Cell>) -> Result<Total, AllocError>
+pub fn total_of(cell: Option<&Cell>) -> Result<Total, AllocError>
     ensures { IfOk result (λ t. t ≡ total_or_null cell_total (option_copied cell.entry)) }
 {
     match cell {
@@ -63,130 +26,4 @@ fn total_of(cell: Option<&Cell>) -> Result<Total, AllocError>
         Some(Cell::Int(n)) => Ok(Total::Int(i128::from(*n))),
         Some(Cell::Text(text)) => Ok(Total::Text(text.clone()?)),
     }
-}
-
-impl Clone for Min {
-    ghost is_clone = { λ s t. t ≡ s };
-
-    fn clone(&self) -> Result<Min, AllocError> {
-        Ok(Min {
-            least: copied(self.least.as_ref())?,
-        })
-    }
-}
-
-impl Clone for Max {
-    ghost is_clone = { λ s t. t ≡ s };
-
-    fn clone(&self) -> Result<Max, AllocError> {
-        Ok(Max {
-            greatest: copied(self.greatest.as_ref())?,
-        })
-    }
-}
-
-impl Aggregate for Min {
-    ghost of = { λ xs. record { least = least_of xs } };
-
-    ghost together = { λ a b. record { least = merged lesser a.least b.least } };
-
-    ghost total = { λ a. total_or_null cell_total a.least };
-
-    ghost fits = { λ a b. ⊤ };
-
-    ghost may_take = { λ _. ⊤ };
-
-    ghost value = { least };
-
-    fn empty() -> Min {
-        Min { least: None }
-    }
-
-    fn step(&mut self, _alloc: Global, cell: &Cell) -> Result<(), AllocError> {
-        if cell.is_null() {
-            return Ok(());
-        }
-        if let Some(least) = &self.least {
-            if cell >= least {
-                return Ok(());
-            }
-        }
-        self.least = Some(cell.clone()?);
-        Ok(())
-    }
-
-    fn join(&self, _alloc: Global, other: &Min) -> Result<Min, AllocError> {
-        Ok(Min {
-            least: copied(lesser_of(self.least.as_ref(), other.least.as_ref()))?,
-        })
-    }
-
-    fn finish(&self) -> Result<Total, AllocError> {
-        total_of(self.least.as_ref())
-    }
-
-    ghost joins = { Extremes.least_joins };
-
-    ghost unit_first = { λ _. refl };
-
-    ghost unit_second = { Extremes.least_unit };
-
-    ghost any_order = { Extremes.least_any_order };
-
-    ghost finishes = { λ _. refl };
-
-    ghost room = { λ xs ys may. tt };
-}
-
-impl Aggregate for Max {
-    ghost of = { λ xs. record { greatest = greatest_of xs } };
-
-    ghost together = { λ a b. record { greatest = merged greater a.greatest b.greatest } };
-
-    ghost total = { λ a. total_or_null cell_total a.greatest };
-
-    ghost fits = { λ a b. ⊤ };
-
-    ghost may_take = { λ _. ⊤ };
-
-    ghost value = { greatest };
-
-    fn empty() -> Max {
-        Max { greatest: None }
-    }
-
-    fn step(&mut self, _alloc: Global, cell: &Cell) -> Result<(), AllocError> {
-        if cell.is_null() {
-            return Ok(());
-        }
-        if let Some(greatest) = &self.greatest {
-            if greatest >= cell {
-                return Ok(());
-            }
-        }
-        self.greatest = Some(cell.clone()?);
-        Ok(())
-    }
-
-    fn join(&self, _alloc: Global, other: &Max) -> Result<Max, AllocError> {
-        Ok(Max {
-            greatest: copied(greater_of(self.greatest.as_ref(), other.greatest.as_ref()))?,
-        })
-    }
-
-    fn finish(&self) -> Result<Total, AllocError> {
-        total_of(self.greatest.as_ref())
-    }
-
-    ghost joins = { Extremes.greatest_joins };
-
-    ghost unit_first = { λ _. refl };
-
-    ghost unit_second = { Extremes.greatest_unit };
-
-    ghost any_order = { Extremes.greatest_any_order };
-
-    ghost finishes = { λ _. refl };
-
-    ghost room = { λ xs ys may. tt };
 }

@@ -7,7 +7,9 @@ mod aggregate;
 mod count;
 mod distinct;
 mod extreme;
+mod greatest;
 mod laws;
+mod least;
 mod stored;
 mod sum;
 
@@ -15,7 +17,11 @@ pub use acc::{Acc, Kind};
 pub use aggregate::Aggregate;
 pub use count::{Count, CountRows};
 pub use distinct::CountDistinct;
-pub use extreme::{Max, Min};
+pub use greatest::Max;
 pub use laws::{accumulators_keep_the_laws, worked_aggregates};
+pub use least::Min;
 pub use stored::{cell_is_stored, cells_are_stored};
 pub use sum::Sum;
+
+#[cfg(test)]
+mod tests;
