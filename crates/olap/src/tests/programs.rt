@@ -4,7 +4,7 @@ ghost use Rattle.std.specs.Prelude.{None};
 
 use crate::input::{Folder, Unread};
 use crate::program::{run_standard_input, run_words};
-use std::alloc::Global;
+use std::alloc::{AllocError, Global};
 use std::io::BufWriter;
 use std::test::Fail;
 
@@ -36,38 +36,51 @@ impl Folder for Shelf {
 }
 
 /// The words of a line, which stand apart by one space each.
-fn words_of(alloc: Global, line: &str) -> Result<Vec<String>, Fail> {
+fn words_of(alloc: Global, line: &str) -> Result<Vec<String>, AllocError> {
     let mut given = Vec::new(alloc);
     for word in line.split(' ') {
-        given.push(format!(in alloc; "{word}")?)?;
+        let word = String::from_str(alloc, word)?;
+        given.push(word)?;
     }
     Ok(given)
 }
 
+/// A line of words, the status, what is written and what is said.
+type Row = (&'static str, u8, &'static str, &'static str);
+
+const LINES: [Row; 6] = [
+    ("run S", 0, COUNTED, ""),
+    ("run S P P", 0, COUNTED, ""),
+    ("run S P Q", 2, "", "olap: cannot read Q\n"),
+    ("run Q", 2, "", "olap: cannot read Q\n"),
+    ("--version", 0, "olap 0.1.0\n", ""),
+    (
+        "run --rows 0 S",
+        2,
+        "",
+        "error: '--rows' takes a number from 1 to 4294967296\n\nFor more information, try '--help'.\n",
+    ),
+];
+
+/// Whether the words are run as the row says.
+fn is_run(alloc: Global, row: &Row) -> Result<bool, Fail> {
+    let given = words_of(alloc, row.0)?;
+    let mut err = Vec::with_capacity(alloc, 256)?;
+    let out = BufWriter::new(alloc, Vec::new(alloc))?;
+    let (status, out) = run_words(alloc, given.as_slice(), &Shelf { alloc }, out, &mut err);
+    if status != row.1 {
+        return Ok(false);
+    }
+    if out.get_ref().as_slice() != row.2.as_bytes() {
+        return Ok(false);
+    }
+    Ok(err.as_slice() == row.3.as_bytes())
+}
+
 #[test]
 fn words_are_run(rt: HostRuntime) -> Result<(), Fail> {
-    let table = [
-        ("run S", 0, COUNTED, ""),
-        ("run S P P", 0, COUNTED, ""),
-        ("run S P Q", 2, "", "olap: cannot read Q\n"),
-        ("run Q", 2, "", "olap: cannot read Q\n"),
-        ("--version", 0, "olap 0.1.0\n", ""),
-        (
-            "run --rows 0 S",
-            2,
-            "",
-            "error: '--rows' takes a number from 1 to 4294967296\n\nFor more information, try '--help'.\n",
-        ),
-    ];
-    let shelf = Shelf { alloc: rt.alloc() };
-    for (line, status, wrote, said) in table {
-        let given = words_of(rt.alloc(), line)?;
-        let mut err = Vec::with_capacity(rt.alloc(), 256)?;
-        let out = BufWriter::new(rt.alloc(), Vec::new(rt.alloc()))?;
-        let (got, out) = run_words(rt.alloc(), given.as_slice(), &shelf, out, &mut err);
-        assert_eq!(rt; got, status, "{line}");
-        assert_eq!(rt; out.get_ref().as_slice(), wrote.as_bytes(), "{line}");
-        assert_eq!(rt; err.as_slice(), said.as_bytes(), "{line}");
+    for row in &LINES {
+        assert!(rt; is_run(rt.alloc(), row)?, "{}", row.0);
     }
     Ok(())
 }
