@@ -8,5 +8,5 @@ invariant_of-self g c = record {
   most = c.self.invariant.most;
   within = c.self.invariant.within;
   drafted = c.self.invariant.drafted;
-  published = search (rules, rows_stay);
+  published = search (rules, rows_stay, c.in_ok-self-inside.ensures);
 }
