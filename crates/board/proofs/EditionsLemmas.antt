@@ -18,6 +18,13 @@ remove_within old new key most is within =
       at_most true e = omega arith
       at_most false e = omega arith
 
+-- the same rows keep it
+pub same_within : (old new : Rows) (most : ℕ) → new ≡ old → len old ≤ most → len new ≤ most
+same_within old new most is within = rw is within
+
+-- what the calls of a keeper make of rows that keep a limit keeps it
+pub ruleset limit_stays = (empty_within, remove_within, same_within)
+
 -- a row of a key that is there takes no new room, and any other takes that of one row
 pub len_over : (old : Rows) (key : Cell) (row there : Entry) → get old key ≡ Some there → len (insert old key row) ≡ len old
 len_over old key row there e = len-insert cell_cmp-total old key row ∙ rw e refl

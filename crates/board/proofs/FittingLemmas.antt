@@ -53,3 +53,6 @@ rows_remove t old new key is rows = record {
   look : (at : Cell) (found : Entry) → get new at ≡ Some found → get old at ≡ Some found
   look at found e =
       found_left (cell_eq at key) found (get old at) (sym (get-remove cell_cmp-total old key at) ∙ ap (λ (r : Rows). get r at) (sym is) ∙ e)
+
+-- what the calls of a keeper make of rows of a table are rows of it
+pub ruleset rows_stay = (rows_none, rows_same, rows_put, rows_remove)

@@ -75,11 +75,11 @@ impl<H: KeyHash<Cell>> Keeper<H> {
         ensures refused { IfErr result (λ e. (e ≡ Refused.TooManyRows) ⊎ (e ≡ Refused.OutOfMemory)) }
         ensures unchanged { OnErr result (self.new ≡ self.old) }
     {
-        if !has_room(&self.draft, row.key(), self.limit) {
-            return Err(Refused::TooManyRows);
+        if has_room(&self.draft, row.key(), self.limit) {
+            self.draft = self.draft.put(row)?;
+            return Ok(());
         }
-        self.draft = self.draft.put(row)?;
-        Ok(())
+        Err(Refused::TooManyRows)
     }
 
     /// Takes the row of the key out of the draft. A key that is not there changes nothing, and is

@@ -1,9 +1,9 @@
 //! Tests of what no clause says: that calls succeed, what a refusal of memory leaves, and what a
 //! caller makes of the contract alone.
-ghost use Rattle.std.specs.Prelude.{◌≡◌, IfOk};
+ghost use Rattle.std.specs.Prelude.{◌≡◌, ◌+◌, ◌<◌, ◌^◌, IfOk};
 ghost use Rattle.std.specs.FinMap as map;
 ghost use Rattle.cells.specs.Fitting.{IsRowOf};
-ghost use Rattle.board.specs.Editions.{AreRowsOf, draft, published, schema};
+ghost use Rattle.board.specs.Editions.{AreRowsOf, draft, edition, published, schema};
 ghost use Rattle.board.specs.Limits.{place_limit, row_limit};
 
 use crate::{Keeper, MAX_PLACES, MAX_ROWS, Root, Snapshot};
@@ -14,7 +14,7 @@ use std::test::Fail;
 use std::thread::{self, Threads};
 
 /// A call that changes a keeper: the key and the value of a row, a key, or nothing.
-#[derive(Drop)]
+#[derive(Clone, Copy)]
 enum Step {
     Put(&'static str, &'static str),
     Delete(i64),
@@ -22,11 +22,11 @@ enum Step {
 }
 
 /// The values of the keys 1 to 4, 0 where there is none, and the number of rows.
-#[derive(Clone, Copy, PartialEq, Eq, Drop)]
+#[derive(Clone, Copy, PartialEq)]
 struct Rows([i64; 4], u64);
 
 /// What a keeper holds: its draft, the number of the last edition and its rows.
-#[derive(Clone, Copy, PartialEq, Eq, Drop)]
+#[derive(Clone, Copy, PartialEq)]
 struct Held(Rows, u64, Rows);
 
 fn table(alloc: Global) -> Result<Schema, Refused> {
@@ -61,8 +61,11 @@ fn apply<H: KeyHash<Cell>>(
 
 /// The value of the key, 0 where there is none.
 fn value<H: KeyHash<Cell>>(root: &Root<H>, key: i64) -> i64 {
-    match root.get(&Cell::Int(key)).map(|row| row.cells()) {
-        Some([_, Cell::Int(value)]) => *value,
+    let Some(row) = root.get(&Cell::Int(key)) else {
+        return 0;
+    };
+    match row.cells() {
+        [_, Cell::Int(value)] => *value,
         _ => 0,
     }
 }
@@ -85,7 +88,7 @@ fn held_by<H: KeyHash<Cell>>(keeper: &Keeper<H>) -> Result<Held, Refused> {
 
 /// A call, its answer, and what the keeper holds behind it: the draft, the number of the last edition
 /// and its rows.
-#[derive(Drop)]
+#[derive(Clone, Copy)]
 struct Change(Step, Result<(), Refused>, Rows, u64, Rows);
 
 const NONE: Rows = Rows([0, 0, 0, 0], 0);
@@ -131,50 +134,103 @@ fn make<H: KeyHash<Cell>>(
     Ok(())
 }
 
-/// Run with each allocation failing in turn, too: after a refusal of memory the keeper is what it
-/// was, and the same call made again gives what it would have given.
-#[test]
-fn calls_change_a_keeper(rt: HostRuntime) -> Result<(), Fail> {
-    let alloc = rt.alloc();
-    let mut keeper: Keeper<Fnv> = Keeper::new(alloc, table(alloc)?, 3, 1)?;
-    for change in &CHANGES {
-        make(&rt, alloc, &mut keeper, change)?;
+/// Makes the changes, in order, to a keeper of three rows.
+fn make_all<H: KeyHash<Cell>>(
+    rt: &impl Abort,
+    alloc: Global,
+    changes: &[Change],
+) -> Result<(), Refused> {
+    let mut keeper: Keeper<H> = Keeper::new(alloc, table(alloc)?, 3, 1)?;
+    for change in changes {
+        make(rt, alloc, &mut keeper, change)?;
     }
     Ok(())
 }
 
-/// A caller that knows the contract alone: the snapshot of the first edition keeps its one row,
-/// whatever is put and published afterwards, and it is a row of the table.
-fn first_of_two_editions<H: KeyHash<Cell>>(
+/// Run with each allocation failing in turn, too: after a refusal of memory the keeper is what it
+/// was, and the same call made again gives what it would have given.
+#[test]
+fn calls_change_a_keeper(rt: HostRuntime) -> Result<(), Fail> {
+    make_all::<Fnv>(&rt, rt.alloc(), CHANGES.as_slice())?;
+    Ok(())
+}
+
+/// A caller that knows the contract alone: a keeper whose first edition has one row.
+fn with_one_edition<H: KeyHash<Cell>>(
     alloc: Global,
-    schema: Schema,
+    table: Schema,
     first: Row,
-    second: Row,
-) -> Result<Snapshot<H>, Refused>
-    requires first { IsRowOf schema first }
-    requires second { IsRowOf schema second }
-    ensures edition { IfOk result (λ s. s.number ≡ 1) }
-    ensures rows { IfOk result (λ s. s.rows ≡ map.insert map.empty first.key first) }
+) -> Result<Keeper<H>, Refused>
+    requires { IsRowOf table first }
+    ensures edition { IfOk result (λ k. edition k ≡ 1) }
+    ensures rows { IfOk result (λ k. published k ≡ map.insert map.empty first.key first) }
+    ensures schema { IfOk result (λ k. schema k ≡ table) }
 {
-    let mut keeper = Keeper::new(alloc, schema, 2, 1)?;
+    let mut keeper = Keeper::new(alloc, table, 2, 1)?;
     keeper.put(first)?;
     keeper.publish()?;
+    Ok(keeper)
+}
+
+/// Such a caller, too: a snapshot of an edition, which is not the last one any more.
+fn snapshot_before<H: KeyHash<Cell>>(
+    keeper: &mut Keeper<H>,
+    second: Row,
+) -> Result<Snapshot<H>, Refused>
+    requires row { IsRowOf (schema keeper.old) second }
+    requires more { edition keeper.old + 1 < 2 ^ 64 }
+    ensures edition { IfOk result (λ s. s.number ≡ edition keeper.old) }
+    ensures rows { IfOk result (λ s. s.rows ≡ published keeper.old) }
+{
     let snapshot = keeper.snapshot()?;
     keeper.put(second)?;
     keeper.publish()?;
     Ok(snapshot)
 }
 
-#[test]
-fn a_snapshot_keeps_its_rows(rt: HostRuntime) -> Result<(), Fail> {
-    let alloc = rt.alloc();
+/// The snapshot of the first edition keeps its one row, whatever is put and published afterwards, and
+/// it is a row of the table.
+fn first_of_two_editions<H: KeyHash<Cell>>(
+    alloc: Global,
+    table: Schema,
+    first: Row,
+    second: Row,
+) -> Result<Snapshot<H>, Refused>
+    requires first { IsRowOf table first }
+    requires second { IsRowOf table second }
+    ensures edition { IfOk result (λ s. s.number ≡ 1) }
+    ensures rows { IfOk result (λ s. s.rows ≡ map.insert map.empty first.key first) }
+{
+    let mut keeper = with_one_edition(alloc, table, first)?;
+    snapshot_before(&mut keeper, second)
+}
+
+/// The snapshot of a first edition with the row of key 1, before a row with this key is put.
+fn snapshot_of_the_first<H: KeyHash<Cell>>(
+    alloc: Global,
+    second: &str,
+) -> Result<Snapshot<H>, Refused> {
     let table = table(alloc)?;
     let first = row(alloc, &table, "1", "10")?;
-    let second = row(alloc, &table, "1", "11")?;
-    let snapshot = first_of_two_editions::<Plain>(alloc, table, first, second)?;
-    assert!(rt; value(snapshot.root(), 1) == 10);
-    assert!(rt; snapshot.root().len() == 1);
-    assert!(rt; snapshot.schema().name() == "T");
+    let second = row(alloc, &table, second, "11")?;
+    first_of_two_editions(alloc, table, first, second)
+}
+
+/// Whether a snapshot has that one row alone.
+fn is_of_the_first<H: KeyHash<Cell>>(snapshot: &Snapshot<H>) -> bool {
+    if snapshot.schema().name() != "T" {
+        return false;
+    }
+    if snapshot.root().len() != 1 {
+        return false;
+    }
+    value(snapshot.root(), 1) == 10
+}
+
+#[test]
+fn a_snapshot_keeps_its_rows(rt: HostRuntime) -> Result<(), Fail> {
+    let snapshot = snapshot_of_the_first::<Plain>(rt.alloc(), "1")?;
+    assert!(rt; is_of_the_first(&snapshot));
     Ok(())
 }
 
@@ -195,18 +251,30 @@ fn greatest_limits() -> (u64, u64)
     (MAX_ROWS, MAX_PLACES)
 }
 
-#[test]
-fn a_keeper_of_the_greatest_limits(rt: HostRuntime) -> Result<(), Fail> {
-    let alloc = rt.alloc();
+/// A keeper of the greatest limits with one row in its draft.
+fn greatest<H: KeyHash<Cell>>(alloc: Global) -> Result<Keeper<H>, Refused> {
     let (limit, places) = greatest_limits();
-    let mut keeper: Keeper<Plain> = Keeper::new(alloc, table(alloc)?, limit, places)?;
+    let mut keeper = Keeper::new(alloc, table(alloc)?, limit, places)?;
     let row = row(alloc, keeper.schema(), "2", "20")?;
     keeper.put(row)?;
+    Ok(keeper)
+}
+
+/// How many rows the trie of the draft has, and whether that of the last edition has none.
+fn rows_in_tries<H: KeyHash<Cell>>(
+    alloc: Global,
+    keeper: &Keeper<H>,
+) -> Result<(usize, bool), Refused> {
     let snapshot = keeper.snapshot()?;
-    rows_are_of_the_table(&keeper, &snapshot);
-    let entries = keeper.draft().rows().entries(alloc)?;
-    assert!(rt; entries.len() == 1);
-    assert!(rt; snapshot.root().rows().is_empty());
+    rows_are_of_the_table(keeper, &snapshot);
+    let drafted = keeper.draft().rows().entries(alloc)?.len();
+    Ok((drafted, snapshot.root().rows().is_empty()))
+}
+
+#[test]
+fn a_keeper_of_the_greatest_limits(rt: HostRuntime) -> Result<(), Fail> {
+    let keeper = greatest::<Plain>(rt.alloc())?;
+    assert!(rt; rows_in_tries(rt.alloc(), &keeper)? == (1, true));
     Ok(())
 }
 
@@ -222,11 +290,7 @@ fn shared_by_threads<T: Send + Sync>(value: &T) -> &T {
 
 #[test]
 fn a_snapshot_is_moved_into_a_thread_and_lent(rt: HostRuntime) -> Result<(), Fail> {
-    let alloc = rt.alloc();
-    let table = table(alloc)?;
-    let first = row(alloc, &table, "1", "10")?;
-    let second = row(alloc, &table, "2", "20")?;
-    let snapshot = first_of_two_editions::<Fnv>(alloc, table, first, second)?;
+    let snapshot = snapshot_of_the_first::<Fnv>(rt.alloc(), "2")?;
     assert!(rt; shared_by_threads(&snapshot).edition() == 1);
     assert!(rt; counted_elsewhere(&rt, snapshot)? == 1);
     Ok(())

@@ -14,10 +14,9 @@ put-requires g c =
     sym (c.entries_are_a_map.ensures.len c.self.inside.rows c.self.invariant) ∙ ap (λ (r : Rows). len r) c.self.view_is in
     omega (arith, many, c.requires)
 
+-- whatever the key is
 pub of-requires : goal.of-requires
-of-requires g c =
-    let held_now : c.in_ok-rows.rows ≡ with_pair (digit_order g.H.KeyHash.hash_of cell_cmp) c.args.row.key c.args.row c.self.inside.rows = search rules in
-    rw held_now (c.entries_still_rise.ensures.put c.self.inside.rows c.args.row.key c.args.row c.self.invariant)
+of-requires g c = rw c.in_ok-rows.ensures.map (c.entries_still_rise.ensures.put c.self.inside.rows _ _ c.self.invariant)
 
 pub returns : goal.returns
 returns g c =
