@@ -1,7 +1,21 @@
-mod Trees
 pub mod CountsLemmas
 pub mod MarksLemmas
 pub mod GroupedLemmas
 pub mod PlacesLemmas
 pub mod PlansLemmas
 pub mod PlanLawsLemmas
+pub mod Trees
+pub mod Lists
+pub mod PhrasesLemmas
+pub mod Units
+pub mod Elements
+pub mod TestsLemmas
+pub mod Predicates
+pub mod Ends
+pub mod Filled
+pub mod DepthLemmas
+pub mod Faults
+pub mod Decisions
+pub mod Shorter
+pub mod Deciding
+pub mod QueriesLaws

@@ -15,3 +15,9 @@ pub mod Checks
 pub mod Headings
 pub mod Plans
 pub mod Worked
+pub mod Grammar
+pub mod Reading
+pub mod Phrases
+pub mod Depth
+pub mod Queries
+pub mod Ends

@@ -2,18 +2,25 @@
 #![tactic(auto)]
 
 mod checking;
+mod conditions;
 mod counting;
+mod depth;
 mod element;
 mod grouped;
+mod grouping;
 mod headings;
 mod item;
+mod laws;
 mod limits;
 mod names;
+mod phrases;
 mod places;
 mod plan;
 mod plan_laws;
 mod predicate;
 mod query;
+mod reading;
+mod select_list;
 mod sets;
 mod test;
 mod truth;
@@ -22,11 +29,16 @@ mod types;
 pub use checking::check;
 pub use element::{Element, ElementForm, Unit};
 pub use item::Item;
+pub use laws::{a_text_has_one_answer, each_text_has_an_answer};
 pub use limits::{MAX_ITEMS, MAX_OPEN_PARENTHESES, MAX_QUERY_BYTES};
 pub use plan::Plan;
 pub use plan_laws::{predicates_fit_rows, rows_fit_columns, worked_sets, worked_truths};
 pub use predicate::{Predicate, PredicateForm};
 pub use query::Query;
+pub use reading::read;
 pub use sets::GroupSet;
 pub use test::{Comparison, Literal, Literals, Operand, Test};
 pub use truth::Truth;
+
+#[cfg(test)]
+mod tests;

@@ -1,0 +1,212 @@
+-- Whether tokens begin with each phrase of the grammar, and with which. What decides goes over the tokens as the readers
+-- do, but in the logic, where memory is never wanting.
+use Rattle.std.proofs.Common.{◌≡◌, ◌≢◌, ℕ, zero, suc, ◌<◌, ◌≤◌, Bool, true, false, List, [], ◌∷◌, length, Option, Some, None, ◌⊎◌, inl, inr, refl, sym, ap, ◌∙◌, arith}
+use Rattle.std.specs.Prelude.{codes}
+use Rattle.cells.specs.declared.token.Token.{Token}
+use Rattle.query.specs.Ends.{SpellsEnd, SpellsFrom, SpellsTail, Whole}
+use Rattle.query.specs.Grammar.{Separated, SpellsElement, SpellsFactor, SpellsItem, SpellsLiteral, SpellsName, SpellsOperand, SpellsPredicate, SpellsPrimary, SpellsQuery, SpellsTerm, SpellsTest, SpellsUnit, AND, BETWEEN, BY, CUBE, FROM, GROUP, GROUPING, IN, IS, NOT, NULL, OR, ROLLUP, SELECT, SETS, WHERE, comma, lparen, rparen}
+use Rattle.query.specs.Phrases.{NullAfter, RangeAfter, TestAfter, comparison_at, item_at, literal_at, name_at, operand_at}
+use Rattle.query.specs.Reading.{AfterAnd, AfterOr, Any, BeginsNot, BeginsNotCall, Ends, Marked, Starts}
+use Rattle.query.specs.Trees.{Empty}
+use Rattle.query.specs.declared.test.Comparison.{Comparison}
+use Rattle.query.specs.declared.test.Operand.{Operand}
+use Rattle.query.specs.declared.test.Test.TheVariants as test
+use Rattle.query.proofs.Decisions.{Begins, BeginsBoth, Decided, begins_both, begins_call, begins_close, begins_comma, begins_open, begins_word, computed_phrase, ended, list_decided, no_phrase, one_phrase, tail_same, turned}
+use Rattle.query.proofs.Elements.{element_cube, element_empty, element_rollup, element_sets, element_unit}
+use Rattle.query.proofs.Ends.{elements_end, elements_no_end, elements_none, from_name, from_no_name, groups_by, groups_none, groups_other, query_items, query_no_items, query_none, tail_no_where, tail_none, tail_where}
+use Rattle.query.proofs.PhrasesLemmas.{item_computes, literal_computes, name_computes, operand_computes}
+use Rattle.query.proofs.Predicates.{factor_not, factor_plain, or_ends_and, paren_ends, predicate_terms, primary_parens, primary_test, term_factors}
+use Rattle.query.proofs.Shorter.{shorter_element, shorter_factor, shorter_item, shorter_literal, shorter_name, shorter_term, shorter_unit}
+use Rattle.query.proofs.TestsLemmas.{marked, null_found, null_nothing, range_list, range_low, range_no_low, range_nothing, test_compare, test_is, test_no_operand, test_operand, test_range, unmarked}
+use Rattle.query.proofs.Units.{unit_one, unit_several}
+
+comma_may : (r : List Token) → Ends comma Any (rparen ∷ r)
+comma_may r = record { no_more = λ us e. let bad : rparen ≡ comma = cc in cc; apart = tt }
+
+any_list : {X : Type 0} (Sp : List Token → X → List Token → Type 0) → ((ts : List Token) (x : X) (rest : List Token) → Sp ts x rest → length rest < length ts)
+    → ((ts : List Token) → Decided (Starts Sp Any ts)) → (ts : List Token) → Decided (Starts (Separated comma Sp) (Ends comma Any) ts)
+any_list Sp shorter one ts = list_decided comma begins_comma Sp Any (λ us. tt) shorter (length ts) (λ us le. one us) ts (omega arith)
+
+list_in : {X : Type 0} (Sp : List Token → X → List Token → Type 0) → ((ts : List Token) (x : X) (rest : List Token) → Sp ts x rest → length rest < length ts)
+    → ((ts : List Token) → Decided (Starts Sp Any ts)) → (ts : List Token) → Decided (λ xs r. Separated comma Sp ts xs (rparen ∷ r))
+list_in Sp shorter one ts = ended (Separated comma Sp) (Ends comma Any) rparen begins_close ts comma_may (any_list Sp shorter one ts)
+
+-- ---- names, items, units
+name_decided : (ts : List Token) → Decided (Starts SpellsName Any ts)
+name_decided ts = computed_phrase SpellsName ts (name_at ts) (name_computes ts)
+
+item_decided : (ts : List Token) → Decided (Starts SpellsItem Any ts)
+item_decided ts = computed_phrase SpellsItem ts (item_at ts) (item_computes ts)
+
+unit_by : (ts : List Token) → Begins lparen ts → Decided (Starts SpellsUnit Any ts)
+unit_by ts (inl h) = turned (unit_several ts h.0 h.1) (list_in SpellsName shorter_name name_decided h.0)
+unit_by ts (inr other) = turned (unit_one ts other) (name_decided ts)
+
+unit_decided : (ts : List Token) → Decided (Starts SpellsUnit Any ts)
+unit_decided ts = unit_by ts (begins_open ts)
+
+-- ---- elements
+begins_sets : (ts : List Token) → ((more : List Token) × (ts ≡ GROUPING ∷ SETS ∷ lparen ∷ more)) ⊎ ((more : List Token) → ts ≢ GROUPING ∷ SETS ∷ lparen ∷ more)
+begins_sets ts = after (begins_word (codes "GROUPING") ts) where
+  behind : (us : List Token) → ts ≡ GROUPING ∷ us → BeginsBoth SETS lparen us → ((more : List Token) × (ts ≡ GROUPING ∷ SETS ∷ lparen ∷ more)) ⊎ ((more : List Token) → ts ≢ GROUPING ∷ SETS ∷ lparen ∷ more)
+  behind us e (inl h) = inl (h.0, e ∙ ap (λ v. GROUPING ∷ v) h.1)
+  behind us e (inr other) = inr (λ r f. other r (tail_same GROUPING us (SETS ∷ lparen ∷ r) (sym e ∙ f)))
+
+  after : Begins GROUPING ts → ((more : List Token) × (ts ≡ GROUPING ∷ SETS ∷ lparen ∷ more)) ⊎ ((more : List Token) → ts ≢ GROUPING ∷ SETS ∷ lparen ∷ more)
+  after (inl h) = behind h.0 h.1 (begins_call (codes "SETS") h.0)
+  after (inr other) = inr (λ r f. other (SETS ∷ lparen ∷ r) f)
+
+-- the element, by those that stand in its GROUPING SETS
+element_by : (ts : List Token) → ((more : List Token) → length more < length ts → Decided (λ xs r. Separated comma SpellsElement more xs (rparen ∷ r))) → Decided (Starts SpellsElement Any ts)
+element_by ts inner = first (begins_both lparen rparen begins_open begins_close ts) where
+  fourth : ((more : List Token) → ts ≢ lparen ∷ rparen ∷ more) → BeginsNotCall ROLLUP ts → BeginsNotCall CUBE ts
+      → ((more : List Token) × (ts ≡ GROUPING ∷ SETS ∷ lparen ∷ more)) ⊎ ((more : List Token) → ts ≢ GROUPING ∷ SETS ∷ lparen ∷ more) → Decided (Starts SpellsElement Any ts)
+  fourth e r c (inl h) = turned (element_sets ts h.0 h.1) (inner h.0 (omega (arith, ap length h.1)))
+  fourth e r c (inr s) = turned (element_unit ts (record { no_empty = e; no_rollup = r; no_cube = c; no_sets = s })) (unit_decided ts)
+
+  third : ((more : List Token) → ts ≢ lparen ∷ rparen ∷ more) → BeginsNotCall ROLLUP ts → BeginsBoth CUBE lparen ts → Decided (Starts SpellsElement Any ts)
+  third e r (inl h) = turned (element_cube ts h.0 h.1) (list_in SpellsUnit shorter_unit unit_decided h.0)
+  third e r (inr c) = fourth e r c (begins_sets ts)
+
+  second : ((more : List Token) → ts ≢ lparen ∷ rparen ∷ more) → BeginsBoth ROLLUP lparen ts → Decided (Starts SpellsElement Any ts)
+  second e (inl h) = turned (element_rollup ts h.0 h.1) (list_in SpellsUnit shorter_unit unit_decided h.0)
+  second e (inr r) = third e r (begins_call (codes "CUBE") ts)
+
+  first : BeginsBoth lparen rparen ts → Decided (Starts SpellsElement Any ts)
+  first (inl h) = one_phrase Empty h.0 (element_empty ts h.0 h.1)
+  first (inr e) = second e (begins_call (codes "ROLLUP") ts)
+
+elements_within : (most : ℕ) → ((us : List Token) → length us ≤ most → Decided (Starts SpellsElement Any us)) → (ts : List Token) → length ts ≤ most → Decided (Starts (Separated comma SpellsElement) (Ends comma Any) ts)
+elements_within most one ts le = list_decided comma begins_comma SpellsElement Any (λ us. tt) shorter_element most one ts le
+
+element_within : (n : ℕ) (ts : List Token) → length ts ≤ n → Decided (Starts SpellsElement Any ts)
+element_within zero ts le = element_by ts (λ more lt. absurd (omega arith))
+element_within (suc n) ts le = element_by ts (λ more lt.
+    ended (Separated comma SpellsElement) (Ends comma Any) rparen begins_close more comma_may (elements_within n (element_within n) more (omega arith)))
+
+elements_decided : (ts : List Token) → Decided (Starts (Separated comma SpellsElement) (Ends comma Any) ts)
+elements_decided ts = elements_within (length ts) (element_within (length ts)) ts (omega arith)
+
+-- ---- tests
+literal_decided : (ts : List Token) → Decided (Starts SpellsLiteral Any ts)
+literal_decided ts = computed_phrase SpellsLiteral ts (literal_at ts) (literal_computes ts)
+
+operand_decided : (ts : List Token) → Decided (Starts SpellsOperand Any ts)
+operand_decided ts = computed_phrase SpellsOperand ts (operand_at ts) (operand_computes ts)
+
+marked_of : (us : List Token) → (not : Bool) × (vs : List Token) × Marked us not vs
+marked_of us = after (begins_word (codes "NOT") us) where
+  after : Begins NOT us → (not : Bool) × (vs : List Token) × Marked us not vs
+  after (inl h) = (true, h.0, marked us h.0 h.1)
+  after (inr other) = (false, us, unmarked us other)
+
+module _ (a : Operand (List ℕ)) (us : List Token) where
+  null_by : (not : Bool) (vs : List Token) → Marked us not vs → Begins NULL vs → Decided (NullAfter a us)
+  null_by not vs m (inl h) = one_phrase (test.IsNull a not) h.0 (null_found a us not vs m h.0 h.1)
+  null_by not vs m (inr other) = no_phrase (null_nothing a us not vs m other)
+
+  null_decided : Decided (NullAfter a us)
+  null_decided = let m = marked_of us in null_by m.0 m.1 m.2 (begins_word (codes "NULL") m.1)
+
+  module _ (not : Bool) where
+    low_by : (more : List Token) → us ≡ BETWEEN ∷ more → Decided (λ l r. SpellsOperand more l (AND ∷ r)) → Decided (RangeAfter a not us)
+    low_by more e (one_phrase low vs h) = turned (range_low a us not more e low vs h) (operand_decided vs)
+    low_by more e (no_phrase h) = no_phrase (range_no_low a us not more e h)
+
+    list_by : BeginsNot BETWEEN us → BeginsBoth IN lparen us → Decided (RangeAfter a not us)
+    list_by b (inl h) = turned (range_list a us not h.0 h.1) (list_in SpellsLiteral shorter_literal literal_decided h.0)
+    list_by b (inr i) = no_phrase (range_nothing a us not b i)
+
+    range_by : Begins BETWEEN us → Decided (RangeAfter a not us)
+    range_by (inl h) = low_by h.0 h.1 (ended SpellsOperand Any AND (begins_word (codes "AND")) h.0 (λ r. tt) (operand_decided h.0))
+    range_by (inr b) = list_by b (begins_call (codes "IN") us)
+
+    range_decided : Decided (RangeAfter a not us)
+    range_decided = range_by (begins_word (codes "BETWEEN") us)
+
+module _ (a : Operand (List ℕ)) (us : List Token) where
+  is_by : comparison_at us ≡ None → Begins IS us → Decided (TestAfter a us)
+  is_by e (inl h) = turned (test_is a us h.0 h.1) (null_decided a h.0)
+  is_by e (inr other) = let m = marked_of us in turned (test_range a us e other m.0 m.1 m.2) (range_decided a m.1 m.0)
+
+  compare_by : (o : Option (Comparison × List Token)) → comparison_at us ≡ o → Decided (TestAfter a us)
+  compare_by None e = is_by e (begins_word (codes "IS") us)
+  compare_by (Some x) e = turned (test_compare a us x.0 x.1 e) (operand_decided x.1)
+
+test_by : (ts : List Token) → Decided (Starts SpellsOperand Any ts) → Decided (Starts SpellsTest Any ts)
+test_by ts (one_phrase a us h) = turned (test_operand ts a us h) (compare_by a us (comparison_at us) refl)
+test_by ts (no_phrase h) = no_phrase (test_no_operand ts h)
+
+test_decided : (ts : List Token) → Decided (Starts SpellsTest Any ts)
+test_decided ts = test_by ts (operand_decided ts)
+
+-- ---- predicates, by their primaries
+module _ (most : ℕ) (primary : (us : List Token) → length us ≤ most → Decided (Starts SpellsPrimary Any us)) where
+  factor_by : (ts : List Token) → length ts ≤ most → Begins NOT ts → Decided (Starts SpellsFactor Any ts)
+  factor_by ts le (inl h) = turned (factor_not ts h.0 h.1) (primary h.0 (omega (arith, ap length h.1)))
+  factor_by ts le (inr other) = turned (factor_plain ts other) (primary ts le)
+
+  factor : (ts : List Token) → length ts ≤ most → Decided (Starts SpellsFactor Any ts)
+  factor ts le = factor_by ts le (begins_word (codes "NOT") ts)
+
+  term : (ts : List Token) → length ts ≤ most → Decided (Starts SpellsTerm AfterAnd ts)
+  term ts le = turned (term_factors ts) (list_decided AND (begins_word (codes "AND")) SpellsFactor Any (λ us. tt) shorter_factor most factor ts le)
+
+  predicate_within : (ts : List Token) → length ts ≤ most → Decided (Starts SpellsPredicate AfterOr ts)
+  predicate_within ts le = turned (predicate_terms ts) (list_decided OR (begins_word (codes "OR")) SpellsTerm AfterAnd or_ends_and shorter_term most term ts le)
+
+primary_by : (ts : List Token) → ((more : List Token) → length more < length ts → Decided (λ p r. SpellsPredicate more p (rparen ∷ r))) → Begins lparen ts → Decided (Starts SpellsPrimary Any ts)
+primary_by ts inner (inl h) = turned (primary_parens ts h.0 h.1) (inner h.0 (omega (arith, ap length h.1)))
+primary_by ts inner (inr other) = turned (primary_test ts other) (test_decided ts)
+
+primary_within : (n : ℕ) (ts : List Token) → length ts ≤ n → Decided (Starts SpellsPrimary Any ts)
+primary_within zero ts le = primary_by ts (λ more lt. absurd (omega arith)) (begins_open ts)
+primary_within (suc n) ts le = primary_by ts (λ more lt. ended SpellsPredicate AfterOr rparen begins_close more paren_ends (predicate_within n (primary_within n) more (omega arith))) (begins_open ts)
+
+predicate_decided : (ts : List Token) → Decided (Starts SpellsPredicate AfterOr ts)
+predicate_decided ts = predicate_within (length ts) (primary_within (length ts)) ts (omega arith)
+
+-- ---- the parts that end the tokens
+whole_by : (ts : List Token) → Decided (Starts (Separated comma SpellsElement) (Ends comma Any) ts) → Decided (Whole (λ us es. Separated comma SpellsElement us es []) ts)
+whole_by ts (one_phrase es [] h) = one_phrase es [] (elements_end ts es [] h refl)
+whole_by ts (one_phrase es (u ∷ us) h) = no_phrase (elements_no_end ts es (u ∷ us) h (λ e. let bad : u ∷ us ≡ [] = e in cc))
+whole_by ts (no_phrase h) = no_phrase (elements_none ts h)
+
+groups_by_words : (ts : List Token) → ts ≢ [] → BeginsBoth GROUP BY ts → Decided (Whole SpellsEnd ts)
+groups_by_words ts any (inl h) = turned (groups_by ts h.0 h.1) (whole_by h.0 (elements_decided h.0))
+groups_by_words ts any (inr other) = no_phrase (groups_other ts any other)
+
+groups_decided : (ts : List Token) → Decided (Whole SpellsEnd ts)
+groups_decided [] = one_phrase (Empty ∷ []) [] (groups_none [] refl)
+groups_decided (t ∷ ts) = groups_by_words (t ∷ ts) (λ e. let bad : t ∷ ts ≡ [] = e in cc) (begins_both GROUP BY (begins_word (codes "GROUP")) (begins_word (codes "BY")) (t ∷ ts))
+
+module _ (ts : List Token) where
+  where_by : (more : List Token) → ts ≡ WHERE ∷ more → Decided (Starts SpellsPredicate AfterOr more) → Decided (Whole SpellsTail ts)
+  where_by more e (one_phrase p behind h) = turned (tail_where ts more e p behind h) (groups_decided behind)
+  where_by more e (no_phrase h) = no_phrase (tail_no_where ts more e h)
+
+  tail_by : Begins WHERE ts → Decided (Whole SpellsTail ts)
+  tail_by (inl h) = where_by h.0 h.1 (predicate_decided h.0)
+  tail_by (inr other) = turned (tail_none ts other) (groups_decided ts)
+
+  tail_decided : Decided (Whole SpellsTail ts)
+  tail_decided = tail_by (begins_word (codes "WHERE") ts)
+
+from_by : (ts : List Token) → Decided (Starts SpellsName Any ts) → Decided (Whole SpellsFrom ts)
+from_by ts (one_phrase table behind h) = turned (from_name ts table behind h) (tail_decided behind)
+from_by ts (no_phrase h) = no_phrase (from_no_name ts h)
+
+comma_ends : (r : List Token) → Ends comma Any (FROM ∷ r)
+comma_ends r = record { no_more = λ us e. let bad : FROM ≡ comma = cc in cc; apart = tt }
+
+module _ (ts : List Token) where
+  items_by : (more : List Token) → ts ≡ SELECT ∷ more → Decided (λ is r. Separated comma SpellsItem more is (FROM ∷ r)) → Decided (Whole SpellsQuery ts)
+  items_by more e (one_phrase items behind h) = turned (query_items ts more e items behind h) (from_by behind (name_decided behind))
+  items_by more e (no_phrase h) = no_phrase (query_no_items ts more e h)
+
+  query_by : Begins SELECT ts → Decided (Whole SpellsQuery ts)
+  query_by (inl h) = items_by h.0 h.1 (ended (Separated comma SpellsItem) (Ends comma Any) FROM (begins_word (codes "FROM")) h.0 comma_ends (any_list SpellsItem shorter_item item_decided h.0))
+  query_by (inr other) = no_phrase (query_none ts other)
+
+  pub query_decided : Decided (Whole SpellsQuery ts)
+  query_decided = query_by (begins_word (codes "SELECT") ts)

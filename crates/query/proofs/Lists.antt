@@ -1,0 +1,126 @@
+-- Lists with a separator: what is left to read decides what the whole spells.
+use Rattle.std.proofs.Common.{◌≡◌, List, [], ◌∷◌, ◌++◌, ◌⊎◌, inl, inr, refl, sym, ap, ◌∙◌, subst, append_assoc}
+use Rattle.cells.specs.declared.token.Token.{Token}
+use Rattle.cells.specs.declared.refused.Refused.{Refused}
+use Rattle.cells.specs.declared.refused.Refused.TheVariants.{OutOfMemory, QuerySyntax}
+use Rattle.query.specs.Grammar.{Separated, last, next}
+use Rattle.query.specs.Reading.{BeginsNot, Ends, Starts, Found, Nothing}
+
+-- S is T through f, with the same rest
+pub record Turns {X Y : Type 0} (S : X → List Token → Type 0) (T : Y → List Token → Type 0) (f : Y → X) : Type 0 where
+  pub to : (y : Y) (r : List Token) → T y r → S (f y) r
+  pub from : (x : X) (r : List Token) → S x r → (y : Y) × (x ≡ f y) × T y r
+
+module _ {X Y : Type 0} {S : X → List Token → Type 0} {T : Y → List Token → Type 0} {f : Y → X} where
+  pub turn_found : {y : Y} {rest : List Token} → Turns S T f → Found T y rest → Found S (f y) rest
+  turn_found {y} {rest} turns found = record {
+    is = turns.to y rest found.is;
+    only = λ x r s.
+        let z = turns.from x r s in
+        let same = found.only z.0 r z.2 in
+        (z.1 ∙ ap f same.0, same.1);
+  }
+
+  pub turn_nothing : Turns S T f → Nothing T → Nothing S
+  turn_nothing turns nothing = record { none = λ x r s. let z = turns.from x r s in nothing.none z.0 r z.2 }
+
+  pub turn_err : {e : Refused} → Turns S T f → (e ≡ OutOfMemory) ⊎ ((e ≡ QuerySyntax) × Nothing T) → (e ≡ OutOfMemory) ⊎ ((e ≡ QuerySyntax) × Nothing S)
+  turn_err turns (inl memory) = inl memory
+  turn_err turns (inr fault) = inr (fault.0, turn_nothing turns fault.1)
+
+-- up to a token that ends it
+abbrev pub Until : {X : Type 0} → Token → (X → List Token → Type 0) → X → List Token → Type 0
+Until t S x rest = S x (t ∷ rest)
+
+module _ {X : Type 0} {Sp : List Token → X → List Token → Type 0} {Apart : List Token → Type 0} (t : Token) (ts : List Token) (apart : (r : List Token) → Apart (t ∷ r)) where
+  pub closed : {x : X} {behind : List Token} → Found (Starts Sp Apart ts) x behind → (rest : List Token) → behind ≡ t ∷ rest → Found (λ y r. Sp ts y (t ∷ r)) x rest
+  closed {x} {behind} found rest e = record {
+    is = subst (Sp ts x) e (found.is).spells;
+    only = λ y r s.
+        let same = found.only y (t ∷ r) (record { spells = s; apart = apart r }) in
+        (same.0, let both : t ∷ r ≡ t ∷ rest = same.1 ∙ e in cc);
+  }
+
+  pub not_closed : {x : X} {behind : List Token} → Found (Starts Sp Apart ts) x behind → BeginsNot t behind → Nothing (λ y r. Sp ts y (t ∷ r))
+  not_closed found other = record { none = λ y r s. other r (sym (found.only y (t ∷ r) (record { spells = s; apart = apart r })).1) }
+
+  pub none_closed : Nothing (Starts Sp Apart ts) → Nothing (λ y r. Sp ts y (t ∷ r))
+  none_closed nothing = record { none = λ y r s. nothing.none y (t ∷ r) (record { spells = s; apart = apart r }) }
+
+module _ {X : Type 0} (sep : Token) (Sp : List Token → X → List Token → Type 0) (Apart : List Token → Type 0) (free : (us : List Token) → Apart (sep ∷ us)) where
+  -- an element, and a list of them
+  abbrev pub One : List Token → X → List Token → Type 0
+  One ts = Starts Sp Apart ts
+
+  abbrev pub Some' : List Token → List X → List Token → Type 0
+  Some' ts = Starts (Separated sep Sp) (Ends sep Apart) ts
+
+  -- the first element, and then the end, or a separator and the others
+  pub record Parts (ts : List Token) (xs : List X) (rest : List Token) : Type 0 where
+    pub first : X
+    pub behind : List Token
+    pub starts : One ts first behind
+    pub others : ((xs ≡ first ∷ []) × (behind ≡ rest)) ⊎ ((us : List Token) × (ys : List X) × (behind ≡ sep ∷ us) × (xs ≡ first ∷ ys) × Some' us ys rest)
+
+  parts_of : {ts rest : List Token} {xs : List X} → Separated sep Sp ts xs rest → Ends sep Apart rest → Parts ts xs rest
+  parts_of {ts} {rest} (last {x = x} h) ends = record { first = x; behind = rest; starts = record { spells = h; apart = ends.apart }; others = inl (refl, refl) }
+  parts_of {ts} {rest} (next {us = us} {x = x} {xs = xs} h more) ends = record {
+    first = x;
+    behind = sep ∷ us;
+    starts = record { spells = h; apart = free us };
+    others = inr (us, xs, refl, refl, record { spells = more; apart = ends });
+  }
+
+  pub list_none : {ts : List Token} → Nothing (One ts) → Nothing (Some' ts)
+  list_none nothing = record { none = λ xs r s. let p = parts_of s.spells s.apart in nothing.none p.first p.behind p.starts }
+
+  pub list_end : {ts : List Token} {x : X} {behind : List Token} → Found (One ts) x behind → BeginsNot sep behind → Found (Some' ts) (x ∷ []) behind
+  list_end {ts} {x} {behind} found other = record {
+    is = record { spells = last (found.is).spells; apart = record { no_more = other; apart = (found.is).apart } };
+    only = λ xs r s.
+        let p = parts_of s.spells s.apart in
+        let same = found.only p.first p.behind p.starts in
+        elim p.others [
+          | inl end ↦ (end.0 ∙ ap (λ y. y ∷ []) same.0, sym end.1 ∙ same.1)
+          | inr more ↦ absurd (other more.0 (sym same.1 ∙ more.2))
+        ];
+  }
+
+  pub list_next : {ts : List Token} {x : X} {behind : List Token} → Found (One ts) x behind → (us : List Token) → behind ≡ sep ∷ us → Turns (Some' ts) (Some' us) (λ ys. x ∷ ys)
+  list_next {ts} {x} {behind} found us e = record {
+    to = λ ys r s. record { spells = next (subst (Sp ts x) e (found.is).spells) s.spells; apart = s.apart };
+    from = λ xs r s.
+        let p = parts_of s.spells s.apart in
+        let same = found.only p.first p.behind p.starts in
+        elim p.others [
+          | inl end ↦ absurd (s.apart.no_more us (sym end.1 ∙ same.1 ∙ e))
+          | inr more ↦
+              let both : sep ∷ more.0 ≡ sep ∷ us = sym more.2 ∙ same.1 ∙ e in
+              let rests : more.0 ≡ us = cc in
+              (more.1, more.3 ∙ ap (λ y. y ∷ more.1) same.0, subst (λ v. Some' v more.1 r) rests more.4)
+        ];
+  }
+
+  -- what a loop keeps: the whole spells what was found and then what the rest spells
+  abbrev pub Kept : List Token → List X → List Token → Type 0
+  Kept ts found rest = Turns (Some' ts) (Some' rest) (λ ys. found ++ ys)
+
+  pub kept_first : (ts : List Token) → Kept ts [] ts
+  kept_first ts = record { to = λ ys r s. s; from = λ xs r s. (xs, refl, s) }
+
+  module _ (ts rest : List Token) (found : List X) (kept : Kept ts found rest) where
+    pub kept_none : Nothing (One rest) → Nothing (Some' ts)
+    kept_none nothing = turn_nothing kept (list_none nothing)
+
+    module _ (x : X) (behind : List Token) (new : List X) (read : Found (One rest) x behind) (is : new ≡ found ++ x ∷ []) where
+      pub kept_end : BeginsNot sep behind → Found (Some' ts) new behind
+      kept_end other = rw is (turn_found kept (list_end read other))
+
+      pub kept_next : (us : List Token) → behind ≡ sep ∷ us → Kept ts new us
+      kept_next us e = rw is (record {
+        to = λ ys r s. subst (λ l. Some' ts l r) (sym (append_assoc found (x ∷ []) ys)) (kept.to (x ∷ ys) r ((list_next read us e).to ys r s));
+        from = λ xs r s.
+            let a = kept.from xs r s in
+            let b = (list_next read us e).from a.0 r a.2 in
+            (b.0, a.1 ∙ ap (λ l. found ++ l) b.1 ∙ sym (append_assoc found (x ∷ []) b.0), b.2);
+      })

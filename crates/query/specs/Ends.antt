@@ -1,0 +1,23 @@
+-- The parts of a query that end its tokens: what a reader of them answers.
+use Rattle.std.specs.Prelude.{◌≡◌, ℕ, List, [], Option}
+use Rattle.cells.specs.declared.token.Token.{Token}
+use Rattle.query.specs.Grammar.{SpellsGroups, SpellsName, SpellsWhere}
+use Rattle.query.specs.Trees.{ElementTree, PredicateTree}
+use Rattle.query.specs.declared.test.Test.{Test}
+
+-- the tokens are a spelling, and nothing follows it
+pub record Whole {X : Type 0} (Spells : List Token → X → Type 0) (ts : List Token) (x : X) (rest : List Token) : Type 0 where
+  pub spells : Spells ts x
+  pub ended : rest ≡ []
+
+-- [ GROUP BY .. ] at the end
+abbrev pub SpellsEnd : List Token → List ElementTree → Type 0
+SpellsEnd ts es = SpellsGroups ts es []
+
+-- [ WHERE .. ] [ GROUP BY .. ] at the end
+abbrev pub SpellsTail : List Token → Option (PredicateTree (Test (List ℕ))) × List ElementTree → Type 0
+SpellsTail ts x = (ws : List Token) × SpellsWhere ts x.0 ws × SpellsGroups ws x.1 []
+
+-- the table's name, and then that
+abbrev pub SpellsFrom : List Token → List ℕ × (Option (PredicateTree (Test (List ℕ))) × List ElementTree) → Type 0
+SpellsFrom ts x = (vs : List Token) × SpellsName ts x.0 vs × SpellsTail vs x.1

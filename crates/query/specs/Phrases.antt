@@ -1,0 +1,91 @@
+-- The phrases at the front of tokens that are no longer than a few tokens, as functions: what the private readers answer.
+use Rattle.std.specs.Prelude.{ℕ, Bool, List, ◌∷◌, bytes_eq, codes, Option, Some, None, if◌then◌else◌}
+use Rattle.cells.specs.Schemas.{is_reserved}
+use Rattle.cells.specs.declared.token.Token.{Token}
+use Rattle.cells.specs.declared.token.Token.TheVariants.{Word, Number, Quoted, Mark}
+use Rattle.cells.specs.declared.token.Mark.TheVariants.{LeftParen, RightParen, Asterisk, Equals, NotEquals, LessThanOrEquals, GreaterThanOrEquals, LessThan, GreaterThan}
+use Rattle.query.specs.Grammar.{Separated, SpellsOperand, SpellsLiteral, SpellsComparison, SpellsNot, AND, BETWEEN, IN, IS, NULL, comma, lparen, rparen}
+use Rattle.query.specs.declared.test.Test.{Test}
+use Rattle.query.specs.declared.test.Test.TheVariants as test
+use Rattle.query.specs.declared.test.Literal.{Literal}
+use Rattle.query.specs.declared.test.Literal.TheVariants as literal
+use Rattle.query.specs.declared.test.Operand.{Operand}
+use Rattle.query.specs.declared.test.Operand.TheVariants as operand
+use Rattle.query.specs.declared.test.Comparison.{Comparison}
+use Rattle.query.specs.declared.test.Comparison.TheVariants as comparison
+use Rattle.query.specs.declared.item.Item.{Item}
+use Rattle.query.specs.declared.item.Item.TheVariants as item
+
+abbrev pub name_at : List Token → Option (List ℕ × List Token)
+name_at (Word n ∷ rest) = if is_reserved n then None else Some (n, rest)
+name_at ts = None
+
+-- the item that a word with a name in parentheses is
+abbrev pub call_of : List ℕ → List ℕ → Option (Item (List ℕ))
+call_of w n =
+    if bytes_eq w (codes "GROUPING") then Some (item.Grouping n)
+    else (if bytes_eq w (codes "COUNT") then Some (item.Count n)
+    else (if bytes_eq w (codes "SUM") then Some (item.Sum n)
+    else (if bytes_eq w (codes "MIN") then Some (item.Min n)
+    else (if bytes_eq w (codes "MAX") then Some (item.Max n)
+    else None))))
+
+-- the rest of an item that begins with a reserved word and "("
+abbrev pub rows_at : List ℕ → List Token → Option (Item (List ℕ) × List Token)
+rows_at w (Mark RightParen ∷ rest) = if bytes_eq w (codes "COUNT") then Some (item.CountRows, rest) else None
+rows_at w ts = None
+
+abbrev pub distinct_at : List ℕ → List Token → Option (Item (List ℕ) × List Token)
+distinct_at w (Word n ∷ Mark RightParen ∷ rest) = if is_reserved n then None else (if bytes_eq w (codes "COUNT") then Some (item.CountDistinct n, rest) else None)
+distinct_at w ts = None
+
+abbrev pub with_rest : List Token → Option (Item (List ℕ)) → Option (Item (List ℕ) × List Token)
+with_rest rest None = None
+with_rest rest (Some i) = Some (i, rest)
+
+abbrev pub named_at : List ℕ → List ℕ → List Token → Option (Item (List ℕ) × List Token)
+named_at w n (Mark RightParen ∷ rest) = if is_reserved n then None else with_rest rest (call_of w n)
+named_at w n ts = None
+
+-- an item that begins with a reserved word
+abbrev pub call_at : List ℕ → List Token → Option (Item (List ℕ) × List Token)
+call_at w (Mark LeftParen ∷ Mark Asterisk ∷ rest) = rows_at w rest
+call_at w (Mark LeftParen ∷ Word n ∷ rest) = if bytes_eq n (codes "DISTINCT") then distinct_at w rest else named_at w n rest
+call_at w ts = None
+
+unfoldable pub item_at : List Token → Option (Item (List ℕ) × List Token)
+item_at (Word w ∷ rest) = if is_reserved w then call_at w rest else Some (item.Column w, rest)
+item_at ts = None
+
+abbrev pub literal_at : List Token → Option (Literal × List Token)
+literal_at (Number n ∷ rest) = Some (literal.Int n, rest)
+literal_at (Quoted t ∷ rest) = Some (literal.Text t, rest)
+literal_at ts = None
+
+abbrev pub operand_at : List Token → Option (Operand (List ℕ) × List Token)
+operand_at (Word n ∷ rest) = if is_reserved n then None else Some (operand.Column n, rest)
+operand_at (Number n ∷ rest) = Some (operand.Literal (literal.Int n), rest)
+operand_at (Quoted t ∷ rest) = Some (operand.Literal (literal.Text t), rest)
+operand_at ts = None
+
+abbrev pub comparison_at : List Token → Option (Comparison × List Token)
+comparison_at (Mark Equals ∷ rest) = Some (comparison.Equal, rest)
+comparison_at (Mark NotEquals ∷ rest) = Some (comparison.NotEqual, rest)
+comparison_at (Mark LessThan ∷ rest) = Some (comparison.Less, rest)
+comparison_at (Mark LessThanOrEquals ∷ rest) = Some (comparison.LessOrEqual, rest)
+comparison_at (Mark GreaterThan ∷ rest) = Some (comparison.Greater, rest)
+comparison_at (Mark GreaterThanOrEquals ∷ rest) = Some (comparison.GreaterOrEqual, rest)
+comparison_at ts = None
+
+-- a test behind its first operand
+pub data NullAfter (a : Operand (List ℕ)) : List Token → Test (List ℕ) → List Token → Type 0 where
+  null : {us rest : List Token} {not : Bool} → SpellsNot us not (NULL ∷ rest) → NullAfter a us (test.IsNull a not) rest
+
+pub data RangeAfter (a : Operand (List ℕ)) (not : Bool) : List Token → Test (List ℕ) → List Token → Type 0 where
+  range : {us vs rest : List Token} {low high : Operand (List ℕ)} → SpellsOperand us low (AND ∷ vs) → SpellsOperand vs high rest → RangeAfter a not (BETWEEN ∷ us) (test.Between a low high not) rest
+  list : {us rest : List Token} {ls : List Literal} → Separated comma SpellsLiteral us ls (rparen ∷ rest) → RangeAfter a not (IN ∷ lparen ∷ us) (test.In a ls not) rest
+
+pub data TestAfter (a : Operand (List ℕ)) : List Token → Test (List ℕ) → List Token → Type 0 where
+  after_compare : {us vs rest : List Token} {b : Operand (List ℕ)} {c : Comparison} → SpellsComparison us c vs → SpellsOperand vs b rest → TestAfter a us (test.Compare a c b) rest
+  after_is : {us rest : List Token} {t : Test (List ℕ)} → NullAfter a us t rest → TestAfter a (IS ∷ us) t rest
+  after_not : {us vs rest : List Token} {t : Test (List ℕ)} {not : Bool} → SpellsNot us not vs → RangeAfter a not vs t rest → TestAfter a us t rest

@@ -1,0 +1,153 @@
+//! Reads the elements of GROUP BY. Lists are read by loops, so that only a nested GROUPING SETS goes deep.
+ghost use Rattle.std.specs.Prelude.{◌≡◌, ◌≢◌, ◌<◌, ◌∷◌, List, IfOk, MatchOption, length};
+ghost use Rattle.cells.specs.declared.token.Token.{Token};
+ghost use Rattle.query.specs.Grammar.{GROUPING, SETS, Separated, SpellsElement, SpellsName, SpellsUnit, comma, lparen, rparen};
+ghost use Rattle.query.specs.Reading.{Any, Ends, Reads, Starts};
+
+use crate::element::{Element, Unit};
+use crate::phrases::{after_call, after_mark, after_word, name};
+use cells::{Mark, Refused, Text, Token};
+use std::alloc::Global;
+
+/// The names at the front, with commas between, and what follows them.
+fn names(alloc: Global, tokens: &[Token]) -> Result<(Vec<Text>, &[Token]), Refused>
+    ensures reads { Reads (λ x. (x.0.items, x.1.now)) (Starts (Separated comma SpellsName) (Ends comma Any) tokens.now) result }
+    ensures shorter { IfOk result (λ x. length x.1.now < length tokens.now) }
+{
+    let mut found = Vec::new(alloc);
+    let mut rest = tokens;
+    loop {
+        let (name, behind) = name(rest)?;
+        found.push(name)?;
+        let Some(more) = after_mark(behind, Mark::Comma) else {
+            return Ok((found, behind));
+        };
+        rest = more;
+    }
+}
+
+/// The names up to the `)` behind them, and what follows it.
+fn names_in(alloc: Global, tokens: &[Token]) -> Result<(Vec<Text>, &[Token]), Refused>
+    ensures reads { Reads (λ x. (x.0.items, x.1.now)) (λ ns r. Separated comma SpellsName tokens.now ns (rparen ∷ r)) result }
+    ensures shorter { IfOk result (λ x. length x.1.now < length tokens.now) }
+{
+    let (names, rest) = names(alloc, tokens)?;
+    let Some(behind) = after_mark(rest, Mark::RightParen) else {
+        return Err(Refused::QuerySyntax);
+    };
+    Ok((names, behind))
+}
+
+/// The unit at the front, and what follows it.
+fn unit(alloc: Global, tokens: &[Token]) -> Result<(Unit, &[Token]), Refused>
+    ensures reads { Reads (λ x. (x.0, x.1.now)) (Starts SpellsUnit Any tokens.now) result }
+    ensures shorter { IfOk result (λ x. length x.1.now < length tokens.now) }
+{
+    if let Some(more) = after_mark(tokens, Mark::LeftParen) {
+        let (names, rest) = names_in(alloc, more)?;
+        return Ok((Unit::new(names), rest));
+    }
+    let (name, rest) = name(tokens)?;
+    Ok((Unit::one(alloc, name)?, rest))
+}
+
+/// The units at the front, with commas between, and what follows them.
+fn units(alloc: Global, tokens: &[Token]) -> Result<(Vec<Unit>, &[Token]), Refused>
+    ensures reads { Reads (λ x. (x.0.items, x.1.now)) (Starts (Separated comma SpellsUnit) (Ends comma Any) tokens.now) result }
+    ensures shorter { IfOk result (λ x. length x.1.now < length tokens.now) }
+{
+    let mut found = Vec::new(alloc);
+    let mut rest = tokens;
+    loop {
+        let (unit, behind) = unit(alloc, rest)?;
+        found.push(unit)?;
+        let Some(more) = after_mark(behind, Mark::Comma) else {
+            return Ok((found, behind));
+        };
+        rest = more;
+    }
+}
+
+/// The units up to the `)` behind them, and what follows it.
+fn units_in(alloc: Global, tokens: &[Token]) -> Result<(Vec<Unit>, &[Token]), Refused>
+    ensures reads { Reads (λ x. (x.0.items, x.1.now)) (λ us r. Separated comma SpellsUnit tokens.now us (rparen ∷ r)) result }
+    ensures shorter { IfOk result (λ x. length x.1.now < length tokens.now) }
+{
+    let (units, rest) = units(alloc, tokens)?;
+    let Some(behind) = after_mark(rest, Mark::RightParen) else {
+        return Err(Refused::QuerySyntax);
+    };
+    Ok((units, behind))
+}
+
+/// What follows `GROUPING SETS (`, where the tokens begin with it.
+fn after_sets(tokens: &[Token]) -> Option<&[Token]>
+    ensures { MatchOption result ((more : List Token) → tokens.now ≢ GROUPING ∷ SETS ∷ lparen ∷ more) (λ rest. tokens.now ≡ GROUPING ∷ SETS ∷ lparen ∷ rest.now) }
+{
+    let rest = after_word(tokens, "GROUPING")?;
+    after_call(rest, "SETS")
+}
+
+/// What follows `()`, where the tokens begin with it.
+fn after_empty(tokens: &[Token]) -> Option<&[Token]>
+    ensures { MatchOption result ((more : List Token) → tokens.now ≢ lparen ∷ rparen ∷ more) (λ rest. tokens.now ≡ lparen ∷ rparen ∷ rest.now) }
+{
+    let rest = after_mark(tokens, Mark::LeftParen)?;
+    after_mark(rest, Mark::RightParen)
+}
+
+/// The grouping element at the front, and what follows it.
+#[cycle(reader)]
+fn element(alloc: Global, tokens: &[Token]) -> Result<(Element, &[Token]), Refused>
+    ensures reads { Reads (λ x. (x.0, x.1.now)) (Starts SpellsElement Any tokens.now) result }
+    ensures shorter { IfOk result (λ x. length x.1.now < length tokens.now) }
+{
+    if let Some(rest) = after_empty(tokens) {
+        return Ok((Element::empty(), rest));
+    }
+    if let Some(more) = after_call(tokens, "ROLLUP") {
+        let (units, rest) = units_in(alloc, more)?;
+        return Ok((Element::rollup(units), rest));
+    }
+    if let Some(more) = after_call(tokens, "CUBE") {
+        let (units, rest) = units_in(alloc, more)?;
+        return Ok((Element::cube(units), rest));
+    }
+    if let Some(more) = after_sets(tokens) {
+        let (elements, rest) = elements_in(alloc, more)?;
+        return Ok((Element::sets(elements), rest));
+    }
+    let (unit, rest) = unit(alloc, tokens)?;
+    Ok((Element::unit(unit), rest))
+}
+
+/// The grouping elements up to the `)` behind them, and what follows it.
+#[cycle(reader)]
+fn elements_in(alloc: Global, tokens: &[Token]) -> Result<(Vec<Element>, &[Token]), Refused>
+    ensures reads { Reads (λ x. (x.0.items, x.1.now)) (λ es r. Separated comma SpellsElement tokens.now es (rparen ∷ r)) result }
+    ensures shorter { IfOk result (λ x. length x.1.now < length tokens.now) }
+{
+    let (elements, rest) = elements(alloc, tokens)?;
+    let Some(behind) = after_mark(rest, Mark::RightParen) else {
+        return Err(Refused::QuerySyntax);
+    };
+    Ok((elements, behind))
+}
+
+/// The grouping elements at the front, with commas between, and what follows them.
+#[cycle(reader)]
+pub fn elements(alloc: Global, tokens: &[Token]) -> Result<(Vec<Element>, &[Token]), Refused>
+    ensures reads { Reads (λ x. (x.0.items, x.1.now)) (Starts (Separated comma SpellsElement) (Ends comma Any) tokens.now) result }
+    ensures shorter { IfOk result (λ x. length x.1.now < length tokens.now) }
+{
+    let mut found = Vec::new(alloc);
+    let mut rest = tokens;
+    loop {
+        let (element, behind) = element(alloc, rest)?;
+        found.push(element)?;
+        let Some(more) = after_mark(behind, Mark::Comma) else {
+            return Ok((found, behind));
+        };
+        rest = more;
+    }
+}

@@ -1,0 +1,157 @@
+//! The short phrases at the front of tokens: words, signs, names, literals, operands. A reader answers
+//! [`Refused::QuerySyntax`] exactly where the tokens begin with no such phrase, and [`Refused::OutOfMemory`] only
+//! where a growth was refused. Each `.._at` is joined to its rule of the grammar by the function without it.
+ghost use Rattle.std.specs.Bool.{Decides};
+ghost use Rattle.std.specs.Prelude.{◌≡◌, ◌<◌, ◌≤◌, ◌∷◌, IfOk, IfSome, None, Some, MatchOption, length};
+ghost use Rattle.cells.specs.Refusals.{AnswersBy};
+ghost use Rattle.query.specs.Grammar.{SpellsLiteral, SpellsName, SpellsOperand, lparen, word};
+ghost use Rattle.query.specs.Phrases.{comparison_at, literal_at, name_at, operand_at};
+ghost use Rattle.query.specs.Reading.{Any, BeginsNot, BeginsNotCall, Marked, Reads, Starts, sign};
+
+use crate::test::{Comparison, Literal, Operand};
+use cells::{Mark, Refused, Text, Token, is_reserved};
+
+/// What follows the word, where the tokens begin with it.
+pub fn after_word<'a>(tokens: &'a [Token], expected: &str) -> Option<&'a [Token]>
+    ensures { MatchOption result (BeginsNot (word expected.now) tokens.now) (λ rest. tokens.now ≡ word expected.now ∷ rest.now) }
+{
+    let (first, rest) = tokens.split_first()?;
+    if is_word(first, expected) {
+        Some(rest)
+    } else {
+        None
+    }
+}
+
+/// Whether the token is the word.
+fn is_word(token: &Token, expected: &str) -> bool
+    ensures { Decides result (token.now ≡ word expected.now) }
+{
+    match token {
+        Token::Word(found) => found.as_str() == expected,
+        _ => false,
+    }
+}
+
+/// What follows the sign, where the tokens begin with it.
+pub fn after_mark(tokens: &[Token], mark: Mark) -> Option<&[Token]>
+    ensures { MatchOption result (BeginsNot (sign mark) tokens.now) (λ rest. tokens.now ≡ sign mark ∷ rest.now) }
+{
+    let (first, rest) = tokens.split_first()?;
+    match first {
+        Token::Mark(found) if *found == mark => Some(rest),
+        _ => None,
+    }
+}
+
+/// What follows the word and `(`, where the tokens begin with both.
+pub fn after_call<'a>(tokens: &'a [Token], expected: &str) -> Option<&'a [Token]>
+    ensures { MatchOption result (BeginsNotCall (word expected.now) tokens.now) (λ rest. tokens.now ≡ word expected.now ∷ lparen ∷ rest.now) }
+{
+    let rest = after_word(tokens, expected)?;
+    after_mark(rest, Mark::LeftParen)
+}
+
+/// The name at the front, and what follows it.
+fn name_at(tokens: &[Token]) -> Result<(Text, &[Token]), Refused>
+    ensures exact { AnswersBy (λ x. (x.0, x.1.now)) Refused.QuerySyntax (name_at tokens.now) result }
+    ensures shorter { IfOk result (λ x. length x.1.now < length tokens.now) }
+{
+    let [Token::Word(name), rest @ ..] = tokens else {
+        return Err(Refused::QuerySyntax);
+    };
+    if is_reserved(name.as_str()) {
+        return Err(Refused::QuerySyntax);
+    }
+    Ok((name.clone()?, rest))
+}
+
+/// The name at the front by the rule of the grammar, and what follows it.
+pub fn name(tokens: &[Token]) -> Result<(Text, &[Token]), Refused>
+    ensures reads { Reads (λ x. (x.0, x.1.now)) (Starts SpellsName Any tokens.now) result }
+    ensures shorter { IfOk result (λ x. length x.1.now < length tokens.now) }
+{
+    name_at(tokens)
+}
+
+/// The literal at the front, and what follows it.
+fn literal_at(tokens: &[Token]) -> Result<(Literal, &[Token]), Refused>
+    ensures exact { AnswersBy (λ x. (x.0, x.1.now)) Refused.QuerySyntax (literal_at tokens.now) result }
+    ensures shorter { IfOk result (λ x. length x.1.now < length tokens.now) }
+{
+    let [first, rest @ ..] = tokens else {
+        return Err(Refused::QuerySyntax);
+    };
+    match first {
+        Token::Number(n) => Ok((Literal::Int(*n), rest)),
+        Token::Quoted(text) => Ok((Literal::Text(text.clone()?), rest)),
+        _ => Err(Refused::QuerySyntax),
+    }
+}
+
+/// The literal at the front by the rule of the grammar, and what follows it.
+pub fn literal(tokens: &[Token]) -> Result<(Literal, &[Token]), Refused>
+    ensures reads { Reads (λ x. (x.0, x.1.now)) (Starts SpellsLiteral Any tokens.now) result }
+    ensures shorter { IfOk result (λ x. length x.1.now < length tokens.now) }
+{
+    literal_at(tokens)
+}
+
+/// The operand at the front, and what follows it.
+fn operand_at(tokens: &[Token]) -> Result<(Operand<Text>, &[Token]), Refused>
+    ensures exact { AnswersBy (λ x. (x.0, x.1.now)) Refused.QuerySyntax (operand_at tokens.now) result }
+    ensures shorter { IfOk result (λ x. length x.1.now < length tokens.now) }
+{
+    let [first, rest @ ..] = tokens else {
+        return Err(Refused::QuerySyntax);
+    };
+    match first {
+        Token::Word(word) => {
+            if is_reserved(word.as_str()) {
+                return Err(Refused::QuerySyntax);
+            }
+            Ok((Operand::Column(word.clone()?), rest))
+        }
+        Token::Number(n) => Ok((Operand::Literal(Literal::Int(*n)), rest)),
+        Token::Quoted(text) => Ok((Operand::Literal(Literal::Text(text.clone()?)), rest)),
+        Token::Mark(_) => Err(Refused::QuerySyntax),
+    }
+}
+
+/// The operand at the front by the rule of the grammar, and what follows it.
+pub fn operand(tokens: &[Token]) -> Result<(Operand<Text>, &[Token]), Refused>
+    ensures reads { Reads (λ x. (x.0, x.1.now)) (Starts SpellsOperand Any tokens.now) result }
+    ensures shorter { IfOk result (λ x. length x.1.now < length tokens.now) }
+{
+    operand_at(tokens)
+}
+
+/// The sign of a comparison at the front, and what follows it.
+pub fn comparison_at(tokens: &[Token]) -> Option<(Comparison, &[Token])>
+    ensures exact { MatchOption result (comparison_at tokens.now ≡ None) (λ x. comparison_at tokens.now ≡ Some (x.0, x.1.now)) }
+    ensures shorter { IfSome result (λ x. length x.1.now < length tokens.now) }
+{
+    let [Token::Mark(mark), rest @ ..] = tokens else {
+        return None;
+    };
+    match mark {
+        Mark::Equals => Some((Comparison::Equal, rest)),
+        Mark::NotEquals => Some((Comparison::NotEqual, rest)),
+        Mark::LessThan => Some((Comparison::Less, rest)),
+        Mark::LessThanOrEquals => Some((Comparison::LessOrEqual, rest)),
+        Mark::GreaterThan => Some((Comparison::Greater, rest)),
+        Mark::GreaterThanOrEquals => Some((Comparison::GreaterOrEqual, rest)),
+        _ => None,
+    }
+}
+
+/// Whether the tokens begin with NOT, and what follows it or else the tokens themselves.
+pub fn not_mark(tokens: &[Token]) -> (bool, &[Token])
+    ensures marked { Marked tokens.now result.0 result.1.now }
+    ensures no_longer { length result.1.now ≤ length tokens.now }
+{
+    if let Some(rest) = after_word(tokens, "NOT") {
+        return (true, rest);
+    }
+    (false, tokens)
+}

@@ -1,0 +1,137 @@
+//! Reads the items of a select list, up to what follows them.
+ghost use Rattle.std.specs.Prelude.{◌≡◌, ◌<◌, IfOk, length};
+ghost use Rattle.cells.specs.Refusals.{AnswersBy};
+ghost use Rattle.query.specs.Grammar.{Separated, SpellsItem, comma};
+ghost use Rattle.query.specs.Phrases.{call_at, call_of, distinct_at, item_at, named_at, rows_at};
+ghost use Rattle.query.specs.Reading.{Any, Ends, Reads, Starts};
+
+use crate::item::Item;
+use crate::phrases::after_mark;
+use cells::{Mark, Refused, Text, Token, is_reserved};
+use std::alloc::Global;
+
+/// The items at the front, with commas between, and what follows them.
+pub fn items(alloc: Global, tokens: &[Token]) -> Result<(Vec<Item<Text>>, &[Token]), Refused>
+    ensures reads { Reads (λ x. (x.0.items, x.1.now)) (Starts (Separated comma SpellsItem) (Ends comma Any) tokens.now) result }
+    ensures shorter { IfOk result (λ x. length x.1.now < length tokens.now) }
+{
+    let mut found = Vec::new(alloc);
+    let mut rest = tokens;
+    loop {
+        let (item, behind) = item(rest)?;
+        found.push(item)?;
+        let Some(more) = after_mark(behind, Mark::Comma) else {
+            return Ok((found, behind));
+        };
+        rest = more;
+    }
+}
+
+/// The item at the front by the rule of the grammar, and what follows it.
+fn item(tokens: &[Token]) -> Result<(Item<Text>, &[Token]), Refused>
+    ensures reads { Reads (λ x. (x.0, x.1.now)) (Starts SpellsItem Any tokens.now) result }
+    ensures shorter { IfOk result (λ x. length x.1.now < length tokens.now) }
+{
+    item_at(tokens)
+}
+
+/// The item at the front, and what follows it.
+#[tactic(auto, unfolding(crate::specs::Phrases::item_at))]
+fn item_at(tokens: &[Token]) -> Result<(Item<Text>, &[Token]), Refused>
+    ensures exact { AnswersBy (λ x. (x.0, x.1.now)) Refused.QuerySyntax (item_at tokens.now) result }
+    ensures shorter { IfOk result (λ x. length x.1.now < length tokens.now) }
+{
+    let [Token::Word(word), rest @ ..] = tokens else {
+        return Err(Refused::QuerySyntax);
+    };
+    if is_reserved(word.as_str()) {
+        return call_at(word.as_str(), rest);
+    }
+    Ok((Item::Column(word.clone()?), rest))
+}
+
+/// The item that a reserved word and what follows it begin with.
+fn call_at<'a>(word: &str, tokens: &'a [Token]) -> Result<(Item<Text>, &'a [Token]), Refused>
+    ensures exact { AnswersBy (λ x. (x.0, x.1.now)) Refused.QuerySyntax (call_at word.now tokens.now) result }
+    ensures shorter { IfOk result (λ x. length x.1.now < length tokens.now) }
+{
+    let [Token::Mark(Mark::LeftParen), first, rest @ ..] = tokens else {
+        return Err(Refused::QuerySyntax);
+    };
+    match first {
+        Token::Mark(Mark::Asterisk) => rows_at(word, rest),
+        Token::Word(name) => {
+            if name.as_str() == "DISTINCT" {
+                return distinct_at(word, rest);
+            }
+            named_at(word, name, rest)
+        }
+        _ => Err(Refused::QuerySyntax),
+    }
+}
+
+/// `COUNT(*)` behind its sign `*`.
+fn rows_at<'a>(word: &str, tokens: &'a [Token]) -> Result<(Item<Text>, &'a [Token]), Refused>
+    ensures exact { AnswersBy (λ x. (x.0, x.1.now)) Refused.QuerySyntax (rows_at word.now tokens.now) result }
+    ensures shorter { IfOk result (λ x. length x.1.now < length tokens.now) }
+{
+    let [Token::Mark(Mark::RightParen), rest @ ..] = tokens else {
+        return Err(Refused::QuerySyntax);
+    };
+    if word == "COUNT" {
+        return Ok((Item::CountRows, rest));
+    }
+    Err(Refused::QuerySyntax)
+}
+
+/// `COUNT(DISTINCT name)` behind DISTINCT.
+fn distinct_at<'a>(word: &str, tokens: &'a [Token]) -> Result<(Item<Text>, &'a [Token]), Refused>
+    ensures exact { AnswersBy (λ x. (x.0, x.1.now)) Refused.QuerySyntax (distinct_at word.now tokens.now) result }
+    ensures shorter { IfOk result (λ x. length x.1.now < length tokens.now) }
+{
+    let [Token::Word(name), Token::Mark(Mark::RightParen), rest @ ..] = tokens else {
+        return Err(Refused::QuerySyntax);
+    };
+    if is_reserved(name.as_str()) {
+        return Err(Refused::QuerySyntax);
+    }
+    if word == "COUNT" {
+        return Ok((Item::CountDistinct(name.clone()?), rest));
+    }
+    Err(Refused::QuerySyntax)
+}
+
+/// An item of a word with a name in parentheses, behind the name.
+fn named_at<'a>(
+    word: &str,
+    name: &Text,
+    tokens: &'a [Token],
+) -> Result<(Item<Text>, &'a [Token]), Refused>
+    ensures exact { AnswersBy (λ x. (x.0, x.1.now)) Refused.QuerySyntax (named_at word.now name.now tokens.now) result }
+    ensures shorter { IfOk result (λ x. length x.1.now < length tokens.now) }
+{
+    let [Token::Mark(Mark::RightParen), rest @ ..] = tokens else {
+        return Err(Refused::QuerySyntax);
+    };
+    if is_reserved(name.as_str()) {
+        return Err(Refused::QuerySyntax);
+    }
+    let Some(item) = call_of(word, name.clone()?) else {
+        return Err(Refused::QuerySyntax);
+    };
+    Ok((item, rest))
+}
+
+/// The item that a word with a name in parentheses is.
+fn call_of(word: &str, name: Text) -> Option<Item<Text>>
+    ensures { result ≡ call_of word.now name }
+{
+    match word {
+        "GROUPING" => Some(Item::Grouping(name)),
+        "COUNT" => Some(Item::Count(name)),
+        "SUM" => Some(Item::Sum(name)),
+        "MIN" => Some(Item::Min(name)),
+        "MAX" => Some(Item::Max(name)),
+        _ => None,
+    }
+}
