@@ -1,3 +1,9 @@
+pub mod CountsLemmas
+pub mod MarksLemmas
+pub mod GroupedLemmas
+pub mod PlacesLemmas
+pub mod PlansLemmas
+pub mod PlanLawsLemmas
 pub mod Trees
 pub mod Lists
 pub mod PhrasesLemmas
@@ -13,9 +19,3 @@ pub mod Decisions
 pub mod Shorter
 pub mod Deciding
 pub mod QueriesLaws
-pub mod CountsLemmas
-pub mod MarksLemmas
-pub mod GroupedLemmas
-pub mod PlacesLemmas
-pub mod PlansLemmas
-pub mod PlanLawsLemmas

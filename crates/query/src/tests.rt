@@ -1,6 +1,8 @@
 //! Tests of what no clause says: that each alternative of the grammar is read, and that long texts are read without
 //! a deep stack. Which texts are refused, and why.
 
+mod plans;
+
 use crate::read;
 use cells::Refused::{self, Limit, QuerySyntax};
 use std::alloc::Global;
