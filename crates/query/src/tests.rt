@@ -1,8 +1,11 @@
 //! Tests of what no clause says: that each alternative of the grammar is read, and that long texts are read without
 //! a deep stack. Which texts are refused, and why.
 
-use crate::read;
+use crate::{
+    Comparison, Element, ElementForm, Item, Predicate, PredicateForm, Test, read,
+};
 use cells::Refused::{self, Limit, QuerySyntax};
+use cells::Text;
 use std::alloc::Global;
 use std::test::Fail;
 
@@ -370,5 +373,74 @@ fn queries_have_limits(rt: HostRuntime) -> Result<(), Fail> {
 #[test]
 fn chains_need_no_deep_stack(rt: HostRuntime) -> Result<(), Fail> {
     assert_eq!(rt; first_wrong_place(rt.alloc(), CHAINS)?, None);
+    Ok(())
+}
+
+/// Whether the item is the one of this place in [`ITEMS`].
+fn is_item(place: usize, item: &Item<Text>) -> bool {
+    match item {
+        Item::Column(name) => place == 0 && name.as_str() == "A",
+        Item::Grouping(name) => place == 1 && name.as_str() == "B",
+        Item::CountRows => place == 2,
+        Item::Count(name) => place == 3 && name.as_str() == "C",
+        Item::CountDistinct(name) => place == 4 && name.as_str() == "D",
+        Item::Sum(name) => place == 5 && name.as_str() == "E",
+        Item::Min(name) => place == 6 && name.as_str() == "F",
+        Item::Max(name) => place == 7 && name.as_str() == "G",
+    }
+}
+
+/// Whether the element is the one of this place in [`ELEMENTS`].
+fn is_element(place: usize, element: &Element) -> bool {
+    match element.form() {
+        ElementForm::Empty => place == 0,
+        ElementForm::Unit(unit) => place == unit.names().len(),
+        ElementForm::Rollup(units) => place == 3 && units.len() == 1,
+        ElementForm::Cube(units) => place == 4 && units.len() == 2,
+        ElementForm::Sets(elements) => place == 5 && elements.len() == 3,
+    }
+}
+
+/// Whether the predicate is the one of this place in [`CONDITION`].
+fn is_part(place: usize, predicate: &Predicate<Text>) -> bool {
+    match predicate.form() {
+        PredicateForm::Or(parts) => place == 0 && parts.len() == 2,
+        PredicateForm::And(_) => false,
+        PredicateForm::Not(_) => place == 1,
+        PredicateForm::Test(Test::Compare(_, comparison, _)) => place == 2 && *comparison == Comparison::LessOrEqual,
+        PredicateForm::Test(Test::IsNull { negated, .. }) => place == 3 && *negated,
+        PredicateForm::Test(Test::Between { negated, .. }) => place == 4 && !*negated,
+        PredicateForm::Test(Test::In { list, negated, .. }) => place == 5 && *negated && list.as_slice().len() == 2,
+    }
+}
+
+fn are_parts(condition: Option<&Predicate<Text>>) -> bool {
+    let Some(predicate) = condition else {
+        return false;
+    };
+    match predicate.form() {
+        PredicateForm::And(parts) => parts.len() == 6 && parts.iter().enumerate().all(|(place, part)| is_part(place, part)),
+        _ => false,
+    }
+}
+
+const ITEMS: &str = "SELECT A, GROUPING(B), COUNT(*), COUNT(C), COUNT(DISTINCT D), SUM(E), MIN(F), MAX(G) FROM T";
+
+const ELEMENTS: &str = "SELECT A FROM T GROUP BY (), A, (B, C), ROLLUP(D), CUBE(E, (F, G)), GROUPING SETS (A, B, (C))";
+
+const CONDITION: &str = "SELECT A FROM T WHERE (A = 1 OR B > 'b') AND NOT C <> D AND E <= 1 AND F IS NOT NULL AND G BETWEEN 1 AND 2 AND H NOT IN (1, 2)";
+
+#[test]
+fn trees_are_those_of_the_texts(rt: HostRuntime) -> Result<(), Fail> {
+    let alloc = rt.alloc();
+    let query = read(alloc, ITEMS)?;
+    assert_eq!(rt; query.items().len(), 8);
+    assert!(rt; query.items().iter().enumerate().all(|(place, item)| is_item(place, item)));
+    assert_eq!(rt; query.table().as_str(), "T");
+    let query = read(alloc, ELEMENTS)?;
+    assert_eq!(rt; query.elements().len(), 6);
+    assert!(rt; query.elements().iter().enumerate().all(|(place, element)| is_element(place, element)));
+    let query = read(alloc, CONDITION)?;
+    assert!(rt; are_parts(query.condition()));
     Ok(())
 }
