@@ -1,4 +1,5 @@
--- The phrases at the front of tokens that are no longer than a few tokens, as functions: what the private readers answer.
+-- The short phrases at the front of tokens, as functions: what the private readers answer. The rules of the grammar say
+-- which they are.
 use Rattle.std.specs.Prelude.{ℕ, Bool, List, ◌∷◌, bytes_eq, codes, Option, Some, None, if◌then◌else◌}
 use Rattle.cells.specs.Schemas.{is_reserved}
 use Rattle.cells.specs.declared.token.Token.{Token}
@@ -16,6 +17,7 @@ use Rattle.query.specs.declared.test.Comparison.TheVariants as comparison
 use Rattle.query.specs.declared.item.Item.{Item}
 use Rattle.query.specs.declared.item.Item.TheVariants as item
 
+-- the name at the front, and what follows it
 abbrev pub name_at : List Token → Option (List ℕ × List Token)
 name_at (Word n ∷ rest) = if is_reserved n then None else Some (n, rest)
 name_at ts = None
@@ -39,6 +41,7 @@ abbrev pub distinct_at : List ℕ → List Token → Option (Item (List ℕ) × 
 distinct_at w (Word n ∷ Mark RightParen ∷ rest) = if is_reserved n then None else (if bytes_eq w (codes "COUNT") then Some (item.CountDistinct n, rest) else None)
 distinct_at w ts = None
 
+-- the item, and what follows it
 abbrev pub with_rest : List Token → Option (Item (List ℕ)) → Option (Item (List ℕ) × List Token)
 with_rest rest None = None
 with_rest rest (Some i) = Some (i, rest)
@@ -53,10 +56,12 @@ call_at w (Mark LeftParen ∷ Mark Asterisk ∷ rest) = rows_at w rest
 call_at w (Mark LeftParen ∷ Word n ∷ rest) = if bytes_eq n (codes "DISTINCT") then distinct_at w rest else named_at w n rest
 call_at w ts = None
 
+-- the item at the front, and what follows it
 unfoldable pub item_at : List Token → Option (Item (List ℕ) × List Token)
 item_at (Word w ∷ rest) = if is_reserved w then call_at w rest else Some (item.Column w, rest)
 item_at ts = None
 
+-- the literal, the operand and the sign of a comparison at the front, each with what follows it
 abbrev pub literal_at : List Token → Option (Literal × List Token)
 literal_at (Number n ∷ rest) = Some (literal.Int n, rest)
 literal_at (Quoted t ∷ rest) = Some (literal.Text t, rest)

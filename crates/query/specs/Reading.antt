@@ -8,9 +8,11 @@ use Rattle.cells.specs.declared.token.Mark.TheVariants.{LeftParen}
 use Rattle.cells.specs.declared.refused.Refused.{Refused}
 use Rattle.cells.specs.declared.refused.Refused.TheVariants.{OutOfMemory, QuerySyntax}
 
+-- the token of a sign
 abbrev pub sign : Sign → Token
 sign m = Mark m
 
+-- the tokens do not begin with the token
 abbrev pub BeginsNot : Token → List Token → Type 0
 BeginsNot t ts = (rest : List Token) → ts ≢ t ∷ rest
 
@@ -44,9 +46,11 @@ pub record Found {X : Type 0} (S : X → List Token → Type 0) (x : X) (rest : 
   pub is : S x rest
   pub only : (y : X) (r : List Token) → S y r → (y ≡ x) × (r ≡ rest)
 
+-- no phrase
 pub record Nothing {X : Type 0} (S : X → List Token → Type 0) : Type 0 where
   pub none : (y : X) (r : List Token) → S y r → ⊥
 
+-- what a reader answers: the phrase that is found, by its view, or bad syntax where there is none, unless memory is wanting
 abbrev pub Reads : {X Y : Type 0} → (Y → X × List Token) → (X → List Token → Type 0) → Result Y Refused → Type 0
 Reads view S (Ok y) = Found S (view y).0 (view y).1
 Reads view S (Err e) = (e ≡ OutOfMemory) ⊎ ((e ≡ QuerySyntax) × Nothing S)
