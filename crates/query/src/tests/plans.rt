@@ -35,27 +35,72 @@ const CHECKED: &[Checked] = &[
     ("SELECT COUNT(*) FROM SALES", None),
     ("SELECT COUNT(*) FROM SALE", Some(Refused::Unknown)),
     ("SELECT SUM(X) FROM SALES", Some(Refused::Unknown)),
-    ("SELECT COUNT(*) FROM SALES WHERE X = 1", Some(Refused::Unknown)),
-    ("SELECT COUNT(*) FROM SALES WHERE NOT UNITS BETWEEN 1 AND X", Some(Refused::Unknown)),
-    ("SELECT COUNT(*) FROM SALES GROUP BY ROLLUP(REGION, (ITEM, X))", Some(Refused::Unknown)),
-    ("SELECT COUNT(*) FROM SALES GROUP BY GROUPING SETS ((), X)", Some(Refused::Unknown)),
+    (
+        "SELECT COUNT(*) FROM SALES WHERE X = 1",
+        Some(Refused::Unknown),
+    ),
+    (
+        "SELECT COUNT(*) FROM SALES WHERE NOT UNITS BETWEEN 1 AND X",
+        Some(Refused::Unknown),
+    ),
+    (
+        "SELECT COUNT(*) FROM SALES GROUP BY ROLLUP(REGION, (ITEM, X))",
+        Some(Refused::Unknown),
+    ),
+    (
+        "SELECT COUNT(*) FROM SALES GROUP BY GROUPING SETS ((), X)",
+        Some(Refused::Unknown),
+    ),
     ("SELECT MIN(REGION), SUM(UNITS) FROM SALES", None),
     ("SELECT SUM(REGION) FROM SALES", Some(Refused::WrongType)),
-    ("SELECT COUNT(*) FROM SALES WHERE UNITS = 'a'", Some(Refused::WrongType)),
-    ("SELECT COUNT(*) FROM SALES WHERE 1 = 'a'", Some(Refused::WrongType)),
+    (
+        "SELECT COUNT(*) FROM SALES WHERE UNITS = 'a'",
+        Some(Refused::WrongType),
+    ),
+    (
+        "SELECT COUNT(*) FROM SALES WHERE 1 = 'a'",
+        Some(Refused::WrongType),
+    ),
     ("SELECT COUNT(*) FROM SALES WHERE REGION < ITEM", None),
-    ("SELECT COUNT(*) FROM SALES WHERE REGION < UNITS", Some(Refused::WrongType)),
-    ("SELECT COUNT(*) FROM SALES WHERE REGION BETWEEN 'a' AND 1", Some(Refused::WrongType)),
-    ("SELECT COUNT(*) FROM SALES WHERE UNITS IN (1, 'a')", Some(Refused::WrongType)),
-    ("SELECT COUNT(*) FROM SALES WHERE NOT (ID = 1 OR UNITS IS NULL AND 'a' <> ID)", Some(Refused::WrongType)),
+    (
+        "SELECT COUNT(*) FROM SALES WHERE REGION < UNITS",
+        Some(Refused::WrongType),
+    ),
+    (
+        "SELECT COUNT(*) FROM SALES WHERE REGION BETWEEN 'a' AND 1",
+        Some(Refused::WrongType),
+    ),
+    (
+        "SELECT COUNT(*) FROM SALES WHERE UNITS IN (1, 'a')",
+        Some(Refused::WrongType),
+    ),
+    (
+        "SELECT COUNT(*) FROM SALES WHERE NOT (ID = 1 OR UNITS IS NULL AND 'a' <> ID)",
+        Some(Refused::WrongType),
+    ),
     ("SELECT REGION FROM SALES", Some(Refused::NotGrouped)),
-    ("SELECT GROUPING(REGION) FROM SALES GROUP BY ITEM", Some(Refused::NotGrouped)),
-    ("SELECT REGION, GROUPING(ITEM) FROM SALES GROUP BY GROUPING SETS (ITEM, ROLLUP(REGION))", None),
-    ("SELECT COUNT(*) FROM SALES GROUP BY CUBE(ID,ID,ID,ID,ID,ID,ID,ID,ID)", Some(Refused::TooManySets)),
+    (
+        "SELECT GROUPING(REGION) FROM SALES GROUP BY ITEM",
+        Some(Refused::NotGrouped),
+    ),
+    (
+        "SELECT REGION, GROUPING(ITEM) FROM SALES GROUP BY GROUPING SETS (ITEM, ROLLUP(REGION))",
+        None,
+    ),
+    (
+        "SELECT COUNT(*) FROM SALES GROUP BY CUBE(ID,ID,ID,ID,ID,ID,ID,ID,ID)",
+        Some(Refused::TooManySets),
+    ),
     // several faults at once
     ("SELECT SUM(REGION), X FROM SALES", Some(Refused::Unknown)),
-    ("SELECT REGION, SUM(ITEM) FROM SALES", Some(Refused::WrongType)),
-    ("SELECT REGION FROM SALES GROUP BY CUBE(ID,ID,ID,ID,ID,ID,ID,ID,ID)", Some(Refused::NotGrouped)),
+    (
+        "SELECT REGION, SUM(ITEM) FROM SALES",
+        Some(Refused::WrongType),
+    ),
+    (
+        "SELECT REGION FROM SALES GROUP BY CUBE(ID,ID,ID,ID,ID,ID,ID,ID,ID)",
+        Some(Refused::NotGrouped),
+    ),
 ];
 
 #[test]
@@ -65,7 +110,13 @@ fn faults_come_in_order(rt: HostRuntime) -> Result<(), Fail> {
 }
 
 /// Elements of GROUP BY with a part so many times, and how many sets they give, or None where they are too many.
-type Counted = (&'static str, &'static str, usize, &'static str, Option<usize>);
+type Counted = (
+    &'static str,
+    &'static str,
+    usize,
+    &'static str,
+    Option<usize>,
+);
 
 fn repeated(alloc: Global, row: &Counted) -> Result<String, Refused> {
     let (front, part, times, back, _) = row;
@@ -146,10 +197,22 @@ fn first_other_sets(alloc: Global, table: &[Listed]) -> Result<Option<&'static s
 
 const LISTED: &[Listed] = &[
     ("SELECT COUNT(*) FROM SALES", &[&[]]),
-    ("SELECT COUNT(*) FROM SALES GROUP BY CUBE(REGION, ITEM)", &[&[1, 2], &[1], &[2], &[]]),
-    ("SELECT COUNT(*) FROM SALES GROUP BY ROLLUP((ITEM, REGION), UNITS)", &[&[1, 2, 3], &[1, 2], &[]]),
-    ("SELECT COUNT(*) FROM SALES GROUP BY ITEM, ROLLUP(REGION)", &[&[1, 2], &[2]]),
-    ("SELECT COUNT(*) FROM SALES GROUP BY GROUPING SETS (REGION, ROLLUP(ITEM), ())", &[&[1], &[2], &[], &[]]),
+    (
+        "SELECT COUNT(*) FROM SALES GROUP BY CUBE(REGION, ITEM)",
+        &[&[1, 2], &[1], &[2], &[]],
+    ),
+    (
+        "SELECT COUNT(*) FROM SALES GROUP BY ROLLUP((ITEM, REGION), UNITS)",
+        &[&[1, 2, 3], &[1, 2], &[]],
+    ),
+    (
+        "SELECT COUNT(*) FROM SALES GROUP BY ITEM, ROLLUP(REGION)",
+        &[&[1, 2], &[2]],
+    ),
+    (
+        "SELECT COUNT(*) FROM SALES GROUP BY GROUPING SETS (REGION, ROLLUP(ITEM), ())",
+        &[&[1], &[2], &[], &[]],
+    ),
     ("SELECT COUNT(*) FROM SALES GROUP BY ITEM, ITEM", &[&[2]]),
 ];
 
@@ -171,10 +234,18 @@ fn are_texts(found: &[Text], wanted: &[&str]) -> bool {
     true
 }
 
-const ITEMS: &str = "select region, grouping(region), count ( * ), count(units), count(distinct item), sum(units), min(item), max(id) from sales group by region";
+const ITEMS: &str =
+    "select region, grouping(region), count ( * ), count(units), count(distinct item), sum(units), min(item), max(id) from sales group by region";
 
 const HEADINGS: &[&str] = &[
-    "REGION", "GROUPING(REGION)", "COUNT(*)", "COUNT(UNITS)", "COUNT(DISTINCT ITEM)", "SUM(UNITS)", "MIN(ITEM)", "MAX(ID)",
+    "REGION",
+    "GROUPING(REGION)",
+    "COUNT(*)",
+    "COUNT(UNITS)",
+    "COUNT(DISTINCT ITEM)",
+    "SUM(UNITS)",
+    "MIN(ITEM)",
+    "MAX(ID)",
 ];
 
 #[test]
@@ -191,7 +262,12 @@ fn headings_are_the_items(rt: HostRuntime) -> Result<(), Fail> {
 type Judged = (&'static str, Truth);
 
 /// The truth of the query's condition over the row of the fields, if it has one.
-fn truth_of(alloc: Global, schema: &Schema, text: &str, fields: &[&[u8]]) -> Result<Option<Truth>, Refused> {
+fn truth_of(
+    alloc: Global,
+    schema: &Schema,
+    text: &str,
+    fields: &[&[u8]],
+) -> Result<Option<Truth>, Refused> {
     let plan = check(alloc, read(alloc, text)?, schema)?;
     let row = Row::read(alloc, fields, schema)?;
     predicates_fit_rows();
@@ -216,18 +292,36 @@ fn first_wrong_truth(alloc: Global, table: &[Judged]) -> Result<Option<&'static 
 const JUDGED: &[Judged] = &[
     ("SELECT COUNT(*) FROM SALES WHERE UNITS = 5", True),
     ("SELECT COUNT(*) FROM SALES WHERE UNITS <> 5", False),
-    ("SELECT COUNT(*) FROM SALES WHERE REGION < 'ba' AND REGION > 'a'", True),
+    (
+        "SELECT COUNT(*) FROM SALES WHERE REGION < 'ba' AND REGION > 'a'",
+        True,
+    ),
     ("SELECT COUNT(*) FROM SALES WHERE ITEM = 'a'", Unknown),
     ("SELECT COUNT(*) FROM SALES WHERE ITEM = ITEM", Unknown),
     ("SELECT COUNT(*) FROM SALES WHERE ITEM IS NULL", True),
     ("SELECT COUNT(*) FROM SALES WHERE UNITS IS NOT NULL", True),
     ("SELECT COUNT(*) FROM SALES WHERE NOT ITEM > 'a'", Unknown),
-    ("SELECT COUNT(*) FROM SALES WHERE ITEM = 'a' OR UNITS >= 5", True),
-    ("SELECT COUNT(*) FROM SALES WHERE ITEM = 'a' AND UNITS > 5", False),
-    ("SELECT COUNT(*) FROM SALES WHERE UNITS BETWEEN 5 AND 5", True),
-    ("SELECT COUNT(*) FROM SALES WHERE UNITS NOT BETWEEN 1 AND 5", False),
+    (
+        "SELECT COUNT(*) FROM SALES WHERE ITEM = 'a' OR UNITS >= 5",
+        True,
+    ),
+    (
+        "SELECT COUNT(*) FROM SALES WHERE ITEM = 'a' AND UNITS > 5",
+        False,
+    ),
+    (
+        "SELECT COUNT(*) FROM SALES WHERE UNITS BETWEEN 5 AND 5",
+        True,
+    ),
+    (
+        "SELECT COUNT(*) FROM SALES WHERE UNITS NOT BETWEEN 1 AND 5",
+        False,
+    ),
     ("SELECT COUNT(*) FROM SALES WHERE UNITS IN (1, 5)", True),
-    ("SELECT COUNT(*) FROM SALES WHERE ITEM NOT IN ('a', 'b')", Unknown),
+    (
+        "SELECT COUNT(*) FROM SALES WHERE ITEM NOT IN ('a', 'b')",
+        Unknown,
+    ),
 ];
 
 #[test]
