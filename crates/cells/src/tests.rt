@@ -60,3 +60,11 @@ fn first_bad_clone<K: Clone + Drop + PartialEq>(keys: &[K]) -> Result<Option<usi
     }
     Ok(None)
 }
+
+/// Whether the keys of the list rise, and have clones that equal them.
+fn rise_and_clone<K: Clone + Drop + Ord>(keys: &[K]) -> Result<bool, AllocError> {
+    if first_out_of_order(keys).is_some() {
+        return Ok(false);
+    }
+    Ok(first_bad_clone(keys)?.is_none())
+}

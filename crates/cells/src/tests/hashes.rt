@@ -2,7 +2,7 @@
 //! by a program outside the project.
 
 use super::Written::{self, Int, Null, Text};
-use super::{cell_of, cells_of, first_bad_clone, first_out_of_order};
+use super::{cell_of, cells_of, rise_and_clone};
 use crate::{Cell, Fnv, KeyHash, Plain, Tuple, worked_hashes};
 use std::alloc::{AllocError, Global};
 use std::test::Fail;
@@ -33,18 +33,19 @@ fn first_wrong_cell(
     Ok(None)
 }
 
+const CELLS: [(Written, u64, u64); 7] = [
+    (Null, 0xaf63_bd4c_8601_b7df, 0),
+    (Int(5), 0xf5a9_d7c1_6f27_5549, 5),
+    (Int(-2), 0xffdb_5807_47cc_f645, 0xffff_ffff_ffff_fffe),
+    (Int(i64::MIN), 0x5299_acdc_8ff4_5a2c, 0x8000_0000_0000_0000),
+    (Text(""), 0x0cd9_2cf5_4dc6_15e5, 0),
+    (Text("pen"), 0x3b25_8e15_1a7a_cf51, 3),
+    (Text("é"), 0x5dc5_79d3_4eb0_21bf, 2),
+];
+
 #[test]
 fn cells_have_hashes(rt: HostRuntime) -> Result<(), Fail> {
-    let table = [
-        (Null, 0xaf63_bd4c_8601_b7df, 0),
-        (Int(5), 0xf5a9_d7c1_6f27_5549, 5),
-        (Int(-2), 0xffdb_5807_47cc_f645, 0xffff_ffff_ffff_fffe),
-        (Int(i64::MIN), 0x5299_acdc_8ff4_5a2c, 0x8000_0000_0000_0000),
-        (Text(""), 0x0cd9_2cf5_4dc6_15e5, 0),
-        (Text("pen"), 0x3b25_8e15_1a7a_cf51, 3),
-        (Text("é"), 0x5dc5_79d3_4eb0_21bf, 2),
-    ];
-    assert_eq!(rt; first_wrong_cell(rt.alloc(), table.as_slice())?, None);
+    assert_eq!(rt; first_wrong_cell(rt.alloc(), CELLS.as_slice())?, None);
     worked_hashes();
     Ok(())
 }
@@ -66,17 +67,18 @@ fn first_wrong_tuple(
     Ok(None)
 }
 
+const TUPLES: [(&[Written], u64, u64); 6] = [
+    (&[], 0xcbf2_9ce4_8422_2325, 0),
+    (&[Null], 0xaf63_bd4c_8601_b7df, 0),
+    (&[Null, Null], 0x0832_8807_b4eb_6fed, 0),
+    (&[Int(5)], 0xf5a9_d7c1_6f27_5549, 5),
+    (&[Null, Text("pen"), Int(-2)], 0x1499_7b01_2c84_b963, 1),
+    (&[Int(-2), Text("pen"), Null], 0x22e1_84ef_a9dc_cc43, 1),
+];
+
 #[test]
 fn tuples_have_hashes(rt: HostRuntime) -> Result<(), Fail> {
-    let table: [(&[Written], u64, u64); 6] = [
-        (&[], 0xcbf2_9ce4_8422_2325, 0),
-        (&[Null], 0xaf63_bd4c_8601_b7df, 0),
-        (&[Null, Null], 0x0832_8807_b4eb_6fed, 0),
-        (&[Int(5)], 0xf5a9_d7c1_6f27_5549, 5),
-        (&[Null, Text("pen"), Int(-2)], 0x1499_7b01_2c84_b963, 1),
-        (&[Int(-2), Text("pen"), Null], 0x22e1_84ef_a9dc_cc43, 1),
-    ];
-    assert_eq!(rt; first_wrong_tuple(rt.alloc(), table.as_slice())?, None);
+    assert_eq!(rt; first_wrong_tuple(rt.alloc(), TUPLES.as_slice())?, None);
     Ok(())
 }
 
@@ -98,39 +100,45 @@ fn first_wrong_length(tuples: &[Tuple], table: &[&[Written]]) -> Result<Option<u
     Ok(None)
 }
 
+const RISING: [&[Written]; 9] = [
+    &[],
+    &[Null],
+    &[Null, Null],
+    &[Null, Text("pen")],
+    &[Int(-1), Int(9)],
+    &[Int(2)],
+    &[Int(2), Null, Int(1)],
+    &[Int(2), Int(0)],
+    &[Text("ink")],
+];
+
+/// Whether the tuples of the table rise, and have clones that equal them and are as long.
+fn rise(alloc: Global, table: &[&[Written]]) -> Result<bool, AllocError> {
+    let rising = tuples_of(alloc, table)?;
+    if !rise_and_clone(rising.as_slice())? {
+        return Ok(false);
+    }
+    Ok(first_wrong_length(rising.as_slice(), table)?.is_none())
+}
+
 #[test]
 fn tuples_have_one_order(rt: HostRuntime) -> Result<(), Fail> {
-    let table: [&[Written]; 9] = [
-        &[],
-        &[Null],
-        &[Null, Null],
-        &[Null, Text("pen")],
-        &[Int(-1), Int(9)],
-        &[Int(2)],
-        &[Int(2), Null, Int(1)],
-        &[Int(2), Int(0)],
-        &[Text("ink")],
-    ];
-    let rising = tuples_of(rt.alloc(), table.as_slice())?;
-    assert_eq!(rt; first_out_of_order(rising.as_slice()), None);
-    assert_eq!(rt; first_bad_clone(rising.as_slice())?, None);
-    assert_eq!(rt;
-        first_wrong_length(rising.as_slice(), table.as_slice())?,
-        None
-    );
+    assert!(rt; rise(rt.alloc(), RISING.as_slice())?);
     Ok(())
+}
+
+/// The hashes and a key, as they are shown.
+fn shown(alloc: Global) -> Result<String, Fail> {
+    let key = tuple_of(alloc, &[Null])?;
+    Ok(format!(in alloc; "{:?} {:?} {:?}", Fnv, Plain, key)?)
 }
 
 #[test]
 fn hashes_are_values(rt: HostRuntime) -> Result<(), Fail> {
-    let alloc = rt.alloc();
-    let fnv = Fnv;
-    let plain = Plain;
-    assert!(rt; fnv.clone()? == fnv);
-    assert!(rt; plain.clone()? == plain);
-    let key = tuple_of(alloc, &[Null])?;
+    assert!(rt; Fnv.clone()? == Fnv);
+    assert!(rt; Plain.clone()? == Plain);
     assert_eq!(rt;
-        format!(in alloc; "{:?} {:?} {:?}", fnv, plain, key)?.as_str(),
+        shown(rt.alloc())?.as_str(),
         "Fnv Plain Tuple { cells: [Null] }"
     );
     Ok(())

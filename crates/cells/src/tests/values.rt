@@ -1,7 +1,7 @@
 //! The order of cells, and refusals.
 
-use super::Written::{Int, Null, Text};
-use super::{cells_of, first_bad_clone, first_out_of_order};
+use super::Written::{self, Int, Null, Text};
+use super::{cells_of, rise_and_clone};
 use crate::{Cell, Refused};
 use std::alloc::{AllocError, Global};
 use std::test::Fail;
@@ -16,26 +16,33 @@ fn first_wrong_null(cells: &[Cell]) -> Option<usize> {
     None
 }
 
+const RISING: [Written; 12] = [
+    Null,
+    Int(i64::MIN),
+    Int(-1),
+    Int(0),
+    Int(i64::MAX),
+    Text(""),
+    Text("Z"),
+    Text("a"),
+    Text("a\0"),
+    Text("ab"),
+    Text("b"),
+    Text("é"),
+];
+
+/// Whether the cells of the table rise, have clones that equal them, and tell which of them is NULL.
+fn rise(alloc: Global, table: &[Written]) -> Result<bool, AllocError> {
+    let rising = cells_of(alloc, table)?;
+    if first_wrong_null(rising.as_slice()).is_some() {
+        return Ok(false);
+    }
+    rise_and_clone(rising.as_slice())
+}
+
 #[test]
 fn cells_have_one_order(rt: HostRuntime) -> Result<(), Fail> {
-    let written = [
-        Null,
-        Int(i64::MIN),
-        Int(-1),
-        Int(0),
-        Int(i64::MAX),
-        Text(""),
-        Text("Z"),
-        Text("a"),
-        Text("a\0"),
-        Text("ab"),
-        Text("b"),
-        Text("é"),
-    ];
-    let rising = cells_of(rt.alloc(), written.as_slice())?;
-    assert_eq!(rt; first_out_of_order(rising.as_slice()), None);
-    assert_eq!(rt; first_bad_clone(rising.as_slice())?, None);
-    assert_eq!(rt; first_wrong_null(rising.as_slice()), None);
+    assert!(rt; rise(rt.alloc(), RISING.as_slice())?);
     Ok(())
 }
 
@@ -55,29 +62,30 @@ fn first_wrong(
     Ok(None)
 }
 
+const NUMBERS: [(Refused, u32, &str); 19] = [
+    (Refused::NoTable, 1, "NoTable"),
+    (Refused::TableAgain, 2, "TableAgain"),
+    (Refused::BadCommand, 3, "BadCommand"),
+    (Refused::BadSchema, 4, "BadSchema"),
+    (Refused::NoPart, 5, "NoPart"),
+    (Refused::BadPart, 6, "BadPart"),
+    (Refused::BadRecord, 7, "BadRecord"),
+    (Refused::BadKey, 8, "BadKey"),
+    (Refused::TooManyRows, 9, "TooManyRows"),
+    (Refused::QuerySyntax, 10, "QuerySyntax"),
+    (Refused::Unknown, 11, "Unknown"),
+    (Refused::NotGrouped, 12, "NotGrouped"),
+    (Refused::WrongType, 13, "WrongType"),
+    (Refused::TooManySets, 14, "TooManySets"),
+    (Refused::Limit, 15, "Limit"),
+    (Refused::OutOfMemory, 90, "OutOfMemory"),
+    (Refused::NoWorker, 91, "NoWorker"),
+    (Refused::WriteFailed, 92, "WriteFailed"),
+    (Refused::NotShown, 93, "NotShown"),
+];
+
 #[test]
 fn refusals_have_numbers_and_names(rt: HostRuntime) -> Result<(), Fail> {
-    let table = [
-        (Refused::NoTable, 1, "NoTable"),
-        (Refused::TableAgain, 2, "TableAgain"),
-        (Refused::BadCommand, 3, "BadCommand"),
-        (Refused::BadSchema, 4, "BadSchema"),
-        (Refused::NoPart, 5, "NoPart"),
-        (Refused::BadPart, 6, "BadPart"),
-        (Refused::BadRecord, 7, "BadRecord"),
-        (Refused::BadKey, 8, "BadKey"),
-        (Refused::TooManyRows, 9, "TooManyRows"),
-        (Refused::QuerySyntax, 10, "QuerySyntax"),
-        (Refused::Unknown, 11, "Unknown"),
-        (Refused::NotGrouped, 12, "NotGrouped"),
-        (Refused::WrongType, 13, "WrongType"),
-        (Refused::TooManySets, 14, "TooManySets"),
-        (Refused::Limit, 15, "Limit"),
-        (Refused::OutOfMemory, 90, "OutOfMemory"),
-        (Refused::NoWorker, 91, "NoWorker"),
-        (Refused::WriteFailed, 92, "WriteFailed"),
-        (Refused::NotShown, 93, "NotShown"),
-    ];
-    assert_eq!(rt; first_wrong(rt.alloc(), table.as_slice())?, None);
+    assert_eq!(rt; first_wrong(rt.alloc(), NUMBERS.as_slice())?, None);
     Ok(())
 }
