@@ -49,11 +49,7 @@ fn assert_may_take(rt: &impl Abort, kind: Kind, cell: &Cell)
 }
 
 /// Whether the accumulator's value is printed so.
-fn is_printed<H: KeyHash<Cell>>(
-    alloc: Global,
-    acc: &Acc<H>,
-    expected: &str,
-) -> Result<bool, Fail> {
+fn is_printed<H: KeyHash<Cell>>(alloc: Global, acc: &Acc<H>, expected: &str) -> Result<bool, Fail> {
     let total = acc.finish()?;
     let text = literal(alloc, &total)?;
     Ok(text.as_str() == expected)

@@ -30,7 +30,13 @@ fn leads(
 /// Kinds whose steps keep the cell, two cells and a third, and the values before and after it.
 const STEPS: [(Kind, &[Written], Written, &str, &str); 4] = [
     (Kind::CountDistinct, &[Int(1), Int(2)], Int(3), "2", "3"),
-    (Kind::CountDistinct, &[Text("a"), Text("b")], Text("c"), "2", "3"),
+    (
+        Kind::CountDistinct,
+        &[Text("a"), Text("b")],
+        Text("c"),
+        "2",
+        "3",
+    ),
     (Kind::Min, &[Text("b"), Text("c")], Text("a"), "'b'", "'a'"),
     (Kind::Max, &[Text("b"), Text("a")], Text("c"), "'b'", "'c'"),
 ];
@@ -40,7 +46,14 @@ fn a_refused_step_changes_nothing(rt: HostRuntime) -> Result<(), Fail> {
     for (kind, before, written, old, new) in &STEPS {
         let cells = cells_of(rt.alloc(), before)?;
         let cell = cell_of(rt.alloc(), written)?;
-        assert!(rt; leads(&rt, rt.alloc(), (*kind, cells.as_slice(), &cell), (old, new))?);
+        assert!(rt;
+            leads(
+                &rt,
+                rt.alloc(),
+                (*kind, cells.as_slice(), &cell),
+                (old, new)
+            )?
+        );
     }
     Ok(())
 }

@@ -22,18 +22,42 @@ const KINDS: [Kind; 6] = [
 const TABLE: [(&[Written], &[&str]); 7] = [
     (&[], &["0", "0", "0", "NULL", "NULL", "NULL"]),
     (&[Null, Null], &["2", "0", "0", "NULL", "NULL", "NULL"]),
-    (&[Int(1), Null, Int(2), Int(1)], &["4", "3", "2", "1", "2", "4"]),
+    (
+        &[Int(1), Null, Int(2), Int(1)],
+        &["4", "3", "2", "1", "2", "4"],
+    ),
     (&[Int(-1), Int(1)], &["2", "2", "2", "-1", "1", "0"]),
     (
         &[Int(i64::MAX), Int(i64::MAX), Int(i64::MAX)],
-        &["3", "3", "1", "9223372036854775807", "9223372036854775807", "27670116110564327421"],
+        &[
+            "3",
+            "3",
+            "1",
+            "9223372036854775807",
+            "9223372036854775807",
+            "27670116110564327421",
+        ],
     ),
     (
         &[Int(i64::MIN), Int(i64::MIN), Int(i64::MIN)],
-        &["3", "3", "1", "-9223372036854775808", "-9223372036854775808", "-27670116110564327424"],
+        &[
+            "3",
+            "3",
+            "1",
+            "-9223372036854775808",
+            "-9223372036854775808",
+            "-27670116110564327424",
+        ],
     ),
     (
-        &[Text("b'"), Null, Text("aaa"), Text("b"), Text("Z"), Text("b")],
+        &[
+            Text("b'"),
+            Null,
+            Text("aaa"),
+            Text("b"),
+            Text("Z"),
+            Text("b"),
+        ],
         &["6", "5", "4", "'Z'", "'b'''"],
     ),
 ];
@@ -94,7 +118,10 @@ fn first_wrong(
 fn aggregates_of_small_lists(rt: HostRuntime) -> Result<(), Fail> {
     for (written, expected) in &TABLE {
         let cells = cells_of(rt.alloc(), written)?;
-        assert_eq!(rt; first_wrong(&rt, rt.alloc(), cells.as_slice(), expected)?, None);
+        assert_eq!(rt;
+            first_wrong(&rt, rt.alloc(), cells.as_slice(), expected)?,
+            None
+        );
     }
     Ok(())
 }
