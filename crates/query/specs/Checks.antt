@@ -7,9 +7,11 @@ use Rattle.cells.specs.declared.refused.Refused.TheVariants.{NotGrouped, TooMany
 use Rattle.cells.specs.declared.schema.Column.{Column}
 use Rattle.cells.specs.declared.schema.ColumnType.{ColumnType}
 use Rattle.cells.specs.declared.schema.ColumnType.TheVariants as kind
+use Rattle.query.specs.Limits.{set_limit}
 use Rattle.query.specs.Names.{names_of, tests_where}
-use Rattle.query.specs.Sets.{Names, grouping_sets, set_limit}
+use Rattle.query.specs.Sets.{Names, grouping_sets}
 use Rattle.query.specs.Values.{QueryTree}
+use Rattle.query.specs.declared.checking.Faults.{Faults}
 use Rattle.query.specs.declared.item.Item.{Item}
 use Rattle.query.specs.declared.item.Item.TheVariants as item
 use Rattle.query.specs.declared.test.Literal.{Literal}
@@ -86,11 +88,24 @@ is_not_grouped query = list_any (is_ungrouped (grouping_sets query.elements)) qu
 abbrev pub has_too_many_sets : QueryTree → Bool
 has_too_many_sets query = nat_lt set_limit (length (grouping_sets query.elements))
 
--- ---- the first of them in this order, if there is one
-abbrev pub fault_of : Table → QueryTree → Option Refused
-fault_of table query =
-    if is_unknown table query then Some Unknown
-    else if is_wrong_type table query then Some WrongType
-    else if is_not_grouped query then Some NotGrouped
-    else if has_too_many_sets query then Some TooManySets
+-- ---- all of them, and the first in the order in which they are answered
+
+abbrev pub faults_of : Table → QueryTree → Faults
+faults_of table query = record {
+  unknown = is_unknown table query;
+  wrong_type = is_wrong_type table query;
+  not_grouped = is_not_grouped query;
+  too_many_sets = has_too_many_sets query;
+}
+
+abbrev pub first_of : Faults → Option Refused
+first_of faults =
+    if faults.unknown then Some Unknown
+    else if faults.wrong_type then Some WrongType
+    else if faults.not_grouped then Some NotGrouped
+    else if faults.too_many_sets then Some TooManySets
     else None
+
+-- the fault of the query, if it has one
+abbrev pub fault_of : Table → QueryTree → Option Refused
+fault_of table query = first_of (faults_of table query)

@@ -12,3 +12,7 @@ parenthesis_limit = 64
 -- the most items of a select list
 abbrev pub item_limit : ℕ
 item_limit = 32
+
+-- the most grouping sets of a query, repeated ones counted
+abbrev pub set_limit : ℕ
+set_limit = 256

@@ -8,7 +8,8 @@ use Rattle.cells.specs.declared.schema.ColumnType.{ColumnType}
 use Rattle.cells.specs.declared.schema.ColumnType.TheVariants.{Int}
 use Rattle.query.specs.Checks.{fault_of}
 use Rattle.query.specs.Headings.{heading}
-use Rattle.query.specs.Sets.{grouping_sets, places, set_limit}
+use Rattle.query.specs.Limits.{set_limit}
+use Rattle.query.specs.Sets.{grouping_sets, places}
 use Rattle.query.specs.Trees.{PredicateTree, Or, And, Not, Holds, PredicateTrees, NoPredicates, MorePredicates}
 use Rattle.query.specs.Truth.{IsOver}
 use Rattle.query.specs.Values.{QueryTree}

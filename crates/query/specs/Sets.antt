@@ -3,6 +3,7 @@
 use Rattle.std.specs.Prelude.{ℕ, ◌+◌, Bool, List, [], ◌∷◌, ◌++◌, bytes_eq, if◌then◌else◌, map, min}
 use Rattle.std.specs.List.{flat_map, list_any}
 use Rattle.cells.specs.declared.schema.Column.{Column}
+use Rattle.query.specs.Limits.{set_limit}
 use Rattle.query.specs.Trees.{ElementTree, Empty, OneUnit, Rollup, Cube, Sets, ElementTrees, NoElements, MoreElements}
 
 abbrev pub Names : Type 0
@@ -50,10 +51,6 @@ places_from k (c ∷ cs) set = if names_column set c then k ∷ places_from (k +
 abbrev pub places : List Column → Names → List ℕ
 places columns set = places_from 0 columns set
 
--- the most grouping sets of a query
-abbrev pub set_limit : ℕ
-set_limit = 256
-
 -- a number of sets as far as it is counted: one above the limit stands for all that are more
 abbrev pub counted : ℕ → ℕ
-counted n = min 257 n
+counted n = min (set_limit + 1) n

@@ -1,11 +1,12 @@
 //! Checks a query against the schema of a table.
 ghost use Rattle.std.specs.Prelude.{◌≡◌, IfOk};
 ghost use Rattle.cells.specs.Refusals.{Reads};
-ghost use Rattle.query.specs.Checks.{fault_of, has_too_many_sets};
+ghost use Rattle.query.specs.Checks.{faults_of, first_of, has_too_many_sets};
 ghost use Rattle.query.specs.Plans.{IsPlanOf, checked};
 
-use crate::counting::{MAX_SETS, set_count};
+use crate::counting::set_count;
 use crate::grouped::is_not_grouped;
+use crate::limits::MAX_SETS;
 use crate::names::is_unknown;
 use crate::plan::Plan;
 use crate::query::Query;
@@ -25,30 +26,53 @@ pub fn check(alloc: Global, query: Query, schema: &Schema) -> Result<Plan, Refus
     // The plan may be carried out over rows of the table.
     ensures plan { IfOk result (IsPlanOf schema.now) }
 {
-    if let Some(fault) = first_fault(&query, schema) {
+    if let Some(fault) = Faults::of(&query, schema).first() {
         return Err(fault);
     }
     let plan = Plan::of(alloc, query, schema)?;
     Ok(plan)
 }
 
-/// The first fault of the query, if it has one. It takes no memory.
-fn first_fault(query: &Query, schema: &Schema) -> Option<Refused>
-    ensures { result ≡ fault_of schema.now query.now }
-{
-    if is_unknown(query, schema) {
-        return Some(Refused::Unknown);
+/// Which faults a query has for a table.
+#[derive(Clone, Copy, Drop)]
+struct Faults {
+    unknown: bool,
+    wrong_type: bool,
+    not_grouped: bool,
+    too_many_sets: bool,
+}
+
+impl Faults {
+    /// The faults of the query. It makes no set and takes no memory.
+    fn of(query: &Query, schema: &Schema) -> Faults
+        ensures { result ≡ faults_of schema.now query.now }
+    {
+        Faults {
+            unknown: is_unknown(query, schema),
+            wrong_type: is_wrong_type(query, schema),
+            not_grouped: is_not_grouped(query),
+            too_many_sets: has_too_many_sets(query),
+        }
     }
-    if is_wrong_type(query, schema) {
-        return Some(Refused::WrongType);
+
+    /// The first of them in the order in which they are answered, if there is one.
+    fn first(self) -> Option<Refused>
+        ensures { result ≡ first_of self }
+    {
+        if self.unknown {
+            return Some(Refused::Unknown);
+        }
+        if self.wrong_type {
+            return Some(Refused::WrongType);
+        }
+        if self.not_grouped {
+            return Some(Refused::NotGrouped);
+        }
+        if self.too_many_sets {
+            return Some(Refused::TooManySets);
+        }
+        None
     }
-    if is_not_grouped(query) {
-        return Some(Refused::NotGrouped);
-    }
-    if has_too_many_sets(query) {
-        return Some(Refused::TooManySets);
-    }
-    None
 }
 
 /// Whether the query has more grouping sets than the limit. It makes no set.

@@ -3,9 +3,7 @@ ghost use Rattle.std.specs.Prelude.{◌≡◌, ◌^◌, length};
 ghost use Rattle.query.specs.Sets.{counted, grouping_sets, sets_of};
 
 use crate::element::{Element, ElementForm};
-
-/// The most grouping sets of a query.
-pub const MAX_SETS: u64 = 256;
+use crate::limits::MAX_SETS;
 
 /// What a count answers where there are more than [`MAX_SETS`]: it goes no further.
 const TOO_MANY: u64 = MAX_SETS + 1;

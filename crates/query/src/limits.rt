@@ -8,3 +8,6 @@ pub const MAX_OPEN_PARENTHESES: usize = 64;
 
 /// The most items of a select list.
 pub const MAX_ITEMS: usize = 32;
+
+/// The most grouping sets of a query, repeated ones counted.
+pub const MAX_SETS: u64 = 256;
