@@ -38,8 +38,14 @@ fn values_are_printed_as_literals(rt: HostRuntime) -> Result<(), Fail> {
         (Value::Null, "NULL"),
         (Value::Int(0), "0"),
         (Value::Int(-1), "-1"),
-        (Value::Int(27_670_116_110_564_327_421), "27670116110564327421"),
-        (Value::Int(-27_670_116_110_564_327_424), "-27670116110564327424"),
+        (
+            Value::Int(27_670_116_110_564_327_421),
+            "27670116110564327421",
+        ),
+        (
+            Value::Int(-27_670_116_110_564_327_424),
+            "-27670116110564327424",
+        ),
         (Value::Text(""), "''"),
         (Value::Text("pen"), "'pen'"),
         (Value::Text("it's"), "'it''s'"),

@@ -8,6 +8,6 @@ use Rattle.query.proofs.checking.check.Goals as goal
 pub returns-clause-plan : goal.returns-clause-plan
 returns-clause-plan c =
     let none : fault_of c.args.schema.now c.args.query ≡ None =
-      sym (ap first_of c.of.ensures) ∙ sym c.first.ensures ∙ c.in_default.is in
+    sym (ap first_of c.of.ensures) ∙ sym c.first.ensures ∙ c.in_default.is in
     let filled : AreFilled c.args.query.elements = subst (λ q. AreFilled q.elements) c.query.view_is c.query.invariant in
     is_plan c.args.schema.now c.args.query c.in_ok-plan.plan none filled c.in_ok-plan.ensures
