@@ -3,7 +3,8 @@ use Rattle.std.specs.Prelude.{◌+◌, ◌<◌, ◌≤◌}
 use Rattle.std.proofs.Common.{◌≡◌, ℕ, List, [], ◌∷◌, ◌++◌, length, take, get_or, refl, sym, ap, subst, ◌∙◌, arith}
 use Rattle.std.proofs.lemmas.List.{take_all, take_more}
 use Rattle.aggs.specs.Accs.{AccTakes, AccsFit, acc_joins, acc_kind, acc_of, acc_room, acc_takes, acc_together, kind_of}
-use Rattle.aggs.specs.Room.{AreStored, IsStored, MayJoin}
+use Rattle.aggs.specs.Room.{MayJoin}
+use Rattle.cells.specs.Fitting.{AreStored, IsStored}
 use Rattle.aggs.specs.Values.{IsNoText}
 use Rattle.aggs.specs.declared.acc.Acc.{Acc}
 use Rattle.aggs.specs.declared.acc.Kind.{Kind}

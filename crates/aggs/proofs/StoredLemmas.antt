@@ -3,7 +3,7 @@ use Rattle.std.specs.Prelude.{◌≡◌, ℕ, zero, suc, ◌+◌, ◌<◌, ◌�
 use Rattle.std.specs.List.{AllByRecursion}
 use Rattle.std.proofs.Common.{get_or, ap, sym, ◌∙◌, subst, arith}
 use Rattle.std.proofs.lemmas.List.{take_all, take_more}
-use Rattle.aggs.specs.Room.{AreStored, IsStored}
+use Rattle.cells.specs.Fitting.{AreStored, IsStored}
 use Rattle.cells.specs.declared.cell.Cell.{Cell}
 
 push : (cs : List Cell) (c : Cell) → AreStored cs → IsStored c → AreStored (cs ++ c ∷ [])

@@ -7,7 +7,8 @@ use Rattle.std.specs.List.Sorted.{IsPermutation}
 use Rattle.std.proofs.Common.{ap, sym, subst, ◌∙◌, arith}
 use Rattle.std.proofs.lemmas.Int.{fits_signed_from_abs, ints}
 use Rattle.aggs.specs.Reducing.{merged, merged_none, picked_any_order, picked_joins, reduce_more}
-use Rattle.aggs.specs.Room.{AreStored, MayJoin}
+use Rattle.aggs.specs.Room.{MayJoin}
+use Rattle.cells.specs.Fitting.{AreStored}
 use Rattle.aggs.specs.Values.{integers, sum_of}
 use Rattle.aggs.specs.declared.sum.Sum.{Sum}
 use Rattle.cells.specs.declared.cell.Cell.{Cell}

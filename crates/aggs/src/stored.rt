@@ -1,5 +1,5 @@
 //! That integers of cells have 64 bits.
-ghost use Rattle.aggs.specs.Room.{AreStored, IsStored};
+ghost use Rattle.cells.specs.Fitting.{AreStored, IsStored};
 
 use cells::Cell;
 

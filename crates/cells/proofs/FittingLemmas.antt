@@ -1,12 +1,16 @@
 -- What is read as a row fits its table.
-use Rattle.std.proofs.Common.{refl, ◌≡◌, ◌≢◌, ap, subst, ◌∙◌, cond}
+use Rattle.std.proofs.Common.{arith, refl, ◌≡◌, ◌≢◌, ap, inl, inr, subst, ◌∙◌, cond}
+use Rattle.std.proofs.lemmas.Bool.{cases_Bool}
+use Rattle.std.proofs.lemmas.Bool.Decides.{nat_tests}
 use Rattle.std.proofs.lemmas.Option.{unwrap_or-slice_get}
-use Rattle.std.specs.Prelude.{ℤ, ℕ, Bool, true, false, List, [], ◌∷◌, ⊤, length, nat_le, slice_index_or, Option, Some, None, option_map, option_and_then, unwrap_or}
+use Rattle.std.specs.Prelude.{ℤ, pos, neg_ℤ, ℕ, zero, suc, ◌≤◌, Bool, true, false, List, [], ◌∷◌, ⊤, drop, length, nat_le, nat_lt, slice_index_or, Option, Some, None, option_map, option_and_then, unwrap_or}
+use Rattle.std.specs.Int.RustNames.{unsigned_abs}
 use Rattle.std.specs.List.{slice_get}
+use Rattle.std.specs.Str.Parse.{starts_with_minus}
 use Rattle.std.specs.Str.{is_utf8}
 use Rattle.cells.specs.Fitting.{AreOfColumns, IsOfType, IsRowOf}
-use Rattle.cells.specs.Integers.{integer_of}
-use Rattle.cells.specs.Limits.{text_limit}
+use Rattle.cells.specs.Integers.{integer_of, natural_of, negative, positive}
+use Rattle.cells.specs.Limits.{integer_limit, text_limit}
 use Rattle.cells.specs.Records.{cell_of, cells_of, keyed, row_of, text_cell}
 use Rattle.cells.specs.Values.{Entry, Table}
 use Rattle.cells.specs.declared.cell.Cell.{Cell}
@@ -23,16 +27,43 @@ abbrev Fits : ColumnType → Option Cell → Type 0
 Fits kind None = ⊤
 Fits kind (Some x) = IsOfType x kind
 
-integer_fits : (o : Option ℤ) → Fits column.Int (option_map cell.Int o)
-integer_fits None = tt
-integer_fits (Some n) = tt
+-- the integer that there is, if there is one, has 64 bits
+abbrev IsShort : Option ℤ → Type 0
+IsShort None = ⊤
+IsShort (Some n) = unsigned_abs n ≤ integer_limit
+
+negative_is_short : (n : ℕ) → IsShort (negative n)
+negative_is_short zero = omega arith
+negative_is_short (suc n) = elim (cases_Bool (nat_le (suc n) integer_limit)) [
+  | inl y ↦ rw y (grind (arith, nat_tests))
+  | inr n ↦ rw n tt
+]
+
+positive_is_short : (n : ℕ) → IsShort (positive n)
+positive_is_short n = elim (cases_Bool (nat_lt n integer_limit)) [
+  | inl y ↦ rw y (grind (arith, nat_tests))
+  | inr n ↦ rw n tt
+]
+
+short_if : (f : ℕ → Option ℤ) → ((n : ℕ) → IsShort (f n)) → (o : Option ℕ) → IsShort (option_and_then f o)
+short_if f h None = tt
+short_if f h (Some n) = h n
+
+integer_is_short : (minus : Bool) (bs : List ℕ) →
+    IsShort (cond minus (option_and_then negative (natural_of (drop 1 bs))) (option_and_then positive (natural_of bs)))
+integer_is_short true bs = short_if negative negative_is_short (natural_of (drop 1 bs))
+integer_is_short false bs = short_if positive positive_is_short (natural_of bs)
+
+integer_fits : (o : Option ℤ) → IsShort o → Fits column.Int (option_map cell.Int o)
+integer_fits None short = tt
+integer_fits (Some n) short = short
 
 short_fits : (b : Bool) (bs : List ℕ) → Fits column.Text (cond b (Some (cell.Text bs)) None)
 short_fits true bs = tt
 short_fits false bs = tt
 
 text_fits : (kind : ColumnType) (bs : List ℕ) → Fits kind (text_cell kind bs)
-text_fits column.Int bs = integer_fits (integer_of bs)
+text_fits column.Int bs = integer_fits (integer_of bs) (integer_is_short (starts_with_minus bs) bs)
 text_fits column.Text bs = short_fits (nat_le (length bs) text_limit) bs
 
 utf8_fits : (b : Bool) (kind : ColumnType) (bs : List ℕ) → Fits kind (cond b (text_cell kind bs) None)

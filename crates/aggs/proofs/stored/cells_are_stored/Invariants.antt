@@ -1,5 +1,5 @@
 use Rattle.std.proofs.Common.{take}
-use Rattle.aggs.specs.Room.{AreStored}
+use Rattle.cells.specs.Fitting.{AreStored}
 use Rattle.aggs.proofs.stored.cells_are_stored.Given as goal
 
 abbrev pub invariant-loop-cell : goal.invariant-loop-cell
