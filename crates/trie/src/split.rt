@@ -3,7 +3,7 @@ ghost use Rattle.std.specs.Prelude.{◌≡◌, ◌++◌, ◌∷◌, ◌&&◌, []
 ghost use Rattle.std.specs.Map.{keys_of};
 ghost use Rattle.trie.specs.Cuts.{IsPiece};
 ghost use Rattle.trie.specs.Maps.{RiseByHash};
-ghost use Rattle.trie.specs.Walks.{TakesAll};
+ghost use Rattle.trie.specs.Walks.{MayTakeAll, TakesAll};
 ghost use Rattle.trie.specs.Tree.{entries};
 ghost use Rattle.trie.specs.Holding.{lent, seen_in};
 ghost use Rattle.trie.specs.Splitting.{IsCut, IsCuttable};
@@ -39,8 +39,9 @@ impl<K: Ord, V, H: KeyHash<K>> Model for Piece<K, V, H> {
 }
 
 impl<K: Ord, V, H: KeyHash<K>> Piece<K, V, H> {
-    /// Lends all entries, in digit order. It takes no memory of its own.
+    /// Lends all entries, in digit order, each as the visitor asks for it. It takes no memory of its own.
     pub fn walk<W: Visitor<K, V>>(&self, visitor: &mut W) -> Result<(), AllocError>
+        requires { MayTakeAll W.asks W.takes visitor.old self.now }
         ensures { OnOk result (TakesAll W.takes visitor.old self.now visitor.new) }
     {
         walk_node(&self.node, visitor)

@@ -10,7 +10,7 @@ ghost use Rattle.trie.specs.Holding.{lent};
 ghost use Rattle.trie.specs.Maps.{RiseByHash};
 ghost use Rattle.trie.specs.Merging.{CanBlend, ClonesEqual, HasEntries, IsMerged};
 ghost use Rattle.trie.specs.Shapes.{shape_of};
-ghost use Rattle.trie.specs.Walks.{TakesAll};
+ghost use Rattle.trie.specs.Walks.{MayTakeAll, TakesAll};
 
 use crate::blend::Blend;
 use crate::cutting::Cutting;
@@ -87,8 +87,9 @@ impl<K: Ord, V, H: KeyHash<K>> Trie<K, V, H> {
         self.len() == 0
     }
 
-    /// Lends all entries, in digit order. It takes no memory of its own.
+    /// Lends all entries, in digit order, each as the visitor asks for it. It takes no memory of its own.
     pub fn walk<W: Visitor<K, V>>(&self, visitor: &mut W) -> Result<(), AllocError>
+        requires { MayTakeAll W.asks W.takes visitor.old self.now }
         ensures { OnOk result (TakesAll W.takes visitor.old self.now visitor.new) }
     {
         let Some(node) = &self.root else {

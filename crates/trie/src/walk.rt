@@ -2,7 +2,7 @@
 ghost use Rattle.std.specs.Prelude.{OnOk};
 ghost use Rattle.trie.specs.Holding.{pairs_of};
 ghost use Rattle.trie.specs.Tree.{entries};
-ghost use Rattle.trie.specs.Walks.{TakesAll};
+ghost use Rattle.trie.specs.Walks.{MayTakeAll, TakesAll};
 
 use crate::node::Node;
 use std::alloc::AllocError;
@@ -10,11 +10,15 @@ use std::sync::Arc;
 
 /// What is lent the entries of a map, one after another.
 pub trait Visitor<K, V> {
+    /// What it asks of an entry that it is lent.
+    ghost asks: { Self → K → V → Type 0 };
+
     /// What it is to take an entry: what the visitor was, the key, the value, and what it is then.
     ghost takes: { Self → K → V → Self → Type 0 };
 
     /// Takes an entry. An error, for want of memory, ends the walk.
     fn visit(&mut self, key: &K, value: &V) -> Result<(), AllocError>
+        requires { asks self.old key.now value.now }
         ensures { OnOk result (takes self.old key.now value.now self.new) };
 }
 
@@ -23,6 +27,7 @@ pub fn walk_node<K, V, W: Visitor<K, V>>(
     node: &Arc<Node<K, V>>,
     visitor: &mut W,
 ) -> Result<(), AllocError>
+    requires { MayTakeAll W.asks W.takes visitor.old (entries node.now.value) }
     ensures { OnOk result (TakesAll W.takes visitor.old (entries node.now.value) visitor.new) }
 {
     match &**node {
@@ -48,6 +53,7 @@ fn walk_pairs<K, V, W: Visitor<K, V>>(
     pairs: &Vec<Arc<(K, V)>>,
     visitor: &mut W,
 ) -> Result<(), AllocError>
+    requires { MayTakeAll W.asks W.takes visitor.old (pairs_of pairs.now.items) }
     ensures { OnOk result (TakesAll W.takes visitor.old (pairs_of pairs.now.items) visitor.new) }
 {
     for pair in pairs {

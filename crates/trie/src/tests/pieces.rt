@@ -16,6 +16,8 @@ struct Counter {
 impl Visitor<Cell, Cell> for Counter {
     ghost use Rattle.std.specs.Prelude.{⊤};
 
+    ghost asks = { λ _ _ _. ⊤ };
+
     ghost takes = { λ _ _ _ _. ⊤ };
 
     fn visit(&mut self, key: &Cell, _value: &Cell) -> Result<(), AllocError> {
