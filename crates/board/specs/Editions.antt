@@ -55,14 +55,19 @@ published k = k.last.rows
 abbrev pub schema : Editions → Table
 schema k = k.last.schema
 
--- what is so of each keeper: its limit is in range, its draft keeps it, and the rows of the draft and
--- of the last edition are rows of the table
+-- what is so of each edition: its rows are rows of the table, and no more than any draft may have
+pub record IsEdition (table : Table) (rows : Rows) : Type 0 where
+  pub fit : AreRowsOf table rows
+  pub few : map.len rows ≤ row_limit
+
+-- what is so of each keeper: its limit is in range, its draft keeps it and has rows of the table, and its last edition
+-- is one
 pub record IsKept (k : Editions) : Type 0 where
   pub some : 1 ≤ limit k
   pub most : limit k ≤ row_limit
   pub within : map.len (draft k) ≤ limit k
   pub drafted : AreRowsOf (schema k) (draft k)
-  pub published : AreRowsOf (schema k) (published k)
+  pub published : IsEdition (schema k) (published k)
 
 -- a keeper as it begins: draft and edition 0 have no rows
 pub record Begins (most : ℕ) (table : Table) (k : Editions) : Type 0 where

@@ -1,6 +1,8 @@
 //! One published edition, for good.
-ghost use Rattle.std.specs.Prelude.{◌≡◌};
-ghost use Rattle.board.specs.Editions.{AreRowsOf};
+ghost use Rattle.std.specs.Prelude.{◌≡◌, ◌≤◌};
+ghost use Rattle.std.specs.FinMap.{len};
+ghost use Rattle.board.specs.Editions.{AreRowsOf, IsEdition};
+ghost use Rattle.board.specs.Limits.{row_limit};
 
 use crate::root::Root;
 use cells::{Cell, KeyHash, Schema};
@@ -17,7 +19,7 @@ pub struct Snapshot<H: KeyHash<Cell>> {
 }
 
 impl<H: KeyHash<Cell>> Model for Snapshot<H> {
-    ghost use Rattle.board.specs.Editions.{AreRowsOf, Edition, coded_edition};
+    ghost use Rattle.board.specs.Editions.{Edition, IsEdition, coded_edition};
 
     ghost Value = { Edition };
 
@@ -25,13 +27,13 @@ impl<H: KeyHash<Cell>> Model for Snapshot<H> {
 
     ghost view = { λ s. record { number = s.edition; rows = s.root; schema = s.schema.value } };
 
-    // Its rows are rows of its schema.
-    ghost invariant = { λ s. AreRowsOf s.schema.value s.root };
+    // Its rows are rows of its schema, and no more than a draft may have.
+    ghost invariant = { λ s. IsEdition s.schema.value s.root };
 }
 
 impl<H: KeyHash<Cell>> Snapshot<H> {
     pub(crate) fn new(edition: u64, root: Root<H>, schema: Arc<Schema>) -> Snapshot<H>
-        requires { AreRowsOf schema.value root }
+        requires { IsEdition schema.value root }
         ensures { result ≡ record { number = edition; rows = root; schema = schema.value } }
     {
         Snapshot {
@@ -48,10 +50,12 @@ impl<H: KeyHash<Cell>> Snapshot<H> {
         self.edition
     }
 
-    /// The edition's rows, which are rows of its schema. It takes no memory.
+    /// The edition's rows, which are rows of its schema, and at most [`MAX_ROWS`](crate::MAX_ROWS). It takes no
+    /// memory.
     pub fn root(&self) -> &Root<H>
         ensures rows { result.now ≡ self.now.rows }
         ensures fit { AreRowsOf self.now.schema result.now }
+        ensures few { len result.now ≤ row_limit }
     {
         &self.root
     }

@@ -9,5 +9,5 @@ invariant_of-result g c = record {
   most = omega (arith, c.requires.limit.1);
   within = search (rules, limit_stays);
   drafted = search (rules, rows_stay);
-  published = search (rules, rows_stay);
+  published = record { fit = search (rules, rows_stay); few = search (rules, limit_stays) };
 }
