@@ -1,10 +1,11 @@
 -- Grouping elements.
-use Rattle.std.proofs.Common.{◌≡◌, ◌≢◌, ℕ, List, [], ◌∷◌, refl, sym, ap, subst}
+use Rattle.std.proofs.Common.{◌≡◌, ℕ, List, [], ◌∷◌, refl, sym, ap, subst}
 use Rattle.std.specs.Prelude.{codes}
 use Rattle.cells.specs.declared.token.Token.{Token}
 use Rattle.cells.specs.declared.token.Token.TheVariants.{Word}
 use Rattle.query.specs.Trees.{ElementTree, Empty, OneUnit, Rollup, Cube, Sets, ElementTrees, MoreElements, elements_of}
 use Rattle.query.specs.Grammar.{Separated, last, next, name, SpellsUnit, one, several, SpellsElement, empty, unit, rollup, cube, sets, SpellsElements, last_element, next_element, lparen, rparen, comma, ROLLUP, CUBE, GROUPING, SETS}
+use Rattle.query.specs.Phrases.{IsPlain}
 use Rattle.query.specs.Reading.{Any, Starts, Found}
 use Rattle.query.proofs.Lists.{Turns}
 use Rattle.query.proofs.Units.{unit_word, names_head}
@@ -71,12 +72,9 @@ module _ (ts more : List Token) where
         let m = from_elements h in
         (m.0, ap Sets m.1, subst (λ v. Separated comma SpellsElement v m.0 (rparen ∷ r)) same m.2)
 
--- the tokens begin with none of the other forms
-pub record IsPlain (ts : List Token) : Type 0 where
-  pub no_empty : (more : List Token) → ts ≢ lparen ∷ rparen ∷ more
-  pub no_rollup : (more : List Token) → ts ≢ ROLLUP ∷ lparen ∷ more
-  pub no_cube : (more : List Token) → ts ≢ CUBE ∷ lparen ∷ more
-  pub no_sets : (more : List Token) → ts ≢ GROUPING ∷ SETS ∷ lparen ∷ more
+-- behind GROUPING SETS (
+pub sets_behind : (more : List Token) → Turns (Starts SpellsElement Any (GROUPING ∷ SETS ∷ lparen ∷ more)) (λ xs r. Separated comma SpellsElement more xs (rparen ∷ r)) (λ xs. Sets (elements_of xs))
+sets_behind more = element_sets (GROUPING ∷ SETS ∷ lparen ∷ more) more refl
 
 pub element_unit : (ts : List Token) → IsPlain ts → Turns (Starts SpellsElement Any ts) (Starts SpellsUnit Any ts) OneUnit
 element_unit ts others = record {

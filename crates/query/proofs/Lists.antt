@@ -1,10 +1,11 @@
 -- Lists with a separator: what is left to read decides what the whole spells.
-use Rattle.std.proofs.Common.{◌≡◌, List, [], ◌∷◌, ◌++◌, ◌⊎◌, inl, inr, refl, sym, ap, ◌∙◌, subst, append_assoc}
+use Rattle.std.proofs.Common.{◌≡◌, List, [], ◌∷◌, ◌++◌, ◌⊎◌, inl, inr, refl, sym, ap, ◌∙◌, subst, append_assoc, Result, Ok, Err}
+use Rattle.std.specs.Prelude.{MatchResult}
 use Rattle.cells.specs.declared.token.Token.{Token}
 use Rattle.cells.specs.declared.refused.Refused.{Refused}
 use Rattle.cells.specs.declared.refused.Refused.TheVariants.{OutOfMemory, QuerySyntax}
 use Rattle.query.specs.Grammar.{Separated, last, next}
-use Rattle.query.specs.Reading.{BeginsNot, Ends, Starts, Found, Nothing}
+use Rattle.query.specs.Reading.{BeginsNot, Ends, Reads, Starts, Found, Nothing}
 
 -- S is T through f, with the same rest
 pub record Turns {X Y : Type 0} (S : X → List Token → Type 0) (T : Y → List Token → Type 0) (f : Y → X) : Type 0 where
@@ -28,6 +29,23 @@ module _ {X Y : Type 0} {S : X → List Token → Type 0} {T : Y → List Token 
   turn_err turns (inl memory) = inl memory
   turn_err turns (inr fault) = inr (fault.0, turn_nothing turns fault.1)
 
+-- what the reader of the part answers is what the reader of the whole answers, where it hands it on
+pub turn_reads : {X Y : Type 0} {S T : X → List Token → Type 0} (view : Y → X × List Token) (r : Result Y Refused) → Turns S T (λ x. x) → Reads view T r → Reads view S r
+turn_reads view (Ok y) turns found = turn_found turns found
+turn_reads view (Err e) turns fault = turn_err turns fault
+
+-- what was made beside a value
+pub beside_reads : {A B V : Type 0} {S : A × B → List Token → Type 0} {T : B → List Token → Type 0} (view : V → B) (value : A) (made : Result V Refused) (r : Result (A × V) Refused)
+    → Turns S T (λ y. (value, y)) → Reads (λ v. (view v, [])) T made → MatchResult r (λ x. (made ≡ Ok x.1) × (x.0 ≡ value)) (λ e. made ≡ Err e) → Reads (λ x. ((x.0, view x.1), [])) S r
+beside_reads {S = S} view value (Ok v) (Ok x) turns found h =
+    let same : v ≡ x.1 = cc in
+    subst (λ a. Found S (a, view x.1) []) (sym h.1) (subst (λ w. Found S (value, view w) []) same (turn_found turns found))
+beside_reads view value (Ok v) (Err e) turns found h = absurd cc
+beside_reads view value (Err f) (Ok x) turns fault h = absurd (let bad : Err f ≡ Ok x.1 = h.0 in cc)
+beside_reads {S = S} view value (Err f) (Err e) turns fault h =
+    let same : f ≡ e = cc in
+    subst (λ g. (g ≡ OutOfMemory) ⊎ ((g ≡ QuerySyntax) × Nothing S)) same (turn_err turns fault)
+
 -- up to a token that ends it
 abbrev pub Until : {X : Type 0} → Token → (X → List Token → Type 0) → X → List Token → Type 0
 Until t S x rest = S x (t ∷ rest)
@@ -46,6 +64,15 @@ module _ {X : Type 0} {Sp : List Token → X → List Token → Type 0} {Apart :
 
   pub none_closed : Nothing (Starts Sp Apart ts) → Nothing (λ y r. Sp ts y (t ∷ r))
   none_closed nothing = record { none = λ y r s. nothing.none y (t ∷ r) (record { spells = s; apart = apart r }) }
+
+  pub reads_closed : {Y : Type 0} (view : Y → List Token) (x : X) (behind : List Token) (r : Result (X × Y) Refused) → Found (Starts Sp Apart ts) x behind
+      → MatchResult r (λ z. (z.0 ≡ x) × (behind ≡ t ∷ view z.1)) (λ e. (e ≡ QuerySyntax) × BeginsNot t behind) → Reads (λ z. (z.0, view z.1)) (λ y rest. Sp ts y (t ∷ rest)) r
+  reads_closed view x behind (Ok z) found h = subst (λ y. Found (λ w rest. Sp ts w (t ∷ rest)) y (view z.1)) (sym h.0) (closed found (view z.1) h.1)
+  reads_closed view x behind (Err e) found h = inr (h.0, not_closed found h.1)
+
+  pub err_closed : {e : Refused} → (e ≡ OutOfMemory) ⊎ ((e ≡ QuerySyntax) × Nothing (Starts Sp Apart ts)) → (e ≡ OutOfMemory) ⊎ ((e ≡ QuerySyntax) × Nothing (λ y r. Sp ts y (t ∷ r)))
+  err_closed (inl memory) = inl memory
+  err_closed (inr fault) = inr (fault.0, none_closed fault.1)
 
 module _ {X : Type 0} (sep : Token) (Sp : List Token → X → List Token → Type 0) (Apart : List Token → Type 0) (free : (us : List Token) → Apart (sep ∷ us)) where
   -- an element, and a list of them

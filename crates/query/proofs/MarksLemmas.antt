@@ -1,6 +1,7 @@
 -- Grouping sets as marks, column by column.
-use Rattle.std.proofs.Common.{◌≡◌, ℕ, ◌+◌, ◌-◌, ◌<◌, ◌≤◌, Bool, true, false, cond, ◌||◌, append_assoc, drop, get_or, length, take, List, [], ◌∷◌, ◌++◌, map, ◌⊎◌, if◌then◌else◌, inl, inr, refl, sym, ap, ap₂, ◌∙◌}
-use Rattle.std.proofs.lemmas.List.{at_drop_more, map-append, take_all}
+use Rattle.std.proofs.Common.{◌≡◌, ℕ, ◌+◌, ◌-◌, ◌<◌, ◌≤◌, Bool, true, false, cond, ◌||◌, append-nil, append_assoc, drop, get_or, length, take, List, [], ◌∷◌, ◌++◌, map, ◌⊎◌, if◌then◌else◌, inl, inr, refl, sym, ap, ap₂, ◌∙◌}
+use Rattle.std.proofs.lemmas.List.{at_drop_more, map-append, take_all, take_more}
+use Rattle.std.proofs.lemmas.Grind.{flat_map-append}
 use Rattle.std.proofs.lemmas.List.Folds.{list_any-append}
 use Rattle.std.specs.List.{flat_map}
 use Rattle.std.specs.Prelude.{bytes_eq}
@@ -89,6 +90,14 @@ each_step cs es i e whole found more new within is kept m n =
     ∙ ap (λ l. l ++ map (marks cs) (sets_of_each (elements_of (drop (i + 1) es)))) (sym m))
     ∙ sym (append_assoc found more (map (marks cs) (sets_of_each (elements_of (drop (i + 1) es)))))
     ∙ ap (λ l. l ++ map (marks cs) (sets_of_each (elements_of (drop (i + 1) es)))) (sym n)
+
+-- one more of the first sets with each of the second
+pub choices_step : (firsts seconds : List (List Bool)) (i : ℕ) (first : List Bool) (sets more new : List (List Bool)) → i < length firsts → first ≡ get_or firsts i first
+    → sets ≡ flat_map (λ f. map (joined f) seconds) (take i firsts) → more ≡ map (joined first) seconds → new ≡ sets ++ more → new ≡ flat_map (λ f. map (joined f) seconds) (take (i + 1) firsts)
+choices_step firsts seconds i first sets more new within is made m n =
+    n ∙ ap₂ (λ a b. a ++ b) made (m ∙ sym (append-nil (map (joined first) seconds)))
+    ∙ sym (flat_map-append (λ f. map (joined f) seconds) (take i firsts) (first ∷ []))
+    ∙ ap (flat_map (λ f. map (joined f) seconds)) (ap (λ f. take i firsts ++ f ∷ []) is ∙ sym (take_more firsts i first within))
 
 pub grouping_step : (cs : List Column) (es : List ElementTree) (left : ℕ) (e : ElementTree) → 0 < left → left ≤ length es → e ≡ get_or es (left - 1) e → (sets new firsts lent_firsts lent_sets : List (List Bool))
     → sets ≡ map (marks cs) (grouping_sets (drop left es)) → firsts ≡ map (marks cs) (sets_of e) → lent_firsts ≡ firsts → lent_sets ≡ sets

@@ -1,10 +1,12 @@
 -- A text is one query, or it has one first fault.
-use Rattle.std.proofs.Common.{◌≡◌, ℕ, ◌<◌, ◌≤◌, true, false, List, [], length, Option, Some, None, ◌⊎◌, inl, inr, refl, sym, ap, ◌∙◌, subst, arith}
+use Rattle.std.proofs.Common.{◌≡◌, ℕ, ◌<◌, ◌≤◌, true, false, List, [], length, Option, Some, None, ◌⊎◌, inl, inr, refl, sym, ap, ◌∙◌, subst, arith, Result, Ok, Err}
+use Rattle.std.specs.Prelude.{MatchResult}
 use Rattle.std.proofs.lemmas.Bool.{cases_Bool, cases_lt}
 use Rattle.std.proofs.lemmas.Option.{none-some, same_Some}
 use Rattle.cells.specs.Reading.{tokens_of}
+use Rattle.cells.specs.Refusals.{Answers}
 use Rattle.cells.specs.declared.refused.Refused.{Refused}
-use Rattle.cells.specs.declared.refused.Refused.TheVariants.{Limit, QuerySyntax}
+use Rattle.cells.specs.declared.refused.Refused.TheVariants.{Limit, OutOfMemory, QuerySyntax}
 use Rattle.cells.specs.declared.token.Token.{Token}
 use Rattle.query.specs.Depth.{is_too_deep}
 use Rattle.query.specs.Ends.{Whole}
@@ -80,6 +82,12 @@ module _ (text : List ℕ) where
   one_fault e f (too_many_items h s m) (too_deep k t d) = refl
   one_fault e f (too_many_items {ts = ts} {q = q} h s m) (no_query {ts = us} k n) = absurd (no_query_here us ts q (same_tokens us ts k.spelt h.spelt) n s)
   one_fault e f (too_many_items h s m) (too_many_items k t n) = refl
+
+  -- what is the text's query, or its first fault, is no other answer
+  pub only_answer : (r : Result QueryTree Refused) → MatchResult r (λ q. IsQuery text q) (λ e. (e ≡ OutOfMemory) ⊎ FirstFault text e) → (q : QueryTree) → IsQuery text q → Answers QuerySyntax (Some q) r
+  only_answer (Ok p) found q is = ap Some (one_query q p is found)
+  only_answer (Err e) (inl memory) q is = inl memory
+  only_answer (Err e) (inr fault) q is = absurd (no_both q e is fault)
 
   -- ---- at least one
   by_items : (ts : List Token) (q : QueryTree) → HasTokens text ts → SpellsQuery ts q → (item_limit < length q.items) ⊎ (length q.items ≤ item_limit) → IsAnswered text

@@ -7,7 +7,7 @@ use Rattle.cells.specs.Schemas.{is_reserved}
 use Rattle.cells.specs.declared.token.Token.{Token}
 use Rattle.cells.specs.declared.token.Token.TheVariants.{Word, Number, Quoted}
 use Rattle.query.specs.Grammar.{Separated, name, SpellsLiteral, number, text, SpellsOperand, name_operand, literal_operand, SpellsNot, without, with, SpellsTest, compare, is_null, between, among, lparen, rparen, comma, AND, BETWEEN, IN, IS, NOT, NULL}
-use Rattle.query.specs.Phrases.{comparison_at, NullAfter, null, RangeAfter, range, list, TestAfter, after_compare, after_is, after_not}
+use Rattle.query.specs.Phrases.{comparison_at, BoundsAt, NullAfter, null, RangeAfter, range, list, TestAfter, after_compare, after_is, after_not}
 use Rattle.query.specs.Reading.{Any, BeginsNot, BeginsNotCall, Marked, Starts, Found, Nothing}
 use Rattle.query.specs.declared.test.Test.{Test}
 use Rattle.query.specs.declared.test.Test.TheVariants as test
@@ -46,6 +46,19 @@ unmarked us absent = record {
 not_null : (r : List Token) → BeginsNot NOT (NULL ∷ r)
 not_null r rest e = let bad : NULL ≡ NOT = cc in cc
 
+-- the bounds of BETWEEN
+module _ (us : List Token) where
+  pub bounds_low : (low : Operand (List ℕ)) (vs : List Token) → Found (λ l r. SpellsOperand us l (AND ∷ r)) low vs → Turns (BoundsAt us) (Starts SpellsOperand Any vs) (λ high. (low, high))
+  bounds_low low vs found = record {
+    to = λ high r h. (vs, found.is, h.spells);
+    from = λ b r s.
+        let same = found.only b.0 s.0 s.1 in
+        (b.1, ap (λ l. (l, b.1)) same.0, record { spells = subst (λ v. SpellsOperand v b.1 r) same.1 s.2; apart = tt });
+  }
+
+  pub no_bounds : Nothing (λ l r. SpellsOperand us l (AND ∷ r)) → Nothing (BoundsAt us)
+  no_bounds nothing = record { none = λ b r s. nothing.none b.0 s.0 s.1 }
+
 module _ (a : Operand (List ℕ)) (us : List Token) where
   -- IS, and what follows it
   module _ (not : Bool) (vs : List Token) (m : Marked us not vs) where
@@ -77,6 +90,17 @@ module _ (a : Operand (List ℕ)) (us : List Token) where
           let same : ws ≡ more = cc in
           let parts = found.only l xs (subst (λ v. SpellsOperand v l (AND ∷ xs)) same h) in
           (high, ap (λ x. test.Between a x high not) parts.0, record { spells = subst (λ v. SpellsOperand v high r) parts.1 k; apart = tt })
+      inside (list h) f = absurd (let bad : IN ≡ BETWEEN = cc in cc)
+
+    pub range_bounds : (more : List Token) → us ≡ BETWEEN ∷ more → Turns (RangeAfter a not us) (BoundsAt more) (λ b. test.Between a b.0 b.1 not)
+    range_bounds more e = record {
+      to = λ b r h. subst (λ v. RangeAfter a not v (test.Between a b.0 b.1 not) r) (sym e) (range h.1 h.2);
+      from = λ t r s. inside s e;
+    } where
+      inside : {ws r : List Token} {t : Test (List ℕ)} → RangeAfter a not ws t r → ws ≡ BETWEEN ∷ more → (b : Operand (List ℕ) × Operand (List ℕ)) × (t ≡ test.Between a b.0 b.1 not) × BoundsAt more b r
+      inside (range {us = ws} {vs = xs} {low = l} {high = high} h k) f =
+          let same : ws ≡ more = cc in
+          ((l, high), refl, (xs, subst (λ v. SpellsOperand v l (AND ∷ xs)) same h, k))
       inside (list h) f = absurd (let bad : IN ≡ BETWEEN = cc in cc)
 
     pub range_no_low : (more : List Token) → us ≡ BETWEEN ∷ more → Nothing (λ l r. SpellsOperand more l (AND ∷ r)) → Nothing (RangeAfter a not us)

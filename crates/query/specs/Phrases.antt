@@ -1,11 +1,11 @@
 -- The short phrases at the front of tokens, as functions: what the private readers answer. The rules of the grammar say
 -- which they are.
-use Rattle.std.specs.Prelude.{ℕ, Bool, List, ◌∷◌, bytes_eq, codes, Option, Some, None, if◌then◌else◌}
+use Rattle.std.specs.Prelude.{◌≢◌, ℕ, Bool, List, ◌∷◌, bytes_eq, codes, Option, Some, None, if◌then◌else◌}
 use Rattle.cells.specs.Schemas.{is_reserved}
 use Rattle.cells.specs.declared.token.Token.{Token}
 use Rattle.cells.specs.declared.token.Token.TheVariants.{Word, Number, Quoted, Mark}
 use Rattle.cells.specs.declared.token.Mark.TheVariants.{LeftParen, RightParen, Asterisk, Equals, NotEquals, LessThanOrEquals, GreaterThanOrEquals, LessThan, GreaterThan}
-use Rattle.query.specs.Grammar.{Separated, SpellsOperand, SpellsLiteral, SpellsComparison, SpellsNot, AND, BETWEEN, IN, IS, NULL, comma, lparen, rparen}
+use Rattle.query.specs.Grammar.{Separated, SpellsOperand, SpellsLiteral, SpellsComparison, SpellsNot, AND, BETWEEN, CUBE, GROUPING, IN, IS, NULL, ROLLUP, SETS, comma, lparen, rparen}
 use Rattle.query.specs.declared.test.Test.{Test}
 use Rattle.query.specs.declared.test.Test.TheVariants as test
 use Rattle.query.specs.declared.test.Literal.{Literal}
@@ -86,6 +86,10 @@ comparison_at ts = None
 pub data NullAfter (a : Operand (List ℕ)) : List Token → Test (List ℕ) → List Token → Type 0 where
   null : {us rest : List Token} {not : Bool} → SpellsNot us not (NULL ∷ rest) → NullAfter a us (test.IsNull a not) rest
 
+-- the bounds behind BETWEEN
+abbrev pub BoundsAt : List Token → Operand (List ℕ) × Operand (List ℕ) → List Token → Type 0
+BoundsAt us bounds rest = (vs : List Token) × SpellsOperand us bounds.0 (AND ∷ vs) × SpellsOperand vs bounds.1 rest
+
 pub data RangeAfter (a : Operand (List ℕ)) (not : Bool) : List Token → Test (List ℕ) → List Token → Type 0 where
   range : {us vs rest : List Token} {low high : Operand (List ℕ)} → SpellsOperand us low (AND ∷ vs) → SpellsOperand vs high rest → RangeAfter a not (BETWEEN ∷ us) (test.Between a low high not) rest
   list : {us rest : List Token} {ls : List Literal} → Separated comma SpellsLiteral us ls (rparen ∷ rest) → RangeAfter a not (IN ∷ lparen ∷ us) (test.In a ls not) rest
@@ -94,3 +98,10 @@ pub data TestAfter (a : Operand (List ℕ)) : List Token → Test (List ℕ) →
   after_compare : {us vs rest : List Token} {b : Operand (List ℕ)} {c : Comparison} → SpellsComparison us c vs → SpellsOperand vs b rest → TestAfter a us (test.Compare a c b) rest
   after_is : {us rest : List Token} {t : Test (List ℕ)} → NullAfter a us t rest → TestAfter a (IS ∷ us) t rest
   after_not : {us vs rest : List Token} {t : Test (List ℕ)} {not : Bool} → SpellsNot us not vs → RangeAfter a not vs t rest → TestAfter a us t rest
+
+-- the tokens begin with no form of grouping element but a unit
+pub record IsPlain (ts : List Token) : Type 0 where
+  pub no_empty : (more : List Token) → ts ≢ lparen ∷ rparen ∷ more
+  pub no_rollup : (more : List Token) → ts ≢ ROLLUP ∷ lparen ∷ more
+  pub no_cube : (more : List Token) → ts ≢ CUBE ∷ lparen ∷ more
+  pub no_sets : (more : List Token) → ts ≢ GROUPING ∷ SETS ∷ lparen ∷ more

@@ -1,13 +1,15 @@
 //! Checks a query against the schema of a table.
-ghost use Rattle.std.specs.Prelude.{◌≡◌, IfOk};
+ghost use Rattle.std.specs.Prelude.{◌≡◌, IfOk, MatchResult, None, Some};
 ghost use Rattle.cells.specs.Refusals.{Reads};
-ghost use Rattle.query.specs.Checks.{faults_of, first_of, has_too_many_sets};
+ghost use Rattle.query.specs.Checks.{fault_of, faults_of, first_of, has_too_many_sets};
 ghost use Rattle.query.specs.Plans.{IsPlanOf, checked};
+ghost use Rattle.query.specs.Values.{AreFilled};
 
 use crate::counting::set_count;
 use crate::grouped::is_not_grouped;
 use crate::limits::MAX_SETS;
 use crate::names::is_unknown;
+use crate::owned::unless;
 use crate::plan::Plan;
 use crate::query::Query;
 use crate::types::is_wrong_type;
@@ -26,11 +28,18 @@ pub fn check(alloc: Global, query: Query, schema: &Schema) -> Result<Plan, Refus
     // The plan may be carried out over rows of the table.
     ensures plan { IfOk result (IsPlanOf schema.now) }
 {
-    if let Some(fault) = Faults::of(&query, schema).first() {
-        return Err(fault);
-    }
+    let query = without_fault(query, schema)?;
     let plan = Plan::of(alloc, query, schema)?;
     Ok(plan)
+}
+
+/// The query, where it has no fault for the table; else its first fault.
+fn without_fault(query: Query, schema: &Schema) -> Result<Query, Refused>
+    ensures first { MatchResult result (λ q. (q ≡ query) × (fault_of schema.now query ≡ None)) (λ e. fault_of schema.now query ≡ Some e) }
+    ensures filled { AreFilled query.elements }
+{
+    let fault = Faults::of(&query, schema).first();
+    unless(query, fault)
 }
 
 /// Which faults a query has for a table.

@@ -1,14 +1,16 @@
 //! Reads the predicate of WHERE. Chains of OR and of AND are read by loops, so that only parentheses go deep.
-ghost use Rattle.std.specs.Prelude.{◌≡◌, ◌<◌, ◌∷◌, IfOk, length};
-ghost use Rattle.query.specs.Grammar.{AND, OR, Separated, SpellsFactor, SpellsLiteral, SpellsOperand, SpellsPredicate, SpellsPrimary, SpellsTerm, SpellsTest, comma, rparen};
-ghost use Rattle.query.specs.Phrases.{NullAfter, RangeAfter, TestAfter};
+ghost use Rattle.std.specs.Prelude.{◌≡◌, ◌<◌, ◌∷◌, IfOk, List, Some, length};
+ghost use Rattle.cells.specs.declared.token.Token.{Token};
+ghost use Rattle.query.specs.Grammar.{AND, BETWEEN, IN, OR, Separated, SpellsFactor, SpellsLiteral, SpellsOperand, SpellsPredicate, SpellsPrimary, SpellsTerm, SpellsTest, comma, lparen, rparen};
+ghost use Rattle.query.specs.Phrases.{BoundsAt, NullAfter, RangeAfter, TestAfter, comparison_at};
 ghost use Rattle.query.specs.Reading.{AfterAnd, AfterOr, Any, Ends, Reads, Starts};
 
+use crate::owned::closed;
 use crate::phrases::{
     after_call, after_mark, after_word, comparison_at, literal, not_mark, operand,
 };
 use crate::predicate::Predicate;
-use crate::test::{Literal, Literals, Operand, Test};
+use crate::test::{Comparison, Literal, Literals, Operand, Test};
 use cells::{Mark, Refused, Text, Token};
 use std::alloc::Global;
 
@@ -69,6 +71,54 @@ fn null_test(left: Operand<Text>, tokens: &[Token]) -> Result<(Test<Text>, &[Tok
     Ok((test, rest))
 }
 
+/// The bounds behind BETWEEN, and what follows them.
+fn bounds(tokens: &[Token]) -> Result<(Operand<Text>, Operand<Text>, &[Token]), Refused>
+    ensures reads { Reads (λ x. ((x.0, x.1), x.2.now)) (BoundsAt tokens.now) result }
+    ensures shorter { IfOk result (λ x. length x.2.now < length tokens.now) }
+{
+    let (low, behind) = operand_and(tokens)?;
+    let (high, rest) = operand(behind)?;
+    Ok((low, high, rest))
+}
+
+/// The test by BETWEEN behind the operand, an optional NOT and BETWEEN, and what follows it.
+fn between_test(
+    left: Operand<Text>,
+    negated: bool,
+    tokens: &[Token],
+) -> Result<(Test<Text>, &[Token]), Refused>
+    ensures reads { Reads (λ x. (x.0, x.1.now)) (RangeAfter left negated (BETWEEN ∷ tokens.now)) result }
+    ensures shorter { IfOk result (λ x. length x.1.now < length tokens.now) }
+{
+    let (low, high, rest) = bounds(tokens)?;
+    let test = Test::Between {
+        operand: left,
+        low,
+        high,
+        negated,
+    };
+    Ok((test, rest))
+}
+
+/// The test by IN behind the operand, an optional NOT and `IN (`, and what follows it.
+fn in_test(
+    alloc: Global,
+    left: Operand<Text>,
+    negated: bool,
+    tokens: &[Token],
+) -> Result<(Test<Text>, &[Token]), Refused>
+    ensures reads { Reads (λ x. (x.0, x.1.now)) (RangeAfter left negated (IN ∷ lparen ∷ tokens.now)) result }
+    ensures shorter { IfOk result (λ x. length x.1.now < length tokens.now) }
+{
+    let (literals, rest) = literals_in(alloc, tokens)?;
+    let test = Test::In {
+        operand: left,
+        list: Literals::new(literals),
+        negated,
+    };
+    Ok((test, rest))
+}
+
 /// The test by BETWEEN or IN behind the operand and an optional NOT, and what follows it.
 fn range_test(
     alloc: Global,
@@ -80,26 +130,26 @@ fn range_test(
     ensures shorter { IfOk result (λ x. length x.1.now < length tokens.now) }
 {
     if let Some(more) = after_word(tokens, "BETWEEN") {
-        let (low, behind) = operand_and(more)?;
-        let (high, rest) = operand(behind)?;
-        let test = Test::Between {
-            operand: left,
-            low,
-            high,
-            negated,
-        };
-        return Ok((test, rest));
+        return between_test(left, negated, more);
     }
     let Some(more) = after_call(tokens, "IN") else {
         return Err(Refused::QuerySyntax);
     };
-    let (literals, rest) = literals_in(alloc, more)?;
-    let test = Test::In {
-        operand: left,
-        list: Literals::new(literals),
-        negated,
-    };
-    Ok((test, rest))
+    in_test(alloc, left, negated, more)
+}
+
+/// The test by a comparison behind the operand and its sign, and what follows it.
+fn compare_test(
+    left: Operand<Text>,
+    comparison: Comparison,
+    tokens: &[Token],
+) -> Result<(Test<Text>, &[Token]), Refused>
+    // The sign is what any tokens begin with that go on as these.
+    ensures reads { (signed : List Token) → comparison_at signed ≡ Some (comparison, tokens.now) → Reads (λ x. (x.0, x.1.now)) (TestAfter left signed) result }
+    ensures shorter { IfOk result (λ x. length x.1.now < length tokens.now) }
+{
+    let (right, rest) = operand(tokens)?;
+    Ok((Test::Compare(left, comparison, right), rest))
 }
 
 /// The test behind its first operand, and what follows it.
@@ -112,16 +162,13 @@ fn test_after(
     ensures shorter { IfOk result (λ x. length x.1.now < length tokens.now) }
 {
     if let Some((comparison, more)) = comparison_at(tokens) {
-        let (right, rest) = operand(more)?;
-        return Ok((Test::Compare(left, comparison, right), rest));
+        return compare_test(left, comparison, more);
     }
     if let Some(more) = after_word(tokens, "IS") {
-        let (test, rest) = null_test(left, more)?;
-        return Ok((test, rest));
+        return null_test(left, more);
     }
     let (negated, more) = not_mark(tokens);
-    let (test, rest) = range_test(alloc, left, negated, more)?;
-    Ok((test, rest))
+    range_test(alloc, left, negated, more)
 }
 
 /// The test at the front, and what follows it.
@@ -130,8 +177,7 @@ fn test(alloc: Global, tokens: &[Token]) -> Result<(Test<Text>, &[Token]), Refus
     ensures shorter { IfOk result (λ x. length x.1.now < length tokens.now) }
 {
     let (left, more) = operand(tokens)?;
-    let (test, rest) = test_after(alloc, left, more)?;
-    Ok((test, rest))
+    test_after(alloc, left, more)
 }
 
 /// The primary at the front, a predicate in parentheses or a test, and what follows it.
@@ -141,8 +187,7 @@ fn primary(alloc: Global, tokens: &[Token]) -> Result<(Predicate<Text>, &[Token]
     ensures shorter { IfOk result (λ x. length x.1.now < length tokens.now) }
 {
     if let Some(more) = after_mark(tokens, Mark::LeftParen) {
-        let (inner, rest) = predicate_in(alloc, more)?;
-        return Ok((inner, rest));
+        return predicate_in(alloc, more);
     }
     let (test, rest) = test(alloc, tokens)?;
     Ok((Predicate::test(test), rest))
@@ -158,8 +203,7 @@ fn factor(alloc: Global, tokens: &[Token]) -> Result<(Predicate<Text>, &[Token])
         let (inner, rest) = primary(alloc, more)?;
         return Ok((Predicate::not(alloc, inner)?, rest));
     }
-    let (inner, rest) = primary(alloc, tokens)?;
-    Ok((inner, rest))
+    primary(alloc, tokens)
 }
 
 /// The factors at the front, with AND between, and what follows them.
@@ -225,8 +269,5 @@ fn predicate_in(alloc: Global, tokens: &[Token]) -> Result<(Predicate<Text>, &[T
     ensures shorter { IfOk result (λ x. length x.1.now < length tokens.now) }
 {
     let (predicate, rest) = predicate(alloc, tokens)?;
-    let Some(behind) = after_mark(rest, Mark::RightParen) else {
-        return Err(Refused::QuerySyntax);
-    };
-    Ok((predicate, behind))
+    closed(predicate, rest)
 }

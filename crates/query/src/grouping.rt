@@ -1,7 +1,8 @@
 //! Reads the elements of GROUP BY. Lists are read by loops, so that only a nested GROUPING SETS goes deep.
 ghost use Rattle.std.specs.Prelude.{◌≡◌, ◌≢◌, ◌<◌, ◌∷◌, List, IfOk, MatchOption, length};
 ghost use Rattle.cells.specs.declared.token.Token.{Token};
-ghost use Rattle.query.specs.Grammar.{GROUPING, SETS, Separated, SpellsElement, SpellsName, SpellsUnit, comma, lparen, rparen};
+ghost use Rattle.query.specs.Grammar.{CUBE, GROUPING, ROLLUP, SETS, Separated, SpellsElement, SpellsName, SpellsUnit, comma, lparen, rparen};
+ghost use Rattle.query.specs.Phrases.{IsPlain};
 ghost use Rattle.query.specs.Reading.{Any, Ends, Reads, Starts};
 
 use crate::element::{Element, Unit};
@@ -96,6 +97,33 @@ fn after_empty(tokens: &[Token]) -> Option<&[Token]>
     after_mark(rest, Mark::RightParen)
 }
 
+/// The element behind `ROLLUP (`, and what follows it.
+fn rollup_element(alloc: Global, tokens: &[Token]) -> Result<(Element, &[Token]), Refused>
+    ensures reads { Reads (λ x. (x.0, x.1.now)) (Starts SpellsElement Any (ROLLUP ∷ lparen ∷ tokens.now)) result }
+    ensures shorter { IfOk result (λ x. length x.1.now < length tokens.now) }
+{
+    let (units, rest) = units_in(alloc, tokens)?;
+    Ok((Element::rollup(units), rest))
+}
+
+/// The element behind `CUBE (`, and what follows it.
+fn cube_element(alloc: Global, tokens: &[Token]) -> Result<(Element, &[Token]), Refused>
+    ensures reads { Reads (λ x. (x.0, x.1.now)) (Starts SpellsElement Any (CUBE ∷ lparen ∷ tokens.now)) result }
+    ensures shorter { IfOk result (λ x. length x.1.now < length tokens.now) }
+{
+    let (units, rest) = units_in(alloc, tokens)?;
+    Ok((Element::cube(units), rest))
+}
+
+/// The unit at the front as an element, where no other form of element begins, and what follows it.
+fn unit_element(alloc: Global, tokens: &[Token]) -> Result<(Element, &[Token]), Refused>
+    ensures reads { IsPlain tokens.now → Reads (λ x. (x.0, x.1.now)) (Starts SpellsElement Any tokens.now) result }
+    ensures shorter { IfOk result (λ x. length x.1.now < length tokens.now) }
+{
+    let (unit, rest) = unit(alloc, tokens)?;
+    Ok((Element::unit(unit), rest))
+}
+
 /// The grouping element at the front, and what follows it.
 #[cycle(reader)]
 fn element(alloc: Global, tokens: &[Token]) -> Result<(Element, &[Token]), Refused>
@@ -106,32 +134,28 @@ fn element(alloc: Global, tokens: &[Token]) -> Result<(Element, &[Token]), Refus
         return Ok((Element::empty(), rest));
     }
     if let Some(more) = after_call(tokens, "ROLLUP") {
-        let (units, rest) = units_in(alloc, more)?;
-        return Ok((Element::rollup(units), rest));
+        return rollup_element(alloc, more);
     }
     if let Some(more) = after_call(tokens, "CUBE") {
-        let (units, rest) = units_in(alloc, more)?;
-        return Ok((Element::cube(units), rest));
+        return cube_element(alloc, more);
     }
     if let Some(more) = after_sets(tokens) {
-        let (elements, rest) = elements_in(alloc, more)?;
-        return Ok((Element::sets(elements), rest));
+        return sets_element(alloc, more);
     }
-    let (unit, rest) = unit(alloc, tokens)?;
-    Ok((Element::unit(unit), rest))
+    unit_element(alloc, tokens)
 }
 
-/// The grouping elements up to the `)` behind them, and what follows it.
+/// The element behind `GROUPING SETS (`, and what follows it.
 #[cycle(reader)]
-fn elements_in(alloc: Global, tokens: &[Token]) -> Result<(Vec<Element>, &[Token]), Refused>
-    ensures reads { Reads (λ x. (x.0.items, x.1.now)) (λ es r. Separated comma SpellsElement tokens.now es (rparen ∷ r)) result }
+fn sets_element(alloc: Global, tokens: &[Token]) -> Result<(Element, &[Token]), Refused>
+    ensures reads { Reads (λ x. (x.0, x.1.now)) (Starts SpellsElement Any (GROUPING ∷ SETS ∷ lparen ∷ tokens.now)) result }
     ensures shorter { IfOk result (λ x. length x.1.now < length tokens.now) }
 {
     let (elements, rest) = elements(alloc, tokens)?;
     let Some(behind) = after_mark(rest, Mark::RightParen) else {
         return Err(Refused::QuerySyntax);
     };
-    Ok((elements, behind))
+    Ok((Element::sets(elements), behind))
 }
 
 /// The grouping elements at the front, with commas between, and what follows them.

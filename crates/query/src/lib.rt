@@ -13,6 +13,7 @@ mod item;
 mod laws;
 mod limits;
 mod names;
+mod owned;
 mod phrases;
 mod places;
 mod plan;

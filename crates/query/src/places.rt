@@ -2,10 +2,11 @@
 ghost use Rattle.std.specs.Prelude.{◌≡◌, IfOk, map, option_map};
 ghost use Rattle.query.specs.Plans.{place_of, placed_item, placed_operand, placed_predicate, placed_test};
 ghost use Rattle.query.specs.PredicateViews.{predicate_tree};
+ghost use Rattle.query.specs.declared.test.Test.TheVariants.{Between, Compare};
 
 use crate::item::Item;
 use crate::predicate::{Predicate, PredicateForm};
-use crate::test::{Operand, Test};
+use crate::test::{Comparison, Operand, Test};
 use cells::{Column, Text};
 use std::alloc::{AllocError, Global};
 
@@ -105,11 +106,7 @@ fn placed_test(columns: &[Column], test: Test<Text>) -> Test<usize>
     ensures { result ≡ placed_test columns.now test }
 {
     match test {
-        Test::Compare(a, comparison, b) => Test::Compare(
-            placed_operand(columns, a),
-            comparison,
-            placed_operand(columns, b),
-        ),
+        Test::Compare(a, comparison, b) => placed_comparison(columns, a, comparison, b),
         Test::IsNull { operand, negated } => Test::IsNull {
             operand: placed_operand(columns, operand),
             negated,
@@ -119,12 +116,7 @@ fn placed_test(columns: &[Column], test: Test<Text>) -> Test<usize>
             low,
             high,
             negated,
-        } => Test::Between {
-            operand: placed_operand(columns, operand),
-            low: placed_operand(columns, low),
-            high: placed_operand(columns, high),
-            negated,
-        },
+        } => placed_between(columns, operand, (low, high), negated),
         Test::In {
             operand,
             list,
@@ -134,6 +126,40 @@ fn placed_test(columns: &[Column], test: Test<Text>) -> Test<usize>
             list,
             negated,
         },
+    }
+}
+
+/// The test by a comparison with places for names.
+fn placed_comparison(
+    columns: &[Column],
+    left: Operand<Text>,
+    comparison: Comparison,
+    right: Operand<Text>,
+) -> Test<usize>
+    ensures { result ≡ placed_test columns.now (Compare left comparison right) }
+{
+    Test::Compare(
+        placed_operand(columns, left),
+        comparison,
+        placed_operand(columns, right),
+    )
+}
+
+/// The test by BETWEEN with places for names. The bounds are the low and the high one.
+fn placed_between(
+    columns: &[Column],
+    operand: Operand<Text>,
+    bounds: (Operand<Text>, Operand<Text>),
+    negated: bool,
+) -> Test<usize>
+    ensures { result ≡ placed_test columns.now (Between operand bounds.0 bounds.1 negated) }
+{
+    let (low, high) = bounds;
+    Test::Between {
+        operand: placed_operand(columns, operand),
+        low: placed_operand(columns, low),
+        high: placed_operand(columns, high),
+        negated,
     }
 }
 

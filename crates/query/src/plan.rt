@@ -1,15 +1,18 @@
 //! Plans: what a query means for a table.
-ghost use Rattle.std.specs.Prelude.{◌≡◌, IfOk};
+ghost use Rattle.std.specs.Prelude.{◌≡◌, IfOk, map};
 ghost use Rattle.std.specs.Option.{option_copied};
-ghost use Rattle.query.specs.Plans.{plan_of};
+ghost use Rattle.query.specs.Headings.{heading};
+ghost use Rattle.query.specs.Plans.{placed_item, plan_of};
+ghost use Rattle.query.specs.Sets.{grouping_sets, places};
 
 use crate::headings::headings;
 use crate::item::Item;
+use crate::owned::beside;
 use crate::places::{placed_condition, placed_items};
 use crate::predicate::Predicate;
 use crate::query::Query;
 use crate::sets::{GroupSet, grouping_sets};
-use cells::{Schema, Text};
+use cells::{Column, Schema, Text};
 use std::alloc::{AllocError, Global};
 use std::marker::Model;
 
@@ -36,21 +39,45 @@ impl Model for Plan {
     ghost view = { λ p. record { items = p.items.items; headings = p.headings.items; condition = p.condition; sets = p.sets.items } };
 }
 
+/// What a plan has of a query beside its predicate.
+#[derive(Drop)]
+struct Outline {
+    items: Vec<Item<usize>>,
+    headings: Vec<Text>,
+    sets: Vec<GroupSet>,
+}
+
+impl Outline {
+    /// The outline of the query, whose names are all of these columns.
+    fn of(alloc: Global, columns: &[Column], query: &Query) -> Result<Outline, AllocError>
+        ensures items { IfOk result (λ outline. outline.items.items ≡ map (placed_item columns.now) query.now.items) }
+        ensures headings { IfOk result (λ outline. outline.headings.items ≡ map heading query.now.items) }
+        ensures sets { IfOk result (λ outline. outline.sets.items ≡ map (places columns.now) (grouping_sets query.now.elements)) }
+    {
+        let items = placed_items(alloc, columns, query.items())?;
+        let headings = headings(alloc, query.items())?;
+        let sets = grouping_sets(alloc, columns, query.elements())?;
+        Ok(Outline {
+            items,
+            headings,
+            sets,
+        })
+    }
+}
+
 impl Plan {
     /// The plan of the query, whose names are all of columns of the schema.
     pub(crate) fn of(alloc: Global, query: Query, schema: &Schema) -> Result<Plan, AllocError>
         ensures { IfOk result (λ plan. plan ≡ plan_of schema.now query) }
     {
         let columns = schema.columns();
-        let items = placed_items(alloc, columns, query.items())?;
-        let headings = headings(alloc, query.items())?;
-        let sets = grouping_sets(alloc, columns, query.elements())?;
-        let condition = placed_condition(alloc, columns, query.condition)?;
+        let (query, outline) = beside(Outline::of(alloc, columns, &query), query)?;
+        let condition = placed_condition(alloc, columns, query.into_condition())?;
         Ok(Plan {
-            items,
-            headings,
+            items: outline.items,
+            headings: outline.headings,
             condition,
-            sets,
+            sets: outline.sets,
         })
     }
 

@@ -12,10 +12,10 @@ use std::marker::Model;
 /// A query (ISO/IEC 9075-2:1999, 7.11), its names in upper case. No GROUPING SETS in it is without elements.
 #[derive(Drop)]
 pub struct Query {
-    pub(crate) items: Vec<Item<Text>>,
-    pub(crate) table: Text,
-    pub(crate) condition: Option<Predicate<Text>>,
-    pub(crate) elements: Vec<Element>,
+    items: Vec<Item<Text>>,
+    table: Text,
+    condition: Option<Predicate<Text>>,
+    elements: Vec<Element>,
 }
 
 impl Model for Query {
@@ -71,6 +71,13 @@ impl Query {
         ensures { option_copied result ≡ self.now.condition }
     {
         self.condition.as_ref()
+    }
+
+    /// The predicate of WHERE out of the query, whose other parts are let go.
+    pub(crate) fn into_condition(self) -> Option<Predicate<Text>>
+        ensures { result ≡ self.condition }
+    {
+        self.condition
     }
 
     /// The elements of GROUP BY, in the order of the text; `()` alone where there is no GROUP BY.

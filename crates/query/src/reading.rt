@@ -1,10 +1,12 @@
 //! Reads a text into a query: its tokens, and then clause by clause.
 ghost use Rattle.std.specs.Bool.{Decides};
-ghost use Rattle.std.specs.Prelude.{◌≡◌, ◌≢◌, ◌⊎◌, ◌∷◌, [], List, IfOk, MatchOption, MatchResult};
+ghost use Rattle.std.specs.Prelude.{◌≡◌, ◌≢◌, ◌<◌, ◌≤◌, ◌⊎◌, ◌∷◌, [], ℕ, List, IfOk, MatchOption, MatchResult, Some, length};
+ghost use Rattle.cells.specs.Reading.{tokens_of};
 ghost use Rattle.cells.specs.Refusals.{Answers};
 ghost use Rattle.cells.specs.declared.token.Token.{Token};
-ghost use Rattle.query.specs.Grammar.{BY, GROUP, FROM, Separated, SpellsItem, SpellsQuery, comma};
+ghost use Rattle.query.specs.Grammar.{BY, GROUP, FROM, Separated, SpellsItem, SpellsQuery, WHERE, comma};
 ghost use Rattle.query.specs.Ends.{SpellsEnd, SpellsFrom, SpellsTail, Whole};
+ghost use Rattle.query.specs.Limits.{item_limit, query_limit};
 ghost use Rattle.query.specs.Queries.{FirstFault, IsQuery};
 ghost use Rattle.query.specs.Reading.{Reads};
 ghost use Rattle.query.specs.Trees.{Empty};
@@ -16,6 +18,7 @@ use crate::element::Element;
 use crate::grouping::elements;
 use crate::item::Item;
 use crate::limits::{MAX_ITEMS, MAX_QUERY_BYTES};
+use crate::owned::{beside, unless};
 use crate::phrases::{after_word, name};
 use crate::predicate::Predicate;
 use crate::query::Query;
@@ -39,14 +42,37 @@ pub fn read(alloc: Global, text: &str) -> Result<Query, Refused>
         return Err(Refused::Limit);
     }
     let tokens = tokens_or(alloc, text, Refused::QuerySyntax)?;
-    if is_too_deep(tokens.as_slice()) {
+    query_within(alloc, tokens.as_slice())
+}
+
+/// The query that the tokens are, where not too many parentheses are open and there are not too many items.
+fn query_within(alloc: Global, tokens: &[Token]) -> Result<Query, Refused>
+    // It is the answer for each text of these tokens that is not too long.
+    ensures { (text : List ℕ) → length text ≤ query_limit → tokens_of text ≡ Some tokens.now → MatchResult result (λ q. IsQuery text q) (λ e. (e ≡ Refused.OutOfMemory) ⊎ FirstFault text e) }
+{
+    if is_too_deep(tokens) {
         return Err(Refused::Limit);
     }
-    let query = query(alloc, tokens.as_slice())?;
-    if query.items().len() > MAX_ITEMS {
-        return Err(Refused::Limit);
+    let query = query(alloc, tokens)?;
+    with_few_items(query)
+}
+
+/// The query, where it has not too many items.
+fn with_few_items(query: Query) -> Result<Query, Refused>
+    ensures { MatchResult result (λ q. (q ≡ query) × (length q.items ≤ item_limit)) (λ e. (e ≡ Refused.Limit) × (item_limit < length query.items)) }
+{
+    let fault = too_many_items(query.items());
+    unless(query, fault)
+}
+
+/// The fault of so many items, if they are too many.
+fn too_many_items(items: &[Item<Text>]) -> Option<Refused>
+    ensures { MatchOption result (length items.now ≤ item_limit) (λ e. (e ≡ Refused.Limit) × (item_limit < length items.now)) }
+{
+    if items.len() > MAX_ITEMS {
+        return Some(Refused::Limit);
     }
-    Ok(query)
+    None
 }
 
 /// The query that the tokens are.
@@ -89,12 +115,21 @@ fn tail(alloc: Global, tokens: &[Token]) -> Result<(Option<Predicate<Text>>, Vec
     ensures { Reads (λ x. ((x.0, x.1.items), [])) (Whole SpellsTail tokens.now) result }
 {
     if let Some(more) = after_word(tokens, "WHERE") {
-        let (condition, behind) = predicate(alloc, more)?;
-        let elements = groups(alloc, behind)?;
-        return Ok((Some(condition), elements));
+        return where_tail(alloc, more);
     }
     let elements = groups(alloc, tokens)?;
     Ok((None, elements))
+}
+
+/// The predicate behind WHERE, and the elements of GROUP BY.
+fn where_tail(
+    alloc: Global,
+    tokens: &[Token],
+) -> Result<(Option<Predicate<Text>>, Vec<Element>), Refused>
+    ensures { Reads (λ x. ((x.0, x.1.items), [])) (Whole SpellsTail (WHERE ∷ tokens.now)) result }
+{
+    let (condition, behind) = predicate(alloc, tokens)?;
+    beside(groups(alloc, behind), Some(condition))
 }
 
 /// The elements of GROUP BY. Without it, it is as with `GROUP BY ()`.
@@ -107,7 +142,14 @@ fn groups(alloc: Global, tokens: &[Token]) -> Result<Vec<Element>, Refused>
     let Some(more) = after_group_by(tokens) else {
         return Err(Refused::QuerySyntax);
     };
-    let (elements, rest) = elements(alloc, more)?;
+    last_elements(alloc, more)
+}
+
+/// The elements behind GROUP BY, with which the tokens end.
+fn last_elements(alloc: Global, tokens: &[Token]) -> Result<Vec<Element>, Refused>
+    ensures { Reads (λ v. (v.items, [])) (Whole SpellsEnd (GROUP ∷ BY ∷ tokens.now)) result }
+{
+    let (elements, rest) = elements(alloc, tokens)?;
     if is_end(rest) {
         return Ok(elements);
     }

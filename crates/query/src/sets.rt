@@ -1,5 +1,5 @@
 //! The grouping sets of GROUP BY.
-ghost use Rattle.std.specs.Prelude.{◌≡◌, [], IfOk, map};
+ghost use Rattle.std.specs.Prelude.{◌≡◌, ◌∷◌, [], IfOk, map};
 ghost use Rattle.std.specs.List.{flat_map};
 ghost use Rattle.query.specs.Marks.{joined, marked_from, marks};
 ghost use Rattle.query.specs.Sets.{cube, grouping_sets, names_column, places, rollup, sets_of};
@@ -75,8 +75,7 @@ fn grouping_marks(
 ) -> Result<Vec<Marks>, AllocError>
     ensures { IfOk result (λ sets. sets.items ≡ map (marks columns.now) (grouping_sets elements.now)) }
 {
-    let mut sets = Vec::new(alloc);
-    sets.push(no_marks(alloc, columns)?)?;
+    let mut sets = empty_set(alloc, columns)?;
     let mut left = elements.len();
     while left > 0 {
         left -= 1;
@@ -96,11 +95,7 @@ fn element_sets(
 {
     match &element.form {
         ElementForm::Empty => rollup(alloc, columns, &[]),
-        ElementForm::Unit(unit) => {
-            let mut sets = Vec::new(alloc);
-            sets.push(unit_marks(alloc, columns, unit)?)?;
-            Ok(sets)
-        }
+        ElementForm::Unit(unit) => unit_set(alloc, columns, unit),
         ElementForm::Rollup(units) => rollup(alloc, columns, units.as_slice()),
         ElementForm::Cube(units) => cube(alloc, columns, units.as_slice()),
         ElementForm::Sets(elements) => {
@@ -114,12 +109,29 @@ fn element_sets(
     }
 }
 
+/// The set of no column alone.
+fn empty_set(alloc: Global, columns: &[Column]) -> Result<Vec<Marks>, AllocError>
+    ensures { IfOk result (λ sets. sets.items ≡ marks columns.now [] ∷ []) }
+{
+    let mut sets = Vec::new(alloc);
+    sets.push(no_marks(alloc, columns)?)?;
+    Ok(sets)
+}
+
+/// The set of a unit alone.
+fn unit_set(alloc: Global, columns: &[Column], unit: &Unit) -> Result<Vec<Marks>, AllocError>
+    ensures { IfOk result (λ sets. sets.items ≡ marks columns.now unit.now ∷ []) }
+{
+    let mut sets = Vec::new(alloc);
+    sets.push(unit_marks(alloc, columns, unit)?)?;
+    Ok(sets)
+}
+
 /// The sets of ROLLUP.
 fn rollup(alloc: Global, columns: &[Column], units: &[Unit]) -> Result<Vec<Marks>, AllocError>
     ensures { IfOk result (λ sets. sets.items ≡ map (marks columns.now) (rollup units.now)) }
 {
-    let mut sets = Vec::new(alloc);
-    sets.push(no_marks(alloc, columns)?)?;
+    let mut sets = empty_set(alloc, columns)?;
     let mut left = units.len();
     while left > 0 {
         left -= 1;
@@ -135,8 +147,7 @@ fn rollup(alloc: Global, columns: &[Column], units: &[Unit]) -> Result<Vec<Marks
 fn cube(alloc: Global, columns: &[Column], units: &[Unit]) -> Result<Vec<Marks>, AllocError>
     ensures { IfOk result (λ sets. sets.items ≡ map (marks columns.now) (cube units.now)) }
 {
-    let mut sets = Vec::new(alloc);
-    sets.push(no_marks(alloc, columns)?)?;
+    let mut sets = empty_set(alloc, columns)?;
     let mut left = units.len();
     while left > 0 {
         left -= 1;

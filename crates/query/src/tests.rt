@@ -8,9 +8,10 @@ use cells::Refused::{self, Limit, QuerySyntax};
 use std::alloc::Global;
 use std::test::Fail;
 
-/// The fault of the text, or none where it is a query. Want of memory is an error.
-fn fault_of(alloc: Global, text: &str) -> Result<Option<Refused>, Refused> {
-    match read(alloc, text) {
+/// The fault, or none where there is a value. Want of memory is an error. It stands over any value, so that letting go
+/// of it is one call.
+fn fault_of<T: Drop>(answer: Result<T, Refused>) -> Result<Option<Refused>, Refused> {
+    match answer {
         Ok(_) => Ok(None),
         Err(Refused::OutOfMemory) => Err(Refused::OutOfMemory),
         Err(fault) => Ok(Some(fault)),
@@ -23,7 +24,7 @@ type Row = (&'static str, Option<Refused>);
 /// The first text of the table with another fault.
 fn first_wrong(alloc: Global, table: &[Row]) -> Result<Option<&'static str>, Refused> {
     for (text, fault) in table {
-        if fault_of(alloc, text)? != *fault {
+        if fault_of(read(alloc, text))? != *fault {
             return Ok(Some(*text));
         }
     }
@@ -57,7 +58,7 @@ fn long_text(alloc: Global, row: &Long) -> Result<String, Refused> {
 
 fn is_as_said(alloc: Global, row: &Long) -> Result<bool, Refused> {
     let text = long_text(alloc, row)?;
-    Ok(fault_of(alloc, text.as_str())? == row.fault)
+    Ok(fault_of(read(alloc, text.as_str()))? == row.fault)
 }
 
 /// The place of the first row with another fault.

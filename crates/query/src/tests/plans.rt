@@ -1,5 +1,12 @@
 //! Queries that are checked against a schema: their faults, their sets and headings, and truths over rows.
 
+ghost use Rattle.std.specs.Prelude.{◌≡◌, ℕ, Some, length};
+ghost use Rattle.cells.specs.Fitting.{IsRowOf};
+ghost use Rattle.query.specs.Trees.{PredicateTree};
+ghost use Rattle.query.specs.Truth.{IsOver};
+ghost use Rattle.query.specs.declared.test.Test.{Test as TestTree};
+
+use super::fault_of;
 use crate::Truth::{self, False, True, Unknown};
 use crate::{Plan, check, predicates_fit_rows, read};
 use cells::{Refused, Row, Schema, Text};
@@ -9,12 +16,8 @@ use std::test::Fail;
 const SALES: &str = "SALES (ID INT KEY, REGION TEXT, ITEM TEXT, UNITS INT)";
 
 /// The fault of the query for the schema, or none where it has a plan. Want of memory is an error.
-fn fault_of(alloc: Global, schema: &Schema, text: &str) -> Result<Option<Refused>, Refused> {
-    match check(alloc, read(alloc, text)?, schema) {
-        Ok(_) => Ok(None),
-        Err(Refused::OutOfMemory) => Err(Refused::OutOfMemory),
-        Err(fault) => Ok(Some(fault)),
-    }
+fn fault_for(alloc: Global, schema: &Schema, text: &str) -> Result<Option<Refused>, Refused> {
+    fault_of(check(alloc, read(alloc, text)?, schema))
 }
 
 /// A query, and its fault.
@@ -24,7 +27,7 @@ type Checked = (&'static str, Option<Refused>);
 fn first_wrong(alloc: Global, table: &[Checked]) -> Result<Option<&'static str>, Refused> {
     let schema = Schema::read(alloc, SALES)?;
     for (text, fault) in table {
-        if fault_of(alloc, &schema, text)? != *fault {
+        if fault_for(alloc, &schema, text)? != *fault {
             return Ok(Some(*text));
         }
     }
@@ -132,7 +135,11 @@ fn repeated(alloc: Global, row: &Counted) -> Result<String, Refused> {
 /// How many grouping sets the query has, or None where they are too many.
 fn sets_of(alloc: Global, schema: &Schema, text: &str) -> Result<Option<usize>, Refused> {
     match check(alloc, read(alloc, text)?, schema) {
-        Ok(plan) => Ok(Some(plan.sets().len())),
+        Ok(plan) => {
+            let count = plan.sets().len();
+            drop(plan);
+            Ok(Some(count))
+        }
         Err(Refused::TooManySets) => Ok(None),
         Err(fault) => Err(fault),
     }
@@ -183,12 +190,24 @@ fn has_sets(plan: &Plan, sets: &[&[usize]]) -> bool {
     true
 }
 
+/// Whether the plan of the query has these sets.
+fn gives_sets(
+    alloc: Global,
+    schema: &Schema,
+    text: &str,
+    sets: &[&[usize]],
+) -> Result<bool, Refused> {
+    let plan = check(alloc, read(alloc, text)?, schema)?;
+    let is_so = has_sets(&plan, sets);
+    drop(plan);
+    Ok(is_so)
+}
+
 /// The first query of the table with other sets.
 fn first_other_sets(alloc: Global, table: &[Listed]) -> Result<Option<&'static str>, Refused> {
     let schema = Schema::read(alloc, SALES)?;
     for (text, sets) in table {
-        let plan = check(alloc, read(alloc, text)?, &schema)?;
-        if !has_sets(&plan, sets) {
+        if !gives_sets(alloc, &schema, text, sets)? {
             return Ok(Some(*text));
         }
     }
@@ -248,45 +267,71 @@ const HEADINGS: &[&str] = &[
     "MAX(ID)",
 ];
 
+/// Whether the plan has these headings, and so many items.
+fn has_headings(plan: &Plan, headings: &[&str]) -> bool {
+    plan.items().len() == headings.len() && are_texts(plan.headings(), headings)
+}
+
+/// Whether the plan of the query has these headings, and so many items.
+fn gives_headings(alloc: Global, text: &str, headings: &[&str]) -> Result<bool, Refused> {
+    let schema = Schema::read(alloc, SALES)?;
+    let plan = check(alloc, read(alloc, text)?, &schema)?;
+    let is_so = has_headings(&plan, headings);
+    drop(plan);
+    Ok(is_so)
+}
+
 #[test]
 fn headings_are_the_items(rt: HostRuntime) -> Result<(), Fail> {
-    let alloc = rt.alloc();
-    let schema = Schema::read(alloc, SALES)?;
-    let plan = check(alloc, read(alloc, ITEMS)?, &schema)?;
-    assert!(rt; are_texts(plan.headings(), HEADINGS));
-    assert_eq!(rt; plan.items().len(), 8);
+    assert!(rt; gives_headings(rt.alloc(), ITEMS, HEADINGS)?);
     Ok(())
 }
 
 /// A condition in WHERE, and its truth over the row `1,b,,5`, whose ITEM is NULL.
 type Judged = (&'static str, Truth);
 
-/// The truth of the query's condition over the row of the fields, if it has one.
-fn truth_of(
+/// The truth of the query's condition over the row, if it has one.
+fn truth_of(alloc: Global, schema: &Schema, text: &str, row: &Row) -> Result<Option<Truth>, Refused>
+    requires { IsRowOf schema.now row.now }
+{
+    let plan = check(alloc, read(alloc, text)?, schema)?;
+    predicates_fit_rows();
+    let truth = truth_by(&plan, row);
+    drop(plan);
+    Ok(truth)
+}
+
+/// The truth of the plan's condition over the row, if it has one.
+fn truth_by(plan: &Plan, row: &Row) -> Option<Truth>
+    requires { (predicate : PredicateTree (TestTree ℕ)) → plan.now.condition ≡ Some predicate → IsOver (length row.now.cells) predicate }
+{
+    let condition = plan.condition()?;
+    Some(condition.truth(row))
+}
+
+/// The first query of the table with another truth over the row.
+fn first_wrong_over(
     alloc: Global,
     schema: &Schema,
-    text: &str,
-    fields: &[&[u8]],
-) -> Result<Option<Truth>, Refused> {
-    let plan = check(alloc, read(alloc, text)?, schema)?;
-    let row = Row::read(alloc, fields, schema)?;
-    predicates_fit_rows();
-    let Some(condition) = plan.condition() else {
-        return Ok(None);
-    };
-    Ok(Some(condition.truth(&row)))
+    row: &Row,
+    table: &[Judged],
+) -> Result<Option<&'static str>, Refused>
+    requires { IsRowOf schema.now row.now }
+{
+    for (text, truth) in table {
+        if truth_of(alloc, schema, text, row)? != Some(*truth) {
+            return Ok(Some(*text));
+        }
+    }
+    Ok(None)
 }
 
 /// The first query of the table with another truth.
 fn first_wrong_truth(alloc: Global, table: &[Judged]) -> Result<Option<&'static str>, Refused> {
     let schema = Schema::read(alloc, SALES)?;
     let fields: [&[u8]; 4] = [b"1", b"b", b"", b"5"];
-    for (text, truth) in table {
-        if truth_of(alloc, &schema, text, &fields)? != Some(*truth) {
-            return Ok(Some(*text));
-        }
-    }
-    Ok(None)
+    let row = Row::read(alloc, &fields, &schema)?;
+    first_wrong_over(alloc, &schema, &row, table)
 }
 
 const JUDGED: &[Judged] = &[

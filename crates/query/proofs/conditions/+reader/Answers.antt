@@ -1,19 +1,14 @@
-use Rattle.std.proofs.Common.{ap, arith, length, inr, refl}
+use Rattle.std.proofs.Common.{ap, arith, length}
 use Rattle.std.proofs.lemmas.Result.{err_from_is_err_and}
 use Rattle.query.specs.Grammar.{AND, OR, SpellsTerm, SpellsFactor, rparen}
 use Rattle.query.specs.Reading.{AfterAnd, Any}
-use Rattle.query.proofs.Lists.{closed, kept_end, kept_next, not_closed, turn_err, turn_found}
+use Rattle.query.proofs.Lists.{kept_end, kept_next, reads_closed, turn_err, turn_found, turn_reads}
 use Rattle.query.proofs.Predicates.{term_factors, factor_not, factor_plain, or_ends_and, paren_ends, predicate_terms, primary_parens, primary_test}
 use Rattle.query.proofs.conditions.+reader.Goals as goal
 
-pub primary-returns-in_err-inner-clause-reads : goal.primary-returns-in_err-inner-clause-reads
-primary-returns-in_err-inner-clause-reads t c =
-    let p = err_from_is_err_and c.from_residual.result c.from_residual.ensures.1 in
-    rw (p.1, p.2) (turn_err (primary_parens c.args.tokens.now c.in-Some.more.now c.in-Some.ensures) c.in_err-inner.ensures.reads)
-
 pub primary-returns-in-Some-clause-reads : goal.primary-returns-in-Some-clause-reads
 primary-returns-in-Some-clause-reads t c =
-    turn_found (primary_parens c.args.tokens.now c.in-Some.more.now c.in-Some.ensures) c.in_ok-inner.ensures.reads
+    turn_reads (λ x. (x.0, x.1.now)) c.predicate_in.result (primary_parens c.args.tokens.now c.in-Some.more.now c.in-Some.ensures) c.predicate_in.ensures.reads
 
 pub primary-returns-clause-reads : goal.primary-returns-clause-reads
 primary-returns-clause-reads t c =
@@ -30,7 +25,7 @@ factor-returns-in-Some-clause-reads t c =
 
 pub factor-returns-clause-reads : goal.factor-returns-clause-reads
 factor-returns-clause-reads t c =
-    turn_found (factor_plain c.args.tokens.now c.in_default.ensures) c.in_ok-inner-2.ensures.reads
+    turn_reads (λ x. (x.0, x.1.now)) c.primary-2.result (factor_plain c.args.tokens.now c.in_default.ensures) c.primary-2.ensures.reads
 
 pub term-returns-in_err-factors-clause-reads : goal.term-returns-in_err-factors-clause-reads
 term-returns-in_err-factors-clause-reads t c =
@@ -82,10 +77,6 @@ terms-loop-found-preserved t c =
       shorter = omega (arith, c.in_ok-term.ensures.shorter);
     }
 
-pub predicate_in-returns-in_default-clause-reads : goal.predicate_in-returns-in_default-clause-reads
-predicate_in-returns-in_default-clause-reads t c =
-    inr (refl, not_closed rparen c.args.tokens.now paren_ends c.in_ok-predicate.ensures.reads c.in_default.ensures)
-
 pub predicate_in-returns-clause-reads : goal.predicate_in-returns-clause-reads
 predicate_in-returns-clause-reads t c =
-    closed rparen c.args.tokens.now paren_ends c.in_ok-predicate.ensures.reads c.in-Some.behind.now c.in-Some.ensures
+    reads_closed rparen c.args.tokens.now paren_ends (λ s. s.now) c.in_ok-predicate.predicate c.in_ok-predicate.rest.now c.closed.result c.in_ok-predicate.ensures.reads c.closed.ensures

@@ -1,31 +1,14 @@
-use Rattle.std.proofs.lemmas.Result.{err_from_is_err_and}
-use Rattle.query.proofs.Lists.{turn_err, turn_found}
-use Rattle.query.proofs.TestsLemmas.{test_compare, test_is, test_range}
+use Rattle.query.proofs.Lists.{turn_reads}
+use Rattle.query.proofs.TestsLemmas.{test_is, test_range}
 use Rattle.query.proofs.conditions.test_after.Goals as goal
 
-pub returns-in_err-right-clause-reads : goal.returns-in_err-right-clause-reads
-returns-in_err-right-clause-reads c =
-    let p = err_from_is_err_and c.from_residual.result c.from_residual.ensures.1 in
-    rw (p.1, p.2) (turn_err (test_compare c.args.left c.args.tokens.now c.in-Some.comparison c.in-Some.more.now c.in-Some.ensures.exact) c.in_err-right.ensures.reads)
-
 pub returns-in-Some-clause-reads : goal.returns-in-Some-clause-reads
-returns-in-Some-clause-reads c =
-    turn_found (test_compare c.args.left c.args.tokens.now c.in-Some.comparison c.in-Some.more.now c.in-Some.ensures.exact) c.in_ok-right.ensures.reads
-
-pub returns-in_err-test-clause-reads : goal.returns-in_err-test-clause-reads
-returns-in_err-test-clause-reads c =
-    let p = err_from_is_err_and c.from_residual-in_err-test.result c.from_residual-in_err-test.ensures.1 in
-    rw (p.1, p.2) (turn_err (test_is c.args.left c.args.tokens.now c.in-Some-after_word.more.now c.in-Some-after_word.ensures) c.in_err-test.ensures.reads)
+returns-in-Some-clause-reads c = c.compare_test.ensures.reads c.args.tokens.now c.in-Some.ensures.exact
 
 pub returns-in-Some-after_word-clause-reads : goal.returns-in-Some-after_word-clause-reads
 returns-in-Some-after_word-clause-reads c =
-    turn_found (test_is c.args.left c.args.tokens.now c.in-Some-after_word.more.now c.in-Some-after_word.ensures) c.in_ok-test.ensures.reads
-
-pub returns-in_err-test-2-clause-reads : goal.returns-in_err-test-2-clause-reads
-returns-in_err-test-2-clause-reads c =
-    let p = err_from_is_err_and c.from_residual-in_err-test-2.result c.from_residual-in_err-test-2.ensures.1 in
-    rw (p.1, p.2) (turn_err (test_range c.args.left c.args.tokens.now c.in_default.ensures.exact c.in_default-after_word.ensures c.not_mark-negated.result.0 c.not_mark-negated.result.1.now c.not_mark-negated.ensures.marked) c.in_err-test-2.ensures.reads)
+    turn_reads (λ x. (x.0, x.1.now)) c.null_test.result (test_is c.args.left c.args.tokens.now c.in-Some-after_word.more.now c.in-Some-after_word.ensures) c.null_test.ensures.reads
 
 pub returns-clause-reads : goal.returns-clause-reads
 returns-clause-reads c =
-    turn_found (test_range c.args.left c.args.tokens.now c.in_default.ensures.exact c.in_default-after_word.ensures c.not_mark-negated.result.0 c.not_mark-negated.result.1.now c.not_mark-negated.ensures.marked) c.in_ok-test-2.ensures.reads
+    turn_reads (λ x. (x.0, x.1.now)) c.range_test.result (test_range c.args.left c.args.tokens.now c.in_default.ensures.exact c.in_default-after_word.ensures c.not_mark-negated.result.0 c.not_mark-negated.result.1.now c.not_mark-negated.ensures.marked) c.range_test.ensures.reads

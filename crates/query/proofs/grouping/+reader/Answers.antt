@@ -2,17 +2,9 @@ use Rattle.std.proofs.Common.{ap, arith, length, inr, refl}
 use Rattle.std.proofs.lemmas.Result.{err_from_is_err_and}
 use Rattle.query.specs.Grammar.{SpellsElement, comma, rparen}
 use Rattle.query.specs.Reading.{Any}
-use Rattle.query.proofs.Elements.{element_empty, element_rollup, element_cube, element_sets, element_unit}
-use Rattle.query.proofs.Lists.{closed, kept_end, kept_next, not_closed, turn_err, turn_found}
+use Rattle.query.proofs.Elements.{element_empty, sets_behind}
+use Rattle.query.proofs.Lists.{closed, err_closed, kept_end, kept_next, not_closed, turn_err, turn_found, turn_nothing}
 use Rattle.query.proofs.grouping.+reader.Goals as goal
-
-pub elements_in-returns-in_default-clause-reads : goal.elements_in-returns-in_default-clause-reads
-elements_in-returns-in_default-clause-reads t c =
-    inr (refl, not_closed rparen c.args.tokens.now (λ r. record { no_more = λ us e. cc; apart = tt }) c.in_ok-elements.ensures.reads c.in_default.ensures)
-
-pub elements_in-returns-clause-reads : goal.elements_in-returns-clause-reads
-elements_in-returns-clause-reads t c =
-    closed rparen c.args.tokens.now (λ r. record { no_more = λ us e. cc; apart = tt }) c.in_ok-elements.ensures.reads c.in-Some.behind.now c.in-Some.ensures
 
 pub elements-returns-in_default-clause-reads : goal.elements-returns-in_default-clause-reads
 elements-returns-in_default-clause-reads t c =
@@ -33,38 +25,33 @@ elements-loop-found-preserved t c =
 pub element-returns-in-Some-clause-reads : goal.element-returns-in-Some-clause-reads
 element-returns-in-Some-clause-reads t c = rw c.empty.ensures (element_empty c.args.tokens.now c.in-Some.rest.now c.in-Some.ensures)
 
-pub element-returns-in_err-units-clause-reads : goal.element-returns-in_err-units-clause-reads
-element-returns-in_err-units-clause-reads t c =
-    let p = err_from_is_err_and c.from_residual.result c.from_residual.ensures.1 in
-    rw (p.1, p.2) (turn_err (element_rollup c.args.tokens.now c.in-Some-after_call.more.now c.in-Some-after_call.ensures) c.in_err-units.ensures.reads)
-
 pub element-returns-in-Some-after_call-clause-reads : goal.element-returns-in-Some-after_call-clause-reads
-element-returns-in-Some-after_call-clause-reads t c =
-    rw c.rollup.ensures (turn_found (element_rollup c.args.tokens.now c.in-Some-after_call.more.now c.in-Some-after_call.ensures) c.in_ok-units.ensures.reads)
-
-pub element-returns-in_err-units-2-clause-reads : goal.element-returns-in_err-units-2-clause-reads
-element-returns-in_err-units-2-clause-reads t c =
-    let p = err_from_is_err_and c.from_residual-in_err-units-2.result c.from_residual-in_err-units-2.ensures.1 in
-    rw (p.1, p.2) (turn_err (element_cube c.args.tokens.now c.in-Some-after_call-2.more.now c.in-Some-after_call-2.ensures) c.in_err-units-2.ensures.reads)
+element-returns-in-Some-after_call-clause-reads t c = rw c.in-Some-after_call.ensures c.rollup_element.ensures.reads
 
 pub element-returns-in-Some-after_call-2-clause-reads : goal.element-returns-in-Some-after_call-2-clause-reads
-element-returns-in-Some-after_call-2-clause-reads t c =
-    rw c.cube.ensures (turn_found (element_cube c.args.tokens.now c.in-Some-after_call-2.more.now c.in-Some-after_call-2.ensures) c.in_ok-units-2.ensures.reads)
-
-pub element-returns-in_err-elements-clause-reads : goal.element-returns-in_err-elements-clause-reads
-element-returns-in_err-elements-clause-reads t c =
-    let p = err_from_is_err_and c.from_residual-in_err-elements.result c.from_residual-in_err-elements.ensures.1 in
-    rw (p.1, p.2) (turn_err (element_sets c.args.tokens.now c.in-Some-after_sets.more.now c.in-Some-after_sets.ensures) c.in_err-elements.ensures.reads)
+element-returns-in-Some-after_call-2-clause-reads t c = rw c.in-Some-after_call-2.ensures c.cube_element.ensures.reads
 
 pub element-returns-in-Some-after_sets-clause-reads : goal.element-returns-in-Some-after_sets-clause-reads
-element-returns-in-Some-after_sets-clause-reads t c =
-    rw c.sets.ensures (turn_found (element_sets c.args.tokens.now c.in-Some-after_sets.more.now c.in-Some-after_sets.ensures) c.in_ok-elements.ensures.reads)
+element-returns-in-Some-after_sets-clause-reads t c = rw c.in-Some-after_sets.ensures c.sets_element.ensures.reads
 
 pub element-returns-clause-reads : goal.element-returns-clause-reads
 element-returns-clause-reads t c =
-    rw c.unit-2.ensures (turn_found (element_unit c.args.tokens.now (record {
+    c.unit_element.ensures.reads (record {
       no_empty = c.in_default.ensures;
       no_rollup = c.in_default-after_call.ensures;
       no_cube = c.in_default-after_call-2.ensures;
       no_sets = c.in_default-after_sets.ensures;
-    })) c.in_ok-unit.ensures.reads)
+    })
+
+pub sets_element-returns-in_err-elements-clause-reads : goal.sets_element-returns-in_err-elements-clause-reads
+sets_element-returns-in_err-elements-clause-reads t c =
+    let p = err_from_is_err_and c.from_residual.result c.from_residual.ensures.1 in
+    rw (p.1, p.2) (turn_err (sets_behind c.args.tokens.now) (err_closed rparen c.args.tokens.now (λ r. record { no_more = λ us e. cc; apart = tt }) c.in_err-elements.ensures.reads))
+
+pub sets_element-returns-in_default-clause-reads : goal.sets_element-returns-in_default-clause-reads
+sets_element-returns-in_default-clause-reads t c =
+    inr (refl, turn_nothing (sets_behind c.args.tokens.now) (not_closed rparen c.args.tokens.now (λ r. record { no_more = λ us e. cc; apart = tt }) c.in_ok-elements.ensures.reads c.in_default.ensures))
+
+pub sets_element-returns-clause-reads : goal.sets_element-returns-clause-reads
+sets_element-returns-clause-reads t c =
+    rw c.sets.ensures (turn_found (sets_behind c.args.tokens.now) (closed rparen c.args.tokens.now (λ r. record { no_more = λ us e. cc; apart = tt }) c.in_ok-elements.ensures.reads c.in-Some.behind.now c.in-Some.ensures))

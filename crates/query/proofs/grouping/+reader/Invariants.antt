@@ -10,8 +10,8 @@ decreases-element l = 3 * length l.tokens.now
 abbrev pub decreases-elements : goal.decreases-elements
 decreases-elements l = 3 * length l.tokens.now + 1
 
-abbrev pub decreases-elements_in : goal.decreases-elements_in
-decreases-elements_in l = 3 * length l.tokens.now + 2
+abbrev pub decreases-sets_element : goal.decreases-sets_element
+decreases-sets_element l = 3 * length l.tokens.now + 2
 
 abbrev pub invariant-elements-loop-found : goal.invariant-elements-loop-found
 invariant-elements-loop-found l = record { kept : Kept comma SpellsElement Any (λ us. tt) l.tokens l.found.items l.rest; shorter : length l.rest ≤ length l.tokens }
