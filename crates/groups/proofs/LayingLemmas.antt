@@ -1,0 +1,237 @@
+-- Groups laid over tries.
+use Rattle.std.specs.Prelude.{◌≡◌, ◌==◌, ℕ, ◌+◌, ◌<◌, ◌≤◌, Bool, true, false, not, ◌&&◌, List, [], ◌∷◌, ◌++◌, length, take, drop, Option, Some, None, IfSome, cond, if◌then◌else◌, refl}
+use Rattle.std.specs.FinMap as map
+use Rattle.std.specs.FinMap.{FinMap, IsAntisymmetric}
+use Rattle.std.specs.List.{AllByRecursion}
+use Rattle.std.specs.Ordering.{is_eq, is_lt}
+use Rattle.std.specs.declared.cmp.Ordering.{Ordering}
+use Rattle.std.proofs.Common.{eqb-true, get_or, ap, sym, ◌∙◌, subst, arith}
+use Rattle.std.proofs.lemmas.List.{drop_more, length-append, length-map, length-take, take_all, take_more, take-append-drop}
+use Rattle.std.proofs.lemmas.List.Sorted.{length_permutation}
+use Rattle.aggs.specs.Accs.{acc_kind, acc_of, acc_room, kind_of}
+use Rattle.aggs.specs.Room.{cell_limit}
+use Rattle.aggs.specs.declared.acc.Acc.{Acc}
+use Rattle.cells.specs.SameKeys.{exact_tuples, same_tuples}
+use Rattle.cells.specs.TupleOrder.{tuple_cmp, tuple_cmp-total, tuple_eq}
+use Rattle.cells.specs.Values.{Entry}
+use Rattle.cells.specs.declared.cell.Cell.{Cell}
+use Rattle.groups.specs.Accumulators.{AllFit, accs_of, both, group, group_or, is_start, no_rows}
+use Rattle.groups.specs.Folding.{AreParts, Covers, FitsRow, Group, IsFolded, IsPart, joined}
+use Rattle.groups.specs.Groups.{cell_at, column_of, members, tuple_of}
+use Rattle.groups.specs.Laws.{all_kept, kept_short}
+use Rattle.groups.specs.Laying.{CanMeet, IsLaid, Lays, found, given, met_from}
+use Rattle.groups.specs.Partials.{StandsAt}
+use Rattle.groups.specs.declared.aggregation.Aggregation.{Aggregation}
+use Rattle.groups.proofs.FoldingLemmas.{all_in_order, covers_none, met_covers, met_joined, stored_column}
+use Rattle.groups.proofs.TuplesLemmas.{all_both, all_first, all_second}
+use Rattle.trie.specs.Digits.{digit_order}
+use Rattle.trie.specs.Entries.{value_at, with_pair}
+use Rattle.trie.specs.Maps.{map_of}
+
+-- with a pair more a list is longer by one at most
+module _ {K V : Type 0} (order : K → K → Ordering) (key : K) (value : V) where
+  pub pair_longer : (es : List (K × V)) → length (with_pair order key value es) ≤ length es + 1
+  pair_longer [] = omega arith
+  pair_longer (e ∷ es) = cases (is_lt (order key e.0)) (is_eq (order key e.0)) (pair_longer es)
+    where
+      cases : (b c : Bool) → length (with_pair order key value es) ≤ length es + 1 →
+          length (if b then (key, value) ∷ e ∷ es else if c then (key, value) ∷ es else e ∷ with_pair order key value es) ≤ length (e ∷ es) + 1
+      cases true c rest = omega arith
+      cases false true rest = omega arith
+      cases false false rest = omega (arith, rest)
+
+-- what a trie's law says: its entries are a finite map
+pub record AreMaps (H : Type 0) (hash : List Cell → ℕ) : Type 0 where
+  pub value : (es : List (Group H)) (t : List Cell) → map.get (map_of tuple_cmp es) t ≡ found hash es t
+  pub put : (es : List (Group H)) (t : List Cell) (accs : List (Acc H)) → IsAntisymmetric tuple_cmp →
+      map_of tuple_cmp (with_pair (digit_order hash tuple_cmp) t accs es) ≡ map.insert (map_of tuple_cmp es) t accs
+
+-- ---- what rows went into can be put together
+module _ (H : Type 0) where
+  all_fit_by : (all : List Aggregation) (xs ys : List Entry) → AllByRecursion (FitsRow all) xs → AllByRecursion (FitsRow all) ys →
+      length xs + length ys ≤ cell_limit → (aggregations : List Aggregation) → AllFit (accs_of {H = H} aggregations xs) (accs_of aggregations ys)
+  all_fit_by all xs ys s t few [] = tt
+  all_fit_by all xs ys s t few (a ∷ aggregations) = (
+    acc_room H a.kind (column_of a.column xs) (column_of a.column ys) (record {
+      first = stored_column all a.column xs s;
+      second = stored_column all a.column ys t;
+      few = omega (arith, few, length-map xs (cell_at a.column), length-map ys (cell_at a.column));
+    }),
+    acc_kind H a.kind (column_of a.column xs) ∙ sym (acc_kind H a.kind (column_of a.column ys)),
+    all_fit_by all xs ys s t few aggregations,
+  )
+
+  pub all_fit : (aggregations : List Aggregation) (xs ys : List Entry) → AllByRecursion (FitsRow aggregations) xs → AllByRecursion (FitsRow aggregations) ys →
+      length xs + length ys ≤ cell_limit → AllFit (accs_of {H = H} aggregations xs) (accs_of aggregations ys)
+  all_fit aggregations xs ys s t few = all_fit_by aggregations xs ys s t few aggregations
+
+module _ {H : Type 0} where
+  pub both_none : (o : Option (List (Acc H))) → both o None ≡ o
+  both_none None = refl
+  both_none (Some a) = refl
+
+  module _ (hash : List Cell → ℕ) (maps : AreMaps H hash) where
+    -- a value laid at a tuple
+    value_laid : (es : List (Group H)) (t : List Cell) (sum : List (Acc H)) (q : List Cell) →
+        found hash (with_pair (digit_order hash tuple_cmp) t sum es) q ≡ cond (tuple_eq q t) (Some sum) (found hash es q)
+    value_laid es t sum q =
+        sym (maps.value (with_pair (digit_order hash tuple_cmp) t sum es) q)
+        ∙ ap (λ m. map.get m q) (maps.put es t sum exact_tuples)
+        ∙ map.get-insert tuple_cmp-total (map_of tuple_cmp es) t sum q
+        ∙ ap (cond (tuple_eq q t) (Some sum)) (maps.value es q)
+
+    pub laid : (es new : List (Group H)) (t : List Cell) (accs sum : List (Acc H)) → Some sum ≡ both (found hash es t) (Some accs) →
+        new ≡ with_pair (digit_order hash tuple_cmp) t sum es → Lays hash t accs es new
+    laid es new t accs sum e is = record {
+      gives = λ q. ap (λ l. found hash l q) is ∙ value_laid es t sum q ∙ cases q (tuple_eq q t) refl;
+      longer = rw is (pair_longer (digit_order hash tuple_cmp) t sum es);
+    }
+      where
+        cases : (q : List Cell) (b : Bool) → tuple_eq q t ≡ b →
+            cond b (Some sum) (found hash es q) ≡ both (found hash es q) (cond b (Some accs) None)
+        cases q true p = let same : q ≡ t = same_tuples q t p in rw same e
+        cases q false p = sym (both_none (found hash es q))
+
+  module _ (hash : List Cell → ℕ) where
+    -- the start of the empty set, and of a set that is not
+    pub started_empty : (aggregations : List Aggregation) (columns : List ℕ) (tuple : List Cell) (accs : List (Acc H)) (old new : List (Group H)) → columns ≡ [] →
+        tuple ≡ [] → accs ≡ accs_of aggregations [] → old ≡ [] → Lays hash tuple accs old new → IsLaid hash aggregations columns [] new
+    started_empty aggregations columns tuple accs old new none empty are nothing lays = record {
+      gives = λ q. lays.gives q ∙ rw (none, empty, are, nothing) (by_tuple q);
+      short = omega (arith, lays.longer, ap length nothing);
+    }
+      where
+        by_tuple : (q : List Cell) → both None (given ([], accs_of {H = H} aggregations []) q) ≡ group aggregations [] [] q
+        by_tuple [] = refl
+        by_tuple (x ∷ q) = refl
+
+    pub started_other : (aggregations : List Aggregation) (columns : List ℕ) (new : List (Group H)) → (columns ≡ [] → ⊥) →
+        new ≡ [] → IsLaid hash aggregations columns [] new
+    started_other aggregations [] new some none = absurd (some refl)
+    started_other aggregations (c ∷ columns) new some none = record {
+      gives = λ q. ap (λ l. found hash l q) none;
+      short = rw none (omega arith);
+    }
+
+  met_push : (start : Option (List (Acc H))) (groups : List (Group H)) (g : Group H) (t : List Cell) →
+      met_from start (groups ++ g ∷ []) t ≡ both (met_from start groups t) (given g t)
+  met_push start [] g t = refl
+  met_push start (h ∷ groups) g t = met_push (both start (given h t)) groups g t
+
+  module _ (hash : List Cell → ℕ) (aggregations : List Aggregation) (columns : List ℕ) (groups : List (Group H)) (i : ℕ)
+      (g : Group H) (h : i < length groups) (is : g ≡ get_or groups i g) where
+    one_more_group : take (i + 1) groups ≡ take i groups ++ g ∷ []
+    one_more_group = take_more groups i g h ∙ ap (λ x. take i groups ++ x ∷ []) (sym is)
+
+    laid_more : (old new : List (Group H)) → IsLaid hash aggregations columns (take i groups) old → Lays hash g.0 g.1 old new →
+        IsLaid hash aggregations columns (take (i + 1) groups) new
+    laid_more old new now lays = record {
+      gives = λ t. lays.gives t ∙ ap (λ o. both o (given g t)) (now.gives t)
+          ∙ sym (met_push (group aggregations columns [] t) (take i groups) g t) ∙ ap (λ l. met_from (group aggregations columns [] t) l t) (sym one_more_group);
+      short = omega (arith, now.short, lays.longer, length-take i groups, length-take (i + 1) groups);
+    }
+
+    fits_next : (old : List (Group H)) → IsLaid hash aggregations columns (take i groups) old → CanMeet aggregations columns groups →
+        IfSome (found hash old g.0) (λ o. AllFit o g.1)
+    fits_next old now can = subst (λ o. IfSome o (λ o. AllFit o g.1)) (sym (now.gives g.0))
+        (can.fit (take i groups) (drop (i + 1) groups) g
+        (sym (take-append-drop i groups) ∙ ap (λ l. take i groups ++ l) (drop_more groups i g h ∙ ap (λ x. x ∷ drop (i + 1) groups) (sym is))))
+
+    pub laid_copy : (old new : List (Group H)) (t : List Cell) (a : List (Acc H)) → IsLaid hash aggregations columns (take i groups) old → t ≡ g.0 → a ≡ g.1 → Lays hash t a old new →
+        IsLaid hash aggregations columns (take (i + 1) groups) new
+    laid_copy old new t a now p q lays = laid_more old new now (subst (λ u. Lays hash u g.1 old new) p (subst (λ b. Lays hash t b old new) q lays))
+
+    pub fits_copy : (old : List (Group H)) (t : List Cell) (a : List (Acc H)) → IsLaid hash aggregations columns (take i groups) old → CanMeet aggregations columns groups →
+        t ≡ g.0 → a ≡ g.1 → IfSome (found hash old t) (λ o. AllFit o a)
+    fits_copy old t a now can p q = subst (λ u. IfSome (found hash old u) (λ o. AllFit o a)) (sym p) (subst (λ b. IfSome (found hash old g.0) (λ o. AllFit o b)) (sym q) (fits_next old now can))
+
+    pub room_next : (old : List (Group H)) → IsLaid hash aggregations columns (take i groups) old → length old ≤ i + 1
+    room_next old now = omega (arith, now.short, length-take i groups)
+
+  pub laid_all : {hash : List Cell → ℕ} {aggregations : List Aggregation} {columns : List ℕ} {groups old : List (Group H)} {i : ℕ} →
+      IsLaid hash aggregations columns (take i groups) old → length groups ≤ i → IsLaid hash aggregations columns groups old
+  laid_all {hash} {aggregations} {columns} {groups} {old} {i} now h =
+      subst (λ l. IsLaid hash aggregations columns l old) (take_all i groups h) now
+
+  module _ (aggregations : List Aggregation) (columns : List ℕ) where
+    record IsSplit (before : List (Group H)) (g : Group H) (parts : List (List Entry)) : Type 0 where
+      firsts : List (List Entry)
+      part : List Entry
+      are : AreParts aggregations columns before firsts
+      is : IsPart aggregations columns g part
+      fit : AllByRecursion (FitsRow aggregations) (joined firsts)
+      fits : AllByRecursion (FitsRow aggregations) part
+      short : length (joined firsts) + length part ≤ length (joined parts)
+
+    split_at : (before after : List (Group H)) (g : Group H) (parts : List (List Entry)) →
+        AreParts aggregations columns (before ++ g ∷ after) parts → AllByRecursion (FitsRow aggregations) (joined parts) → IsSplit before g parts
+    split_at [] after g [] are all = absurd are
+    split_at [] after g (p ∷ parts) are all = record {
+      firsts = [];
+      part = p;
+      are = tt;
+      is = are.0;
+      fit = tt;
+      fits = all_first _ p (joined parts) all;
+      short = omega (arith, length-append p (joined parts));
+    }
+    split_at (b ∷ before) after g [] are all = absurd are
+    split_at (b ∷ before) after g (p ∷ parts) are all =
+        let rest = split_at before after g parts are.1 (all_second _ p (joined parts) all) in
+        record {
+          firsts = p ∷ rest.firsts;
+          part = rest.part;
+          are = (are.0, rest.are);
+          is = rest.is;
+          fit = all_both _ p (joined rest.firsts) (all_first _ p (joined parts) all) rest.fit;
+          fits = rest.fits;
+          short = omega (arith, rest.short, length-append p (joined parts), length-append p (joined rest.firsts));
+        }
+
+    fits_group : (start : Bool) (rows : List Entry) (accs : List (Acc H)) → AllFit (accs_of aggregations rows) accs →
+        IfSome (group_or aggregations start rows) (λ o. AllFit o accs)
+    fits_group start rows accs fit = one (no_rows rows && not start)
+      where
+        one : (b : Bool) → IfSome (cond b None (Some (accs_of aggregations rows))) (λ o. AllFit o accs)
+        one true = tt
+        one false = fit
+
+    pub can_meet : (groups : List (Group H)) → IsFolded aggregations columns groups → CanMeet aggregations columns groups
+    can_meet groups folded = let covers = folded.covers in record {
+      fit = λ before after g e.
+          let split = split_at before after g covers.parts (subst (λ gs. AreParts aggregations columns gs covers.parts) e covers.each)
+          (all_in_order _ folded.rows (joined covers.parts) covers.all (folded.can).each) in
+          let ms = members columns g.0 (joined split.firsts) in
+          let test : Entry → Bool = λ r. tuple_eq (tuple_of columns r) g.0 in
+          subst (λ o. IfSome o (λ old. AllFit old g.1)) (sym (met_joined aggregations columns before split.firsts [] g.0 split.are))
+          (fits_group (is_start columns g.0) ms g.1 (subst (AllFit (accs_of aggregations ms)) (sym split.is.accs)
+          (all_fit H aggregations ms split.part (all_kept _ test (joined split.firsts) split.fit) split.fits
+          (omega (arith, kept_short test (joined split.firsts), split.short, (folded.can).few, length_permutation folded.rows (joined covers.parts) covers.all)))));
+    }
+
+    pub stands : (hash : List Cell → ℕ) (rows : List Entry) (groups entries : List (Group H)) → Covers aggregations columns rows groups →
+        IsLaid hash aggregations columns groups entries → StandsAt hash aggregations columns rows entries
+    stands hash rows groups entries covers laid = record { gives = λ t. laid.gives t ∙ met_covers aggregations columns rows groups t covers }
+
+    pub start_stands : (hash : List Cell → ℕ) (entries : List (Group H)) → IsLaid hash aggregations columns [] entries → StandsAt hash aggregations columns [] entries
+    start_stands hash entries laid = stands hash [] [] entries (covers_none aggregations columns) laid
+
+  module _ (aggregations : List Aggregation) (columns : List ℕ) (its groups : List (Group H)) (same : its ≡ groups) where
+    pub bag_meets : IsFolded aggregations columns groups → CanMeet aggregations columns its
+    bag_meets folded = subst (CanMeet aggregations columns) (sym same) (can_meet aggregations columns groups folded)
+
+    pub bag_stands : (hash : List Cell → ℕ) (rows : List Entry) (entries : List (Group H)) → Covers aggregations columns rows groups →
+        IsLaid hash aggregations columns its entries → StandsAt hash aggregations columns rows entries
+    bag_stands hash rows entries covers laid = stands aggregations columns hash rows groups entries covers
+        (subst (λ l. IsLaid hash aggregations columns l entries) same laid)
+
+  pub fits_none : (hash : List Cell → ℕ) (es : List (Group H)) (t : List Cell) (a : List (Acc H)) → es ≡ [] → IfSome (found hash es t) (λ o. AllFit o a)
+  fits_none hash es t a e = rw e tt
+
+pub not_nil : (xs : List ℕ) → false ≡ (length xs == 0) → xs ≡ [] → ⊥
+not_nil [] e f = cc
+not_nil (x ∷ xs) e f = cc
+
+pub is_nil : (xs : List ℕ) → true ≡ (length xs == 0) → xs ≡ []
+is_nil [] e = refl
+is_nil (x ∷ xs) e = absurd (omega (arith, eqb-true (length (x ∷ xs)) 0 (sym e)))

@@ -1,0 +1,13 @@
+pub mod AccumulatorsLemmas
+pub mod CoarseningLemmas
+pub mod FinishLemmas
+pub mod FoldingLemmas
+pub mod JoinLemmas
+pub mod LayingLemmas
+pub mod OrderLemmas
+pub mod PlanLemmas
+pub mod PoolLemmas
+pub mod ReportLemmas
+pub mod SetTuplesLemmas
+pub mod TuplesLemmas
+pub mod VisitingLemmas

@@ -1,0 +1,123 @@
+-- Pools of groups, and partial results set by set.
+use Rattle.std.specs.Prelude.{◌≡◌, ◌≢◌, ◌==◌, ℕ, zero, suc, ◌+◌, ◌<◌, ◌≤◌, Bool, true, false, List, [], ◌∷◌, ◌++◌, IfSome, length, nat_eq, ◌&&◌, take, Option, Some, None, refl, slice_index_or}
+use Rattle.std.specs.Cmp.Lexicographic.{pointwise}
+use Rattle.std.specs.List.{AllByRecursion, slice_get}
+use Rattle.std.proofs.Common.{eqb-true, get_or, ap, ap₂, sym, ◌∙◌, subst, arith}
+use Rattle.std.proofs.lemmas.List.{map-append, take_all, take_more}
+use Rattle.std.proofs.lemmas.List.Quantifiers.{position-Some}
+use Rattle.aggs.specs.declared.acc.Acc.{Acc}
+use Rattle.cells.specs.Values.{Entry}
+use Rattle.cells.specs.declared.cell.Cell.{Cell}
+use Rattle.groups.specs.Coarsening.{ArePlaces, CanCoarsen, picked_columns}
+use Rattle.groups.specs.Folding.{AreWithin, CanCount, CanFold, CanFoldSet, Covers, Group, IsFolded}
+use Rattle.groups.specs.Groups.{kept, place_in}
+use Rattle.groups.specs.Laying.{IsLaid}
+use Rattle.groups.specs.Partials.{StandsAt, StandsEach}
+use Rattle.groups.specs.Pools.{IsPool, MayCoarsen}
+use Rattle.groups.specs.declared.aggregation.Aggregation.{Aggregation}
+use Rattle.groups.specs.declared.pool.Folded.{Folded}
+use Rattle.groups.proofs.LayingLemmas.{start_stands}
+use Rattle.groups.proofs.TuplesLemmas.{all_at, all_push}
+use Rattle.groups.proofs.VisitingLemmas.{can_count_kept}
+use Rattle.query.specs.Plans.{PlanTree}
+use Rattle.query.specs.Trees.{PredicateTree}
+use Rattle.query.specs.declared.test.Test.{Test}
+
+-- ---- places of columns
+pub places_none : (finer places : List ℕ) → places ≡ [] → ArePlaces finer [] places
+places_none finer places e = subst (ArePlaces finer []) (sym e) (record { within = tt; are = refl })
+
+pub places_more : (finer columns places new : List ℕ) (i place : ℕ) → i < length columns → ArePlaces finer (take i columns) places →
+    place_in finer (get_or columns i 0) ≡ Some place → new ≡ places ++ place ∷ [] → ArePlaces finer (take (i + 1) columns) new
+places_more finer columns places new i place h now e f =
+    let found = position-Some (λ c. c == get_or columns i 0) finer place 0 e in
+    subst (ArePlaces finer (take (i + 1) columns)) (sym f) (record {
+      within = all_push (λ k. k < length finer) places place now.within found.0;
+      are = map-append (λ k. slice_index_or finer k 0) places (place ∷ []) ∙ ap₂ (λ (xs : List ℕ) (c : ℕ). xs ++ c ∷ []) now.are (eqb-true _ _ found.1)
+          ∙ sym (take_more columns i 0 h);
+    })
+
+pub places_all : (finer columns places : List ℕ) (i : ℕ) → length columns ≤ i → ArePlaces finer (take i columns) places → ArePlaces finer columns places
+places_all finer columns places i h now = subst (λ cs. ArePlaces finer cs places) (take_all i columns h) now
+
+-- ---- the pool
+module _ {H : Type 0} where
+  pub pool_none : (aggregations : List Aggregation) (rows : List Entry) (pool : List (Folded H)) → pool ≡ [] → IsPool aggregations rows pool
+  pool_none aggregations rows pool e = subst (IsPool aggregations rows) (sym e) (record { each = tt })
+
+  pub pool_more : (aggregations : List Aggregation) (rows : List Entry) (pool new : List (Folded H)) (f : Folded H) → IsPool aggregations rows pool →
+      Covers aggregations f.set.items rows f.bag → new ≡ pool ++ f ∷ [] → IsPool aggregations rows new
+  pool_more aggregations rows pool new f now covers e = subst (IsPool aggregations rows) (sym e) (record { each = all_push _ pool f now.each covers })
+
+  pub pool_at : (aggregations : List Aggregation) (rows : List Entry) (pool : List (Folded H)) (i : ℕ) (f : Folded H) → IsPool aggregations rows pool → i < length pool →
+      f ≡ get_or pool i f → Covers aggregations f.set.items rows f.bag
+  pool_at aggregations rows pool i f now h is = subst (λ (g : Folded H). Covers aggregations g.set.items rows g.bag) (sym is)
+      (all_at (λ (g : Folded H). Covers aggregations g.set.items rows g.bag) pool i f now.each h)
+
+  pub folded_kept : (condition : Option (PredicateTree (Test ℕ))) (aggregations : List Aggregation) (set : List ℕ) (rows : List Entry) (columns : List ℕ) (groups : List (Group H)) →
+      CanFoldSet condition aggregations set rows → Covers aggregations columns (kept condition rows) groups → IsFolded aggregations columns groups
+  folded_kept condition aggregations set rows columns groups can covers = record {
+    rows = kept condition rows;
+    covers = covers;
+    can = can_count_kept condition aggregations set rows can;
+  }
+
+  pub can_coarsen : (aggregations : List Aggregation) (finer set places : List ℕ) (groups : List (Group H)) → ArePlaces finer set places → IsFolded aggregations finer groups →
+      CanCoarsen places groups
+  can_coarsen aggregations finer set places groups are folded = record { aggregations = aggregations; columns = finer; within = are.within; folded = folded }
+
+-- ---- the sets of a plan
+pub set_at : (plan : PlanTree) (aggregations : List Aggregation) (rows : List Entry) (i : ℕ) (set : List ℕ) → CanFold plan aggregations rows → i < length plan.sets →
+    set ≡ get_or plan.sets i set → CanFoldSet plan.condition aggregations set rows
+set_at plan aggregations rows i set can h is = subst (λ s. CanFoldSet plan.condition aggregations s rows) (sym is)
+    (all_at (λ s. CanFoldSet plan.condition aggregations s rows) plan.sets i set can.each h)
+
+module _ {H : Type 0} (hash : List Cell → ℕ) (aggregations : List Aggregation) (rows : List Entry) where
+  stands_push : (sets : List (List ℕ)) (tries : List (List (Group H))) (s : List ℕ) (t : List (Group H)) →
+      StandsEach hash aggregations sets rows tries → StandsAt hash aggregations s rows t → StandsEach hash aggregations (sets ++ s ∷ []) rows (tries ++ t ∷ [])
+  stands_push [] [] s t now one = (one, tt)
+  stands_push [] (u ∷ tries) s t now one = absurd now
+  stands_push (r ∷ sets) [] s t now one = absurd now
+  stands_push (r ∷ sets) (u ∷ tries) s t now one = (now.0, stands_push sets tries s t now.1 one)
+
+  -- the tries of the first i sets stand for the rows
+  pub record StandsTo (sets : List (List ℕ)) (i : ℕ) (tries : List (List (Group H))) : Type 0 where
+    pub each : StandsEach hash aggregations (take i sets) rows tries
+
+  pub stands_none : (sets : List (List ℕ)) (tries : List (List (Group H))) → tries ≡ [] → StandsTo sets 0 tries
+  stands_none sets tries e = subst (StandsTo sets 0) (sym e) (record { each = tt })
+
+  pub stands_more : (sets : List (List ℕ)) (i : ℕ) (s : List ℕ) (tries new : List (List (Group H))) (t : List (Group H)) →
+      i < length sets → s ≡ get_or sets i s → StandsTo sets i tries → StandsAt hash aggregations s rows t → new ≡ tries ++ t ∷ [] → StandsTo sets (i + 1) new
+  stands_more sets i s tries new t h is now one e = record {
+    each =
+        subst (λ ss. StandsEach hash aggregations ss rows new) (sym (take_more sets i s h ∙ ap (λ x. take i sets ++ x ∷ []) (sym is)))
+        (subst (StandsEach hash aggregations (take i sets ++ s ∷ []) rows) (sym e) (stands_push (take i sets) tries s t now.each one));
+  }
+
+  pub stands_all : (sets : List (List ℕ)) (i : ℕ) (tries : List (List (Group H))) → length sets ≤ i → StandsTo sets i tries → StandsEach hash aggregations sets rows tries
+  stands_all sets i tries h now = subst (λ ss. StandsEach hash aggregations ss rows tries) (take_all i sets h) now.each
+
+  pub stands_next : (sets its : List (List ℕ)) (i : ℕ) (s t : List ℕ) (tries new : List (List (Group H))) (trie : List (Group H)) → its ≡ sets → i < length its → s ≡ get_or its i s → t ≡ s →
+      StandsTo sets i tries → StandsAt hash aggregations t rows trie → new ≡ tries ++ trie ∷ [] → StandsTo sets (i + 1) new
+  stands_next sets its i s t tries new trie same h is e now one f =
+      stands_more sets i s tries new trie (subst (λ l. i < length l) same h) (subst (λ (l : List (List ℕ)). s ≡ get_or l i s) same is) now
+      (subst (λ u. StandsAt hash aggregations u rows trie) e one) f
+
+module _ {H : Type 0} (hash : List Cell → ℕ) where
+  -- the start stands for no rows
+  pub start_stands_by : (aggregations of : List Aggregation) (set : List ℕ) (trie : List (Group H)) → of ≡ aggregations → IsLaid hash of set [] trie →
+      StandsAt hash aggregations set [] trie
+  start_stands_by aggregations of set trie e laid = subst (λ a. StandsAt hash a set [] trie) e (start_stands of set hash trie laid)
+
+-- ---- equal sets are the same
+pub same_set : (xs ys : List ℕ) → pointwise nat_eq xs ys ≡ true → xs ≡ ys
+same_set [] [] e = refl
+same_set [] (y ∷ ys) e = cc
+same_set (x ∷ xs) [] e = cc
+same_set (x ∷ xs) (y ∷ ys) e = go (nat_eq x y) (pointwise nat_eq xs ys) refl refl e (same_set xs ys)
+  where
+    go : (b c : Bool) → nat_eq x y ≡ b → pointwise nat_eq xs ys ≡ c → (b && c) ≡ true → (pointwise nat_eq xs ys ≡ true → xs ≡ ys) → x ∷ xs ≡ y ∷ ys
+    go true true p q f rest = ap₂ (λ (a : ℕ) (l : List ℕ). a ∷ l) (eqb-true x y p) (rest q)
+    go true false p q f rest = cc
+    go false c p q f rest = cc

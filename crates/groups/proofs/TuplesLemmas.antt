@@ -1,0 +1,49 @@
+-- A tuple, cell by cell.
+use Rattle.std.specs.Prelude.{◌≡◌, ℕ, zero, suc, ◌+◌, ◌<◌, Bool, true, false, not, List, [], ◌∷◌, ◌++◌, length, take, refl}
+use Rattle.std.specs.List.{AllByRecursion}
+use Rattle.std.proofs.Common.{get_or, ap, sym, ◌∙◌, arith}
+use Rattle.std.proofs.lemmas.List.{get_or-map, get_or_read, length-map, take_more_same}
+use Rattle.cells.specs.declared.cell.Cell.{Cell}
+use Rattle.cells.specs.declared.cell.Cell.TheVariants.{Null}
+use Rattle.groups.specs.Folding.{picked}
+
+pub one_picked_more : (from : List Cell) (places : List ℕ) (cells : List Cell) (i : ℕ) (x y : Cell) (place : ℕ) → length cells ≡ length places → i < length places →
+    take i cells ≡ take i (picked places from) → x ≡ get_or cells i x → place ≡ get_or places i 0 → place < length from →
+    y ≡ get_or from place y → x ≡ y → take (i + 1) cells ≡ take (i + 1) (picked places from)
+one_picked_more from places cells i x y place e h same p q l r s =
+    let n : i < length cells = omega arith in
+    let m : i < length (picked places from) = omega (arith, length-map places (λ k. get_or from k Null)) in
+    take_more_same cells (picked places from) i Null n m same
+    (sym (get_or_read cells i x n p Null) ∙ s ∙ get_or_read from place y l r Null ∙ ap (λ k. get_or from k Null) q
+    ∙ sym (get_or-map (λ k. get_or from k Null) places i 0 Null h))
+
+pub was_true : (b : Bool) → false ≡ not b → b ≡ true
+was_true true e = refl
+was_true false e = cc
+
+-- ---- what holds of each element
+module _ {X : Type 0} (P : X → Type 0) where
+  pub all_at : (xs : List X) (i : ℕ) (d : X) → AllByRecursion P xs → i < length xs → P (get_or xs i d)
+  all_at [] i d all h = absurd (omega arith)
+  all_at (x ∷ xs) zero d all h = all.0
+  all_at (x ∷ xs) (suc i) d all h = all_at xs i d all.1 (omega arith)
+
+  pub all_push : (xs : List X) (x : X) → AllByRecursion P xs → P x → AllByRecursion P (xs ++ x ∷ [])
+  all_push [] x all p = (p, tt)
+  all_push (y ∷ xs) x all p = (all.0, all_push xs x all.1 p)
+
+  pub all_both : (xs ys : List X) → AllByRecursion P xs → AllByRecursion P ys → AllByRecursion P (xs ++ ys)
+  all_both [] ys all more = more
+  all_both (x ∷ xs) ys all more = (all.0, all_both xs ys all.1 more)
+
+  pub all_first : (xs ys : List X) → AllByRecursion P (xs ++ ys) → AllByRecursion P xs
+  all_first [] ys all = tt
+  all_first (x ∷ xs) ys all = (all.0, all_first xs ys all.1)
+
+  pub all_second : (xs ys : List X) → AllByRecursion P (xs ++ ys) → AllByRecursion P ys
+  all_second [] ys all = all
+  all_second (x ∷ xs) ys all = all_second xs ys all.1
+
+pub all_through : {X : Type 0} (P Q : X → Type 0) → ((x : X) → P x → Q x) → (xs : List X) → AllByRecursion P xs → AllByRecursion Q xs
+all_through P Q f [] all = tt
+all_through P Q f (x ∷ xs) all = (f x all.0, all_through P Q f xs all.1)

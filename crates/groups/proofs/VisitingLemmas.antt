@@ -1,0 +1,118 @@
+-- Rows that a walk lends, one after another.
+use Rattle.std.specs.Prelude.{◌≡◌, ℕ, ◌+◌, ◌≤◌, Bool, true, List, [], ◌∷◌, ◌++◌, length, map, Option, refl}
+use Rattle.std.specs.List.{AllByRecursion}
+use Rattle.std.proofs.Common.{ap, sym, ◌∙◌, subst, arith}
+use Rattle.std.proofs.lemmas.List.{append_assoc, append-nil, length-append, map-append}
+use Rattle.aggs.specs.Room.{cell_limit}
+use Rattle.cells.specs.Values.{Entry}
+use Rattle.cells.specs.declared.cell.Cell.{Cell}
+use Rattle.groups.specs.Folding.{CanCount, CanFoldSet, Covers, FitsRow, FitsSet, Group, HasRoom, Takes}
+use Rattle.groups.specs.Groups.{keeps, kept}
+use Rattle.groups.specs.Laws.{all_kept, kept_join, kept_short}
+use Rattle.groups.specs.Partials.{rows_of}
+use Rattle.groups.specs.Visiting.{MayVisit, TakesKept, Visits}
+use Rattle.groups.specs.declared.aggregation.Aggregation.{Aggregation}
+use Rattle.groups.proofs.FoldingLemmas.{covers_more, covers_none}
+use Rattle.groups.proofs.TuplesLemmas.{all_first, all_push, all_second, all_through}
+use Rattle.query.specs.Trees.{PredicateTree}
+use Rattle.query.specs.declared.test.Test.{Test}
+use Rattle.trie.specs.Walks.{MayTakeAll, TakesAll}
+
+-- ---- a row that is kept
+kept_one : (condition : Option (PredicateTree (Test ℕ))) (row : Entry) → keeps condition row ≡ true → kept condition (row ∷ []) ≡ row ∷ []
+kept_one condition row e = rw e refl
+
+module _ {H : Type 0} (condition : Option (PredicateTree (Test ℕ))) (aggregations : List Aggregation) (set : List ℕ) (row : Entry) where
+  pub takes_kept : (old new : List (Group H)) → keeps condition row ≡ true → Takes aggregations set row old new → TakesKept condition aggregations set row old new
+  takes_kept old new e takes = record {
+    serves = λ rows covers.
+        subst (λ l. Covers aggregations set (rows ++ l) new) (sym (kept_one condition row e)) (covers_more aggregations set row rows old new covers takes);
+  }
+
+-- ---- rows that are kept may be counted
+can_count : (condition : Option (PredicateTree (Test ℕ))) (aggregations : List Aggregation) (set : List ℕ) (before after : List Entry) (row : Entry) →
+    CanFoldSet condition aggregations set (before ++ row ∷ after) → CanCount aggregations (kept condition before ++ row ∷ [])
+can_count condition aggregations set before after row can =
+    let P : Entry → Type 0 = FitsSet condition aggregations set in
+    let Q : Entry → Type 0 = FitsRow aggregations in
+    let firsts : AllByRecursion P before = all_first P before (row ∷ after) can.each in
+    let here : P row = (all_second P before (row ∷ after) can.each).0 in
+    record {
+      each = all_push Q (kept condition before) row (all_kept Q (keeps condition) before (all_through P Q (λ r fits. fits.counted) before firsts)) here.counted;
+      few = omega (arith, can.few, kept_short (keeps condition) before, length-append (kept condition before) (row ∷ []), length-append before (row ∷ after));
+    }
+
+pub can_count_kept : (condition : Option (PredicateTree (Test ℕ))) (aggregations : List Aggregation) (set : List ℕ) (rows : List Entry) →
+    CanFoldSet condition aggregations set rows → CanCount aggregations (kept condition rows)
+can_count_kept condition aggregations set rows can = record {
+  each = all_kept (FitsRow aggregations) (keeps condition) rows (all_through (FitsSet condition aggregations set) (FitsRow aggregations) (λ r fits. fits.counted) rows can.each);
+  few = omega (arith, can.few, kept_short (keeps condition) rows);
+}
+
+module _ {S H : Type 0} (condition : S → Option (PredicateTree (Test ℕ))) (aggregations : S → List Aggregation) (set : S → List ℕ) (groups : S → List (Group H)) where
+  -- the rows of the entries have gone into the groups
+  record Visited (old : S) (rows : List Entry) (new : S) : Type 0 where
+    condition_stays : condition new ≡ condition old
+    aggregations_stay : aggregations new ≡ aggregations old
+    set_stays : set new ≡ set old
+    serves : (befores : List Entry) → Covers (aggregations old) (set old) befores (groups old) →
+        Covers (aggregations old) (set old) (befores ++ kept (condition old) rows) (groups new)
+
+  visited_none : (old new : S) → new ≡ old → Visited old [] new
+  visited_none old new e = record {
+    condition_stays = ap condition e;
+    aggregations_stay = ap aggregations e;
+    set_stays = ap set e;
+    serves = λ befores covers. subst (λ s. Covers (aggregations old) (set old) (befores ++ []) (groups s)) (sym e)
+        (subst (λ l. Covers (aggregations old) (set old) l (groups old)) (sym (append-nil befores)) covers);
+  }
+
+  visited_more : (old mid new : S) (key : Cell) (row : Entry) (rows : List Entry) → Visits condition aggregations set groups old key row mid → Visited mid rows new →
+      Visited old (row ∷ rows) new
+  visited_more old mid new key row rows v rest =
+      let c = condition old in
+      let a = aggregations old in
+      let s = set old in
+      let later : (befores : List Entry) → Covers a s befores (groups mid) → Covers a s (befores ++ kept c rows) (groups new) =
+      rw (← v.condition_stays, ← v.aggregations_stay, ← v.set_stays) rest.serves in
+      record {
+        condition_stays = rest.condition_stays ∙ v.condition_stays;
+        aggregations_stay = rest.aggregations_stay ∙ v.aggregations_stay;
+        set_stays = rest.set_stays ∙ v.set_stays;
+        serves = λ befores covers. subst (λ l. Covers a s l (groups new))
+            (append_assoc befores (kept c (row ∷ [])) (kept c rows) ∙ ap (λ l. befores ++ l) (sym (kept_join c (row ∷ []) rows)))
+            (later (befores ++ kept c (row ∷ [])) ((v.takes).serves befores covers));
+      }
+
+  visited : (old new : S) (es : List (Cell × Entry)) → TakesAll (Visits condition aggregations set groups) old es new → Visited old (rows_of es) new
+  visited old new [] e = visited_none old new e
+  visited old new (x ∷ es) t = visited_more old t.0 new x.0 x.1 (rows_of es) t.1 (visited t.0 new es t.2)
+
+  none_yet : (old : S) → groups old ≡ [] → Covers (aggregations old) (set old) [] (groups old)
+  none_yet old e = subst (Covers (aggregations old) (set old) []) (sym e) (covers_none (aggregations old) (set old))
+
+  pub visited_all : (old new : S) (es : List (Cell × Entry)) → groups old ≡ [] → TakesAll (Visits condition aggregations set groups) old es new →
+      Covers (aggregations old) (set old) (kept (condition old) (rows_of es)) (groups new)
+  visited_all old new es e t = (visited old new es t).serves [] (none_yet old e)
+
+  may_visit_at : (old mid : S) (before after : List Entry) (key : Cell) (row : Entry) → groups old ≡ [] → Visited old before mid →
+      CanFoldSet (condition old) (aggregations old) (set old) (before ++ row ∷ after) → MayVisit condition aggregations set groups mid key row
+  may_visit_at old mid before after key row e v can =
+      let fits : FitsSet (condition old) (aggregations old) (set old) row = (all_second _ before (row ∷ after) can.each).0 in
+      let room : HasRoom (aggregations old) (set old) row (groups mid) = record {
+        rows = kept (condition old) before;
+        covers = v.serves [] (none_yet old e);
+        can = can_count (condition old) (aggregations old) (set old) before after row can;
+      } in
+      record {
+        fits = rw (v.condition_stays, v.aggregations_stay, v.set_stays) fits;
+        room = rw (v.aggregations_stay, v.set_stays) room;
+      }
+
+  pub may_visit : (old : S) (es : List (Cell × Entry)) → groups old ≡ [] → CanFoldSet (condition old) (aggregations old) (set old) (rows_of es) →
+      MayTakeAll (MayVisit condition aggregations set groups) (Visits condition aggregations set groups) old es
+  may_visit old es e can = record {
+    asked = λ before after x mid split t.
+        may_visit_at old mid (rows_of before) (rows_of after) x.0 x.1 e (visited old mid before t)
+        (subst (CanFoldSet (condition old) (aggregations old) (set old)) (ap rows_of split ∙ map-append (λ x. x.1) before (x ∷ after)) can);
+  }

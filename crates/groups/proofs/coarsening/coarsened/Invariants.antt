@@ -1,0 +1,5 @@
+use Rattle.groups.proofs.CoarseningLemmas.{Coarsening}
+use Rattle.groups.proofs.coarsening.coarsened.Given as goal
+
+abbrev pub invariant-loop-group : goal.invariant-loop-group
+invariant-loop-group g l = Coarsening l.places l.finer l.group-index l.bag

@@ -1,0 +1,108 @@
+-- Grouped queries over lists of rows (ISO/IEC 9075-2:1999, 7.8 <where clause>, 7.9 <group by clause>, 7.11 <query specification>).
+use Rattle.std.specs.Prelude.{ℕ, pos, ◌==◌, Bool, true, false, List, [], ◌∷◌, filter, length, map, slice_index_or, Option, Some, None, position}
+use Rattle.std.specs.List.{flat_map}
+use Rattle.std.specs.Ordering.{match_ordering}
+use Rattle.aggs.specs.Values.{cell_total, count, different_count, greatest, least, sum}
+use Rattle.cells.specs.TupleOrder.{tuple_cmp, tuple_eq}
+use Rattle.cells.specs.Values.{Entry}
+use Rattle.cells.specs.declared.cell.Cell.{Cell}
+use Rattle.cells.specs.declared.cell.Cell.TheVariants.{Null}
+use Rattle.cells.specs.declared.total.Total.{Total}
+use Rattle.cells.specs.declared.total.Total.TheVariants as total
+use Rattle.query.specs.Plans.{PlanTree}
+use Rattle.query.specs.Trees.{PredicateTree}
+use Rattle.query.specs.Truth.{truth}
+use Rattle.query.specs.declared.item.Item.{Item}
+use Rattle.query.specs.declared.item.Item.TheVariants as item
+use Rattle.query.specs.declared.test.Test.{Test}
+use Rattle.query.specs.declared.truth.Truth.{Truth}
+use Rattle.query.specs.declared.truth.Truth.TheVariants.{True, False, Unknown}
+
+-- ---- WHERE (7.8)
+
+abbrev pub is_true : Truth → Bool
+is_true True = true
+is_true False = false
+is_true Unknown = false
+
+-- the predicate is true for the row; where there is none, each row is kept
+abbrev pub keeps : Option (PredicateTree (Test ℕ)) → Entry → Bool
+keeps None row = true
+keeps (Some p) row = is_true (truth p row.cells)
+
+abbrev pub kept : Option (PredicateTree (Test ℕ)) → List Entry → List Entry
+kept condition rows = filter (keeps condition) rows
+
+-- ---- groups (7.9)
+
+-- the row's cell in a column
+abbrev pub cell_at : ℕ → Entry → Cell
+cell_at column row = slice_index_or row.cells column Null
+
+-- the rows' cells in a column
+abbrev pub column_of : ℕ → List Entry → List Cell
+column_of column rows = map (cell_at column) rows
+
+-- the row's cells in the columns of a grouping set
+abbrev pub tuple_of : List ℕ → Entry → List Cell
+tuple_of set row = map (λ c. cell_at c row) set
+
+-- the rows of a group: those whose cells in the columns of the set are not distinct from the tuple's
+abbrev pub members : List ℕ → List Cell → List Entry → List Entry
+members set tuple rows = filter (λ r. tuple_eq (tuple_of set r) tuple) rows
+
+-- a tuple laid into rising ones, unless it is there
+abbrev pub lay : List Cell → List (List Cell) → List (List Cell)
+lay tuple [] = tuple ∷ []
+lay tuple (t ∷ ts) = match_ordering (tuple_cmp tuple t) (tuple ∷ t ∷ ts) (t ∷ ts) (t ∷ lay tuple ts)
+
+-- the different ones of some tuples, rising
+abbrev pub different : List (List Cell) → List (List Cell)
+different [] = []
+different (t ∷ ts) = lay t (different ts)
+
+-- the tuples of a grouping set, one for each group: for the empty set always the one empty tuple
+abbrev pub tuples : List ℕ → List Entry → List (List Cell)
+tuples [] rows = [] ∷ []
+tuples (c ∷ set) rows = different (map (tuple_of (c ∷ set)) rows)
+
+-- ---- items (7.11)
+
+-- where the column stands in the grouping set, if it does
+abbrev pub place_in : List ℕ → ℕ → Option ℕ
+place_in set column = position (λ c. c == column) set
+
+-- the tuple's cell at a place, and NULL at none
+abbrev pub cell_of_place : List Cell → Option ℕ → Cell
+cell_of_place tuple None = Null
+cell_of_place tuple (Some i) = slice_index_or tuple i Null
+
+-- GROUPING: 0 for a column of the grouping set, else 1
+abbrev pub grouping : Option ℕ → Total
+grouping None = total.Int (pos 1)
+grouping (Some i) = total.Int (pos 0)
+
+-- the value of an item in the group of these rows
+abbrev pub item_value : List ℕ → List Cell → List Entry → Item ℕ → Total
+item_value set tuple group (item.Column c) = cell_total (cell_of_place tuple (place_in set c))
+item_value set tuple group (item.Grouping c) = grouping (place_in set c)
+item_value set tuple group item.CountRows = total.Int (pos (length group))
+item_value set tuple group (item.Count c) = count (column_of c group)
+item_value set tuple group (item.CountDistinct c) = different_count (column_of c group)
+item_value set tuple group (item.Sum c) = sum (column_of c group)
+item_value set tuple group (item.Min c) = least (column_of c group)
+item_value set tuple group (item.Max c) = greatest (column_of c group)
+
+-- ---- the report
+
+-- the rows of the report for a grouping set, one for each of its tuples
+abbrev pub set_rows : List (Item ℕ) → List ℕ → List Entry → List (List Total)
+set_rows items set rows = map (λ t. map (item_value set t (members set t rows)) items) (tuples set rows)
+
+-- the rows of the report for rows that are kept: those of each grouping set, in the order of the sets
+abbrev pub rows_over : PlanTree → List Entry → List (List Total)
+rows_over plan rows = flat_map (λ set. set_rows plan.items set rows) plan.sets
+
+-- the grouped query over a table's rows
+abbrev pub report_rows : PlanTree → List Entry → List (List Total)
+report_rows plan rows = rows_over plan (kept plan.condition rows)

@@ -1,0 +1,14 @@
+pub mod Groups
+pub mod Accumulators
+pub mod Partials
+pub mod Codes
+pub mod Folding
+pub mod Visiting
+pub mod Pools
+pub mod Coarsening
+pub mod Laying
+pub mod Laws
+pub mod Meeting
+pub mod Joining
+pub mod Finishing
+pub mod Worked

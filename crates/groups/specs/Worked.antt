@@ -1,0 +1,41 @@
+-- Worked reports: four sales, one of them of an unknown region, by ROLLUP of the region.
+use Rattle.std.specs.Prelude.{ℕ, ℤ, pos, negsuc, List, [], ◌∷◌, codes, None}
+use Rattle.cells.specs.Values.{Entry}
+use Rattle.cells.specs.declared.cell.Cell.{Cell}
+use Rattle.cells.specs.declared.cell.Cell.TheVariants.{Null, Int, Text}
+use Rattle.cells.specs.declared.total.Total.{Total}
+use Rattle.cells.specs.declared.total.Total.TheVariants as total
+use Rattle.query.specs.Plans.{PlanTree}
+use Rattle.query.specs.declared.item.Item.TheVariants as item
+
+abbrev sale : ℤ → Cell → Cell → Entry
+sale number region units = record { key = Int number; cells = Int number ∷ region ∷ units ∷ [] }
+
+abbrev pub sales : List Entry
+sales = sale (pos 1) (Text (codes "north")) (Int (pos 10)) ∷ sale (pos 2) (Text (codes "north")) Null
+    ∷ sale (pos 3) Null (Int (pos 5)) ∷ sale (pos 4) (Text (codes "south")) (Int (negsuc 1)) ∷ []
+
+-- SELECT REGION, GROUPING(REGION), COUNT(*), COUNT(UNITS), SUM(UNITS) .. GROUP BY over the sets
+abbrev pub by_sets : List (List ℕ) → PlanTree
+by_sets sets = record {
+  items = item.Column 1 ∷ item.Grouping 1 ∷ item.CountRows ∷ item.Count 2 ∷ item.Sum 2 ∷ [];
+  headings = [];
+  condition = None;
+  sets = sets;
+}
+
+-- ROLLUP(REGION)
+abbrev pub by_region : PlanTree
+by_region = by_sets ((1 ∷ []) ∷ [] ∷ [])
+
+abbrev pub line : Total → ℕ → ℕ → ℕ → Total → List Total
+line region mark rows cells sum = region ∷ total.Int (pos mark) ∷ total.Int (pos rows) ∷ total.Int (pos cells) ∷ sum ∷ []
+
+-- the unknown region, then the others, then all of them
+abbrev pub sales_by_region : List (List Total)
+sales_by_region = line total.Null 0 1 1 (total.Int (pos 5)) ∷ line (total.Text (codes "north")) 0 2 1 (total.Int (pos 10))
+    ∷ line (total.Text (codes "south")) 0 1 1 (total.Int (negsuc 1)) ∷ line total.Null 1 4 3 (total.Int (pos 13)) ∷ []
+
+-- over no rows: the row of the empty set alone
+abbrev pub nothing_by_region : List (List Total)
+nothing_by_region = line total.Null 1 0 0 total.Null ∷ []

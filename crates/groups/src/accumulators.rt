@@ -1,0 +1,93 @@
+//! The accumulators of a group.
+ghost use Rattle.std.specs.Prelude.{◌≡◌, [], IfOk};
+ghost use Rattle.groups.specs.Accumulators.{AllFit, CanStep, accs_of, accs_together, stepped};
+
+use crate::aggregation::Aggregation;
+use aggs::Acc;
+use cells::{Cell, KeyHash, Row};
+use std::alloc::{AllocError, Global};
+use std::marker::Model;
+
+/// Accumulators, one for each aggregate of a select list in its order, seen as the list of them. They own what they
+/// keep of the cells that they were stepped with.
+#[derive(Drop)]
+pub struct Accumulators<H: KeyHash<Cell>> {
+    accs: Vec<Acc<H>>,
+}
+
+impl<H: KeyHash<Cell>> Model for Accumulators<H> {
+    ghost use Rattle.std.specs.Prelude.{List};
+    ghost use Rattle.aggs.specs.declared.acc.Acc.{Acc};
+
+    ghost Value = { List (Acc H) };
+
+    ghost use Rattle.groups.specs.Codes.{coded_cells};
+    ghost use Rattle.std.specs.Coded.{codes};
+
+    ghost coded = { Prim.hlevel (codes, coded_cells) };
+
+    ghost view = { λ a. a.accs.items };
+}
+
+impl<H: KeyHash<Cell>> Clone for Accumulators<H> {
+    ghost is_clone = { λ s t. t ≡ s };
+
+    fn clone(&self) -> Result<Accumulators<H>, AllocError> {
+        Ok(Accumulators {
+            accs: self.accs.clone()?,
+        })
+    }
+}
+
+impl<H: KeyHash<Cell>> Accumulators<H> {
+    /// The accumulators of no rows.
+    pub fn empty(alloc: Global, aggregations: &[Aggregation]) -> Result<Accumulators<H>, AllocError>
+        ensures { IfOk result (λ a. a ≡ accs_of aggregations.now []) }
+    {
+        let mut accs = Vec::new(alloc);
+        for aggregation in aggregations {
+            accs.push(Acc::empty(aggregation.kind))?;
+        }
+        Ok(Accumulators { accs })
+    }
+
+    /// The accumulators, in the order of the select list. It takes no memory.
+    pub fn as_slice(&self) -> &[Acc<H>]
+        ensures { result.now ≡ self.now }
+    {
+        self.accs.as_slice()
+    }
+
+    /// Makes them the accumulators of their rows and this one behind them. After a refusal, which is want of memory,
+    /// some of them have taken the row and others have not: they stand for no rows.
+    pub fn step(
+        &mut self,
+        alloc: Global,
+        row: &Row,
+        aggregations: &[Aggregation],
+    ) -> Result<(), AllocError>
+        requires { CanStep row.now aggregations.now self.old }
+        ensures { IfOk result (λ _. self.new ≡ stepped row.now aggregations.now self.old) }
+    {
+        for (i, aggregation) in aggregations.iter().enumerate() {
+            self.accs[i].step(alloc, &row.cells()[aggregation.column])?;
+        }
+        Ok(())
+    }
+
+    /// The accumulators of both lists of rows put together. Both are of one select list.
+    pub fn join(
+        &self,
+        alloc: Global,
+        other: &Accumulators<H>,
+    ) -> Result<Accumulators<H>, AllocError>
+        requires { AllFit self.now other.now }
+        ensures { IfOk result (λ both. both ≡ accs_together self.now other.now) }
+    {
+        let mut accs = Vec::new(alloc);
+        for (first, second) in self.accs.iter().zip(&other.accs) {
+            accs.push(first.join(alloc, second)?)?;
+        }
+        Ok(Accumulators { accs })
+    }
+}

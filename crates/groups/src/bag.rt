@@ -1,0 +1,148 @@
+//! Groups while they are folded.
+ghost use Rattle.std.specs.Prelude.{◌≡◌, ◌<◌, ◌^◌, [], ◌∷◌, ◌++◌, IfOk, IfSome, length, slice_index_or};
+ghost use Rattle.std.specs.List.{AllByRecursion};
+ghost use Rattle.groups.specs.Accumulators.{AllFit};
+ghost use Rattle.groups.specs.Coarsening.{JoinsAt, TakesGroup};
+ghost use Rattle.groups.specs.Folding.{AreWithin, CanTake, Takes, picked};
+
+use crate::accumulators::Accumulators;
+use crate::aggregation::Aggregation;
+use crate::tuples::{hash_of, is_tuple_of, tuple_of};
+use cells::{Cell, KeyHash, Row, Tuple};
+use std::alloc::{AllocError, Global};
+use std::collections::HashMap;
+use std::marker::Model;
+
+/// A list of groups, and the place in it where a hash was met last. Several groups may have one tuple: nothing rests
+/// on the hashes, and a group that is not found by its hash has another one beside it.
+#[derive(Drop)]
+pub struct Bag<H: KeyHash<Cell>> {
+    groups: Vec<(Tuple, Accumulators<H>)>,
+    places: HashMap<u64, usize>,
+}
+
+impl<H: KeyHash<Cell>> Model for Bag<H> {
+    ghost use Rattle.std.specs.Prelude.{List};
+    ghost use Rattle.groups.specs.Folding.{Group};
+
+    ghost Value = { List (Group H) };
+
+    ghost use Rattle.groups.specs.Codes.{coded_cells};
+    ghost use Rattle.std.specs.Coded.{codes};
+
+    ghost coded = { Prim.hlevel (codes, coded_cells) };
+
+    ghost view = { λ b. b.groups.items };
+}
+
+impl<H: KeyHash<Cell>> Bag<H> {
+    /// No groups.
+    pub fn new(alloc: Global) -> Bag<H>
+        ensures { result ≡ [] }
+    {
+        Bag {
+            groups: Vec::new(alloc),
+            places: HashMap::new(alloc),
+        }
+    }
+
+    /// The groups, in the order in which their first rows came. It takes no memory.
+    pub fn groups(&self) -> &[(Tuple, Accumulators<H>)]
+        ensures all { result.now ≡ self.now }
+        ensures few { length result.now < 2 ^ 63 }
+    {
+        self.groups.as_slice()
+    }
+
+    /// Steps the accumulators of a group of the row's tuple, or adds a group. Where there is a group it takes memory
+    /// only for what accumulators keep of the row.
+    pub fn take(
+        &mut self,
+        alloc: Global,
+        row: &Row,
+        columns: &[usize],
+        aggregations: &[Aggregation],
+    ) -> Result<(), AllocError>
+        requires columns { AreWithin (length row.now.cells) columns.now }
+        requires can { CanTake aggregations.now row.now self.old }
+        ensures { IfOk result (λ _. Takes aggregations.now columns.now row.now self.old self.new) }
+    {
+        let hash = hash_of::<H>(row.cells(), columns);
+        if let Some(place) = self.find(hash, row.cells(), columns) {
+            self.groups[place].1.step(alloc, row, aggregations)?;
+            return Ok(());
+        }
+        let mut accumulators = Accumulators::empty(alloc, aggregations)?;
+        accumulators.step(alloc, row, aggregations)?;
+        let tuple = tuple_of(alloc, row.cells(), columns)?;
+        self.add(hash, tuple, accumulators)
+    }
+
+    /// Puts a group of a finer set into a group of its cells at the places, or adds one.
+    pub fn take_group(
+        &mut self,
+        alloc: Global,
+        tuple: &Tuple,
+        accumulators: &Accumulators<H>,
+        places: &[usize],
+    ) -> Result<(), AllocError>
+        requires places { AreWithin (length tuple.now) places.now }
+        requires fit { AllByRecursion (λ g. AllFit g.1 accumulators.now) self.old }
+        ensures { IfOk result (λ _. TakesGroup (picked places.now tuple.now) accumulators.now self.old self.new) }
+    {
+        let hash = hash_of::<H>(tuple.cells(), places);
+        if let Some(place) = self.find(hash, tuple.cells(), places) {
+            return self.join_at(alloc, place, accumulators);
+        }
+        let copy = accumulators.clone()?;
+        self.add(hash, tuple_of(alloc, tuple.cells(), places)?, copy)
+    }
+
+    /// A group of the cells at the places, if one is found. It takes no memory.
+    fn find(&self, hash: u64, cells: &[Cell], places: &[usize]) -> Option<usize>
+        requires { AreWithin (length cells.now) places.now }
+        ensures within { IfSome result (λ i. i < length self.now) }
+        ensures found { IfSome result (λ i. (slice_index_or self.now i (picked places.now cells.now, [])).0 ≡ picked places.now cells.now) }
+    {
+        let place = *self.places.get(&hash)?;
+        if place >= self.groups.len() {
+            return None;
+        }
+        if is_tuple_of(self.groups[place].0.cells(), cells, places) {
+            Some(place)
+        } else {
+            None
+        }
+    }
+
+    /// Puts accumulators into the group at a place.
+    fn join_at(
+        &mut self,
+        alloc: Global,
+        place: usize,
+        accumulators: &Accumulators<H>,
+    ) -> Result<(), AllocError>
+        requires within { place < length self.old }
+        requires fit { AllByRecursion (λ g. AllFit g.1 accumulators.now) self.old }
+        ensures { IfOk result (λ _. JoinsAt place accumulators.now self.old self.new) }
+    {
+        let both = self.groups[place].1.join(alloc, accumulators)?;
+        self.groups[place].1 = both;
+        Ok(())
+    }
+
+    /// Adds a group.
+    fn add(
+        &mut self,
+        hash: u64,
+        tuple: Tuple,
+        accumulators: Accumulators<H>,
+    ) -> Result<(), AllocError>
+        ensures { IfOk result (λ _. self.new ≡ self.old ++ (tuple, accumulators) ∷ []) }
+    {
+        let place = self.groups.len();
+        self.groups.push((tuple, accumulators))?;
+        let _ = self.places.insert(hash, place)?;
+        Ok(())
+    }
+}

@@ -1,0 +1,28 @@
+//! Groups of a coarser grouping set, made from those of a finer one.
+ghost use Rattle.std.specs.Prelude.{ℕ, List, IfOk, length};
+ghost use Rattle.cells.specs.Values.{Entry};
+ghost use Rattle.groups.specs.Coarsening.{CanCoarsen, picked_columns};
+ghost use Rattle.groups.specs.Folding.{AreWithin, Covers};
+ghost use Rattle.groups.specs.declared.aggregation.Aggregation.{Aggregation};
+
+use crate::bag::Bag;
+use cells::{Cell, KeyHash};
+use std::alloc::{AllocError, Global};
+
+/// The groups of a finer set, put together by their cells at the places: groups of the set of the columns there, over
+/// the same rows.
+pub fn coarsened<H: KeyHash<Cell>>(
+    alloc: Global,
+    finer: &Bag<H>,
+    places: &[usize],
+) -> Result<Bag<H>, AllocError>
+    requires { CanCoarsen places.now finer.now }
+    ensures { (aggregations : List Aggregation) (columns : List ℕ) (rows : List Entry) → AreWithin (length columns) places.now → Covers aggregations columns rows finer.now →
+        IfOk result (λ b. Covers aggregations (picked_columns columns places.now) rows b) }
+{
+    let mut bag = Bag::new(alloc);
+    for group in finer.groups() {
+        bag.take_group(alloc, &group.0, &group.1, places)?;
+    }
+    Ok(bag)
+}

@@ -1,0 +1,25 @@
+//! Groups of rows: what a grouped query means, partial results of it over parts of a table, which can be joined, and
+//! the rows of its report.
+#![tactic(auto)]
+
+mod accumulators;
+mod aggregation;
+mod bag;
+mod coarsening;
+mod finishing;
+mod folding;
+mod joining;
+mod laws;
+mod laying;
+mod partial;
+mod pool;
+mod pool_tries;
+mod report_row;
+mod tuples;
+
+pub use laws::{any_order, parts_may_meet, worked_reports};
+pub use partial::Partial;
+pub use report_row::ReportRow;
+
+#[cfg(test)]
+mod tests;

@@ -1,0 +1,121 @@
+//! The rows of a report.
+ghost use Rattle.std.specs.Prelude.{◌≡◌, IfOk};
+ghost use Rattle.aggs.specs.Values.{cell_total};
+ghost use Rattle.groups.specs.Finishing.{behind_first, first_total, left_by, row_by, value_by};
+ghost use Rattle.groups.specs.Groups.{cell_of_place, grouping, place_in};
+
+use crate::accumulators::Accumulators;
+use aggs::Acc;
+use cells::{Cell, KeyHash, Total, Tuple};
+use query::Item;
+use std::alloc::{AllocError, Global};
+use std::marker::Model;
+
+/// A row of a report, seen as the list of its values: one for each item of the select list, in its order.
+#[derive(Drop)]
+pub struct ReportRow {
+    pub totals: Vec<Total>,
+}
+
+impl Model for ReportRow {
+    ghost use Rattle.std.specs.Prelude.{List};
+    ghost use Rattle.cells.specs.declared.total.Total.{Total};
+
+    ghost Value = { List Total };
+
+    ghost view = { λ r. r.totals.items };
+}
+
+/// Where the column stands in the grouping set, if it does.
+pub(crate) fn place_in(set: &[usize], column: usize) -> Option<usize>
+    ensures { result ≡ place_in set.now column }
+{
+    set.iter().position(|c| *c == column)
+}
+
+/// The cell as a value.
+fn cell_total(cell: &Cell) -> Result<Total, AllocError>
+    ensures { IfOk result (λ t. t ≡ cell_total cell.now) }
+{
+    match cell {
+        Cell::Null => Ok(Total::Null),
+        Cell::Int(n) => Ok(Total::Int(i128::from(*n))),
+        Cell::Text(text) => Ok(Total::Text(text.clone()?)),
+    }
+}
+
+/// The value of the tuple's cell at a place: NULL where there is none, as in a subtotal of the column.
+fn total_at(tuple: &Tuple, place: Option<usize>) -> Result<Total, AllocError>
+    ensures { IfOk result (λ t. t ≡ cell_total (cell_of_place tuple.now place)) }
+{
+    match place {
+        None => Ok(Total::Null),
+        Some(place) => match tuple.cells().get(place) {
+            None => Ok(Total::Null),
+            Some(cell) => cell_total(cell),
+        },
+    }
+}
+
+/// GROUPING: 0 for a column that stands in the grouping set, else 1.
+fn grouping(place: Option<usize>) -> Total
+    ensures { result ≡ grouping place }
+{
+    match place {
+        None => Total::Int(1),
+        Some(_) => Total::Int(0),
+    }
+}
+
+/// The value of the first accumulator, and those behind it.
+fn next_total<'a, H: KeyHash<Cell>>(accs: &'a [Acc<H>]) -> Result<(Total, &'a [Acc<H>]), AllocError>
+    ensures total { IfOk result (λ r. r.0 ≡ first_total accs.now) }
+    ensures left { IfOk result (λ r. r.1.now ≡ behind_first accs.now) }
+{
+    match accs.split_first() {
+        None => Ok((Total::Null, accs)),
+        Some((acc, left)) => Ok((acc.finish()?, left)),
+    }
+}
+
+/// The value of an item, and the accumulators that are left for the items behind it.
+fn value_of<'a, H: KeyHash<Cell>>(
+    item: &Item<usize>,
+    set: &[usize],
+    tuple: &Tuple,
+    accs: &'a [Acc<H>],
+) -> Result<(Total, &'a [Acc<H>]), AllocError>
+    ensures value { IfOk result (λ r. r.0 ≡ value_by set.now tuple.now item.now accs.now) }
+    ensures left { IfOk result (λ r. r.1.now ≡ left_by item.now accs.now) }
+{
+    match item {
+        Item::Column(column) => Ok((total_at(tuple, place_in(set, *column))?, accs)),
+        Item::Grouping(column) => Ok((grouping(place_in(set, *column)), accs)),
+        Item::CountRows
+        | Item::Count(_)
+        | Item::CountDistinct(_)
+        | Item::Sum(_)
+        | Item::Min(_)
+        | Item::Max(_) => next_total(accs),
+    }
+}
+
+/// The row of a group.
+pub(crate) fn row_of<H: KeyHash<Cell>>(
+    alloc: Global,
+    set: &[usize],
+    items: &[Item<usize>],
+    tuple: &Tuple,
+    accumulators: &Accumulators<H>,
+) -> Result<ReportRow, AllocError>
+    ensures { IfOk result (λ row. row ≡ row_by set.now tuple.now items.now accumulators.now) }
+{
+    let mut totals = Vec::new(alloc);
+    let mut accs = accumulators.as_slice();
+    for item in items {
+        let (total, left) = value_of(item, set, tuple, accs)?;
+        totals.push(total)?;
+        accs = left;
+    }
+    Ok(ReportRow { totals })
+}

@@ -1,0 +1,4 @@
+//! Tests of what no clause says: that calls succeed.
+
+mod finishing;
+mod tuples;

@@ -1,0 +1,49 @@
+//! Tuples made of some of the cells of a row, or of a finer tuple.
+ghost use Rattle.std.specs.Prelude.{◌≡◌, IfOk, IsTrue, length};
+ghost use Rattle.groups.specs.Folding.{AreWithin, picked};
+
+use cells::{Cell, KeyHash, Tuple};
+use std::alloc::{AllocError, Global};
+
+/// An odd number of 64 bits whose ones and zeros follow no pattern: 2^64 divided by the golden ratio.
+const SPREAD: u64 = 11_400_714_819_323_198_485;
+
+/// The tuple of the cells at the places.
+pub fn tuple_of(alloc: Global, cells: &[Cell], places: &[usize]) -> Result<Tuple, AllocError>
+    requires { AreWithin (length cells.now) places.now }
+    ensures { IfOk result (λ t. t ≡ picked places.now cells.now) }
+{
+    let mut tuple = Vec::new(alloc);
+    for place in places {
+        tuple.push(cells[*place].clone()?)?;
+    }
+    Ok(Tuple::new(tuple))
+}
+
+/// Whether the tuple is that of the cells at the places. It takes no memory.
+pub fn is_tuple_of(tuple: &[Cell], cells: &[Cell], places: &[usize]) -> bool
+    requires { AreWithin (length cells.now) places.now }
+    ensures { IsTrue result → tuple.now ≡ picked places.now cells.now }
+{
+    if tuple.len() != places.len() {
+        return false;
+    }
+    for (i, place) in places.iter().enumerate() {
+        if tuple[i] != cells[*place] {
+            return false;
+        }
+    }
+    true
+}
+
+/// A hash of the cells at the places, of which nothing is asked but speed. Hashes of small integers differ in a few
+/// bits alone, so that a sum of multiples of them is often the same: they are turned and spread. It takes no memory.
+pub fn hash_of<H: KeyHash<Cell>>(cells: &[Cell], places: &[usize]) -> u64
+    requires { AreWithin (length cells.now) places.now }
+{
+    let mut hash = 0u64;
+    for place in places {
+        hash = (hash.rotate_left(23) ^ H::hash(&cells[*place])).wrapping_mul(SPREAD);
+    }
+    hash
+}
