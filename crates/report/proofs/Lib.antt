@@ -1,1 +1,4 @@
+pub mod GatheringLemmas
+pub mod PiecesLemmas
+pub mod TableRowsLemmas
 pub mod WritingLemmas

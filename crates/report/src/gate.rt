@@ -4,11 +4,11 @@
 /// it returns, and so holds the thread that called it there; what a run writes does not depend on its
 /// gate. Each method does nothing unless an implementation says otherwise.
 pub trait Gate: Sync {
-    /// A worker is about to work on the piece of this number, counted from 0. Called by the worker,
-    /// and only where there are workers.
+    /// The work on the piece of this number, counted from 0, is about to begin. Called by the thread that
+    /// does the work.
     fn entered(&self, _piece: u64) {}
 
-    /// The worker is done with the piece of this number. Called by the worker that entered it.
+    /// The work on the piece of this number is done. Called by the thread that entered it.
     fn left(&self, _piece: u64) {}
 
     /// The edition of this number, counted from 1, is the last published one now. Called after each

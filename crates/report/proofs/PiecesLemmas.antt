@@ -1,0 +1,57 @@
+-- The rows of the pieces of a trie are those of its map.
+use Rattle.std.proofs.Common.{◌≡◌, List, [], ◌∷◌, ◌++◌, length, refl, sym, ap, ◌∙◌}
+use Rattle.std.specs.FinMap.{get, len}
+use Rattle.std.specs.List.{AllByRecursion, flat_map}
+use Rattle.std.specs.List.Sorted.{IsPermutation}
+use Rattle.std.proofs.lemmas.List.{length-map, map-append}
+use Rattle.std.proofs.lemmas.List.Sorted.{IsPermutation-map}
+use Rattle.board.specs.Editions.{AreRowsOf, Rows}
+use Rattle.cells.specs.CellOrder.{cell_cmp, cell_cmp-total}
+use Rattle.cells.specs.Fitting.{IsRowOf}
+use Rattle.cells.specs.Laws.{len_left}
+use Rattle.cells.specs.Tables.{keyed_rows, table}
+use Rattle.cells.specs.Updates.{AreLeft}
+use Rattle.cells.specs.Values.{Entry, Table}
+use Rattle.cells.specs.declared.cell.Cell.{Cell}
+use Rattle.groups.specs.Partials.{rows_of}
+use Rattle.trie.specs.Maps.{map_of}
+use Rattle.report.specs.Pieces.{HoldRows, rows_in}
+use Rattle.report.proofs.TableRowsLemmas.{each_held, same_map_moves}
+
+rows_of_keyed : (rs : List Entry) → rows_of (keyed_rows rs) ≡ rs
+rows_of_keyed [] = refl
+rows_of_keyed (r ∷ rs) = ap (λ held. r ∷ held) (rows_of_keyed rs)
+
+-- no key comes twice
+once : (rs : List Entry) → AreLeft rs → len (table rs) ≡ length (keyed_rows rs)
+once rs left = len_left rs left ∙ sym (length-map rs (λ r. (r.key, r)))
+
+-- the rows of entries that stand in pieces
+rows_joined : (pieces : List (List (Cell × Entry))) → rows_of (flat_map (λ piece. piece) pieces) ≡ rows_in pieces
+rows_joined [] = refl
+rows_joined (piece ∷ pieces) = map-append (λ e. e.1) piece (flat_map (λ p. p) pieces) ∙ ap (λ rest. rows_of piece ++ rest) (rows_joined pieces)
+
+-- what holds of the rows of entries
+all_rows : (P : Entry → Type 0) (es : List (Cell × Entry)) → AllByRecursion (λ e. P e.1) es → AllByRecursion P (rows_of es)
+all_rows P [] all = tt
+all_rows P (e ∷ es) all = (all.0, all_rows P es all.1)
+
+module _ (rows : Rows) (es : List (Cell × Entry)) (is : map_of cell_cmp es ≡ rows) (es_once : len (map_of cell_cmp es) ≡ length es) where
+  entries_each : (rs : List Entry) → AreLeft rs → rows ≡ table rs → IsPermutation (rows_of es) rs
+  entries_each rs left same = rw (← rows_of_keyed rs)
+      (IsPermutation-map (λ (e : Cell × Entry). e.1) es (keyed_rows rs)
+      (same_map_moves cell_cmp-total es (keyed_rows rs) es_once (once rs left) (is ∙ same)))
+
+  entries_fit : (t : Table) → AreRowsOf t rows → AllByRecursion (IsRowOf t) (rows_of es)
+  entries_fit t are = all_rows (IsRowOf t) es
+      (each_held cell_cmp-total (λ e. IsRowOf t e.1) es es_once (λ k r found. are.fit k r (ap (λ (m : Rows). get m k) (sym is) ∙ found)))
+
+  -- pieces that are the entries, joined in order
+  pub hold_rows : (pieces : List (List (Cell × Entry))) → flat_map (λ piece. piece) pieces ≡ es → HoldRows rows pieces
+  hold_rows pieces joined =
+      let same : rows_of es ≡ rows_in pieces = ap rows_of (sym joined) ∙ rows_joined pieces in
+      record {
+        each = λ rs left alike. rw same at (entries_each rs left alike);
+        fit = λ t are. rw same at (entries_fit t are);
+        count = ap length (sym same) ∙ length-map es (λ e. e.1) ∙ sym es_once ∙ ap (λ (m : Rows). len m) is;
+      }

@@ -1,0 +1,120 @@
+-- Entries in which no key comes twice, and those of their finite map: the same entries, in another order.
+use Rattle.std.proofs.Common.{◌≡◌, ℕ, ◌+◌, ◌≤◌, suc, Bool, true, false, cond, Option, Some, None, List, [], ◌∷◌, ◌++◌, length, map, inl, inr, refl, sym, ap, ◌∙◌, arith}
+use Rattle.std.specs.Prelude.{is_some}
+use Rattle.std.specs.Cmp.{IsTotalOrder}
+use Rattle.std.specs.FinMap.{FinMap, contains_key, empty, entries, entries-insert, find, from_entries, get, get-entries, get-insert, insert, len, len-empty, len-entries, len-insert, put}
+use Rattle.std.specs.FinMap.Entries.{by_order, find_tied}
+use Rattle.std.specs.List.{AllByRecursion}
+use Rattle.std.specs.List.Sorted.{IsPermutation}
+use Rattle.std.specs.Ordering.{eq_by_cmp, is_eq}
+use Rattle.std.specs.declared.cmp.Ordering.{Ordering}
+use Rattle.std.specs.declared.cmp.Ordering.TheVariants.{Less, Equal, Greater}
+use Rattle.std.proofs.lemmas.Bool.{cases_Bool}
+use Rattle.std.proofs.lemmas.Cmp.{tied_itself}
+use Rattle.std.proofs.lemmas.List.Sorted.{IsPermutation-append_comm, IsPermutation-append_left, IsPermutation-cons, IsPermutation-map, IsPermutation-refl, IsPermutation-sym, IsPermutation-trans}
+
+no_entry : {A : Type 0} (xs : List A) → length xs ≡ 0 → xs ≡ []
+no_entry [] is = refl
+no_entry (x ∷ xs) is = absurd (omega arith)
+
+missing : {A : Type 0} (x : Option A) → is_some x ≡ false → x ≡ None
+missing None is = refl
+missing (Some a) is = absurd (cc)
+
+is_Equal : (r : Ordering) → is_eq r ≡ true → r ≡ Equal
+is_Equal Less is = absurd (cc)
+is_Equal Equal is = refl
+is_Equal Greater is = absurd (cc)
+
+-- a map that has a key keeps its length, one that has not gets longer
+at_most : (has : Bool) (m n : ℕ) → m ≤ n → cond has m (m + 1) ≤ suc n
+at_most true m n most = omega arith
+at_most false m n most = omega arith
+
+is_new : (has : Bool) (m n : ℕ) → m ≤ n → cond has m (m + 1) ≡ suc n → has ≡ false
+is_new true m n most is = absurd (omega arith)
+is_new false m n most is = refl
+
+one_less : (has : Bool) (m n : ℕ) → m ≤ n → cond has m (m + 1) ≡ suc n → m ≡ n
+one_less true m n most is = absurd (omega arith)
+one_less false m n most is = omega arith
+
+nothing_held : {K : Type 0} (V : Type 0) (R : K → K → Ordering) → entries (empty {X = V} {R = R}) ≡ []
+nothing_held V R = no_entry (entries (empty {X = V} {R = R})) (sym (len-entries (empty {X = V} {R = R})) ∙ len-empty R V)
+
+module _ {K V : Type 0} (R : K → K → Ordering) where
+  -- an entry moves to its place, where its key is new
+  placed_cons : (r : Ordering) (k : K) (v : V) (e : K × V) (new es : List (K × V)) → cond (is_eq r) (Some e.1) (find R k es) ≡ None →
+      (find R k es ≡ None → IsPermutation ((k, v) ∷ es) new) →
+      IsPermutation ((k, v) ∷ e ∷ es) (by_order r ((k, v) ∷ e ∷ es) ((e.0, v) ∷ es) (e ∷ new))
+  placed_cons Less k v e new es none ih = IsPermutation-refl ((k, v) ∷ e ∷ es)
+  placed_cons Equal k v e new es none ih = absurd (cc)
+  placed_cons Greater k v e new es none ih =
+      IsPermutation-trans ((k, v) ∷ e ∷ es) (e ∷ (k, v) ∷ es) (e ∷ new)
+      (IsPermutation-append_left es ((k, v) ∷ e ∷ []) (e ∷ (k, v) ∷ []) (IsPermutation-append_comm ((k, v) ∷ []) (e ∷ [])))
+      (IsPermutation-cons e ((k, v) ∷ es) new (ih none))
+
+  placed : (es : List (K × V)) (k : K) (v : V) → find R k es ≡ None → IsPermutation ((k, v) ∷ es) (put R k v es)
+  placed [] k v none = IsPermutation-refl ((k, v) ∷ [])
+  placed (e ∷ es) k v none = placed_cons (R k e.0) k v e (put R k v es) es none (placed es k v)
+
+module _ {K V : Type 0} {R : K → K → Ordering} (o : IsTotalOrder R) where
+  -- no key comes twice in the entries
+  abbrev pub IsOnce : List (K × V) → Type 0
+  IsOnce es = len (from_entries {R = R} es) ≡ length es
+
+  len_at_most : (es : List (K × V)) → len (from_entries {R = R} es) ≤ length es
+  len_at_most [] = rw (len-empty R V) (omega arith)
+  len_at_most (e ∷ es) = rw (len-insert o (from_entries es) e.0 e.1) (at_most (contains_key (from_entries {R = R} es) e.0) _ _ (len_at_most es))
+
+  longer : (e : K × V) (es : List (K × V)) → IsOnce (e ∷ es) →
+      cond (contains_key (from_entries {R = R} es) e.0) (len (from_entries {R = R} es)) (len (from_entries {R = R} es) + 1) ≡ suc (length es)
+  longer e es once = sym (len-insert o (from_entries {R = R} es) e.0 e.1) ∙ once
+
+  first_is_new : (e : K × V) (es : List (K × V)) → IsOnce (e ∷ es) → get (from_entries {R = R} es) e.0 ≡ None
+  first_is_new e es once =
+      missing (get (from_entries {R = R} es) e.0) (is_new (contains_key (from_entries {R = R} es) e.0) _ _ (len_at_most es) (longer e es once))
+
+  rest_once : (e : K × V) (es : List (K × V)) → IsOnce (e ∷ es) → IsOnce es
+  rest_once e es once = one_less (contains_key (from_entries {R = R} es) e.0) _ _ (len_at_most es) (longer e es once)
+
+  -- the map has the entries, in the order of their keys
+  pub entries_move : (es : List (K × V)) → IsOnce es → IsPermutation es (entries (from_entries {R = R} es))
+  entries_move [] once = rw (nothing_held V R) (IsPermutation-refl [])
+  entries_move (e ∷ es) once =
+      let m = from_entries {R = R} es in
+      IsPermutation-trans (e ∷ es) (e ∷ entries m) (entries (insert m e.0 e.1))
+      (IsPermutation-cons e es (entries m) (entries_move es (rest_once e es once)))
+      (rw (entries-insert o m e.0 e.1) (placed R (entries m) e.0 e.1 (sym (get-entries m e.0) ∙ first_is_new e es once)))
+
+  -- entries of one map are the same, in another order
+  pub same_map_moves : (es fs : List (K × V)) → IsOnce es → IsOnce fs → from_entries {R = R} es ≡ from_entries {R = R} fs → IsPermutation es fs
+  same_map_moves es fs es_once fs_once same =
+      IsPermutation-trans es (entries (from_entries {R = R} es)) fs (entries_move es es_once)
+      (rw same (IsPermutation-sym fs (entries (from_entries {R = R} fs)) (entries_move fs fs_once)))
+
+  tied_get : (m : FinMap R V) (q k : K) → R q k ≡ Equal → get m k ≡ get m q
+  tied_get m q k tied = get-entries m k ∙ find_tied R o q k tied (entries m) ∙ sym (get-entries m q)
+
+  -- another entry of the map stays what it was with the first
+  still_held : (e : K × V) (es : List (K × V)) → IsOnce (e ∷ es) → (k : K) (v : V) → get (from_entries {R = R} es) k ≡ Some v →
+      get (from_entries {R = R} (e ∷ es)) k ≡ Some v
+  still_held e es once k v is =
+      let m = from_entries {R = R} es in
+      elim (cases_Bool (eq_by_cmp R k e.0)) [
+        | inl same ↦
+            let none = first_is_new e es once in
+            let alike = tied_get m k e.0 (is_Equal (R k e.0) same) in
+            absurd (cc)
+        | inr other ↦ get-insert o m e.0 e.1 k ∙ ap (λ b. cond b (Some e.1) (get m k)) other ∙ is
+      ]
+
+  -- what holds of each entry of the map holds of each of the entries
+  pub each_held : (P : K × V → Type 0) (es : List (K × V)) → IsOnce es → ((k : K) (v : V) → get (from_entries {R = R} es) k ≡ Some v → P (k, v)) →
+      AllByRecursion P es
+  each_held P [] once held = tt
+  each_held P (e ∷ es) once held =
+      let m = from_entries {R = R} es in (
+        held e.0 e.1 (get-insert o m e.0 e.1 e.0 ∙ ap (λ r. cond (is_eq r) (Some e.1) (get m e.0)) (tied_itself o e.0)),
+        each_held P es (rest_once e es once) (λ k v is. held k v (still_held e es once k v is)),
+      )

@@ -1,0 +1,4 @@
+//! The limits that this crate decides.
+
+/// The most workers of a report. The fewest is one.
+pub const MAX_WORKERS: u64 = 64;

@@ -1,0 +1,86 @@
+//! The text of a report.
+ghost use Rattle.std.specs.Prelude.{◌≡◌, ◌++◌, IfErr, IfOk, OnOk};
+ghost use Rattle.std.specs.List.{flat_map};
+ghost use Rattle.cells.specs.Literals.{literal_of};
+ghost use Rattle.report.specs.Reports.{header_text, report_text, row_text, separator};
+
+use cells::{Refused, Text, Total, literal};
+use groups::ReportRow;
+use query::Plan;
+use std::alloc::{AllocError, Global};
+
+/// What stands between two values of a line.
+const SEPARATOR: &[u8] = b" | ";
+
+/// The text of a report: the plan's headings in one line, and then a line for each row.
+///
+/// [`Refused::OutOfMemory`] where a growth of the text was refused.
+pub fn text(alloc: Global, plan: &Plan, rows: &[ReportRow]) -> Result<Vec<u8>, Refused>
+    ensures text { IfOk result (λ text. text.items ≡ report_text plan.now rows.now) }
+    ensures refused { IfErr result (λ e. e ≡ Refused.OutOfMemory) }
+{
+    let mut text = Vec::new(alloc);
+    push_header(&mut text, plan.headings())?;
+    for row in rows {
+        push_row(alloc, &mut text, row.totals.as_slice())?;
+    }
+    Ok(text)
+}
+
+/// The text with the line of the headings behind it.
+fn push_header(text: &mut Vec<u8>, headings: &[Text]) -> Result<(), AllocError>
+    ensures { OnOk result (text.new.items ≡ text.old.items ++ header_text headings.now) }
+{
+    if let Some((first, rest)) = headings.split_first() {
+        text.extend_from_slice(first.as_str().as_bytes())?;
+        push_headings(text, rest)?;
+    }
+    text.push(b'\n')?;
+    Ok(())
+}
+
+/// The text with the headings behind it, each after a separator.
+fn push_headings(text: &mut Vec<u8>, headings: &[Text]) -> Result<(), AllocError>
+    ensures { OnOk result (text.new.items ≡ text.old.items ++ flat_map (λ heading. separator ++ heading) headings.now) }
+{
+    for heading in headings {
+        text.extend_from_slice(SEPARATOR)?;
+        text.extend_from_slice(heading.as_str().as_bytes())?;
+    }
+    Ok(())
+}
+
+/// The text with the line of a row behind it.
+fn push_row(alloc: Global, text: &mut Vec<u8>, totals: &[Total]) -> Result<(), Refused>
+    ensures text { OnOk result (text.new.items ≡ text.old.items ++ row_text totals.now) }
+    ensures refused { IfErr result (λ e. e ≡ Refused.OutOfMemory) }
+{
+    if let Some((first, rest)) = totals.split_first() {
+        push_literal(alloc, text, first)?;
+        push_literals(alloc, text, rest)?;
+    }
+    text.push(b'\n')?;
+    Ok(())
+}
+
+/// The text with the values behind it, each after a separator.
+fn push_literals(alloc: Global, text: &mut Vec<u8>, totals: &[Total]) -> Result<(), Refused>
+    ensures text { OnOk result (text.new.items ≡ text.old.items ++ flat_map (λ total. separator ++ literal_of total) totals.now) }
+    ensures refused { IfErr result (λ e. e ≡ Refused.OutOfMemory) }
+{
+    for total in totals {
+        text.extend_from_slice(SEPARATOR)?;
+        push_literal(alloc, text, total)?;
+    }
+    Ok(())
+}
+
+/// The text with a value behind it.
+fn push_literal(alloc: Global, text: &mut Vec<u8>, total: &Total) -> Result<(), Refused>
+    ensures text { OnOk result (text.new.items ≡ text.old.items ++ literal_of total.now) }
+    ensures refused { IfErr result (λ e. e ≡ Refused.OutOfMemory) }
+{
+    let value = literal(alloc, total)?;
+    text.extend_from_slice(value.as_bytes())?;
+    Ok(())
+}
