@@ -1,10 +1,12 @@
 pub mod BlocksLemmas
 pub mod CommandsLemmas
 pub mod CommandLineLemmas
-pub mod DepthLemmas
 pub mod FoldersLemmas
 pub mod LinesLemmas
 pub mod ProgramLemmas
 pub mod ProgressLemmas
+pub mod SaysLemmas
 pub mod StatementsLemmas
 pub mod StepsLemmas
+pub mod WorkedLemmas
+pub mod WorkedQueriesLemmas

@@ -1,15 +1,16 @@
 -- What the program wrote, from what its parts say.
-use Rattle.std.proofs.Common.{ℕ, List, [], Option, refl, sym}
+use Rattle.std.proofs.Common.{ℕ, List, [], Option, sym}
 use Rattle.std.specs.Prelude.{Result, Ok, Err, OnErr, OnOk}
 use Rattle.std.proofs.lemmas.List.{append-nil}
 use Rattle.std.specs.Io.KnownBytes.{Appends, Keeps}
 use Rattle.std.proofs.KnownBytes.{Appends-kept}
 use Rattle.clap.specs.Words.{Text}
+use Rattle.olap.specs.Endings.{BeginsToWrite, Writes}
 use Rattle.olap.specs.Folders.{AreTold, Tells}
 use Rattle.olap.specs.Hows.{hash_of_choice}
 use Rattle.olap.specs.Jobs.{AsksToRun}
-use Rattle.olap.specs.Output.{output}
-use Rattle.olap.specs.Programs.{AskToWrite, BeginsToWrite, Writes}
+use Rattle.olap.specs.Output.{IsOutput}
+use Rattle.olap.specs.Programs.{AskToWrite}
 use Rattle.report.specs.Taken.{TakesBeginning}
 use Rattle.olap.specs.declared.job.Job.{Job}
 
@@ -25,27 +26,29 @@ takes_kept a b c whole t k = record {
 }
 
 -- a run and then its close leave a beginning
-pub takes_closed : {T E : Type 0} (a b c : Option (List ℕ)) (whole : List ℕ) (ended : Result T E) → OnOk ended (Appends a b whole) →
-    OnErr ended (TakesBeginning a b whole) → Keeps b c → TakesBeginning a c whole
-takes_closed a b c whole (Ok x) all part k = takes_kept a b c whole (takes_all a b whole all) k
-takes_closed a b c whole (Err e) all part k = takes_kept a b c whole part k
+pub begins_closed : {T E : Type 0} (IsWhole : List ℕ → Type 0) (a b c : Option (List ℕ)) (ended : Result T E) → OnOk ended (Writes IsWhole a b) →
+    OnErr ended (BeginsToWrite IsWhole a b) → Keeps b c → BeginsToWrite IsWhole a c
+begins_closed IsWhole a b c (Ok x) all part k = record { whole = all.whole; is_whole = all.is_whole; beginning = takes_kept a b c all.whole (takes_all a b all.whole all.taken) k }
+begins_closed IsWhole a b c (Err e) all part k = record { whole = part.whole; is_whole = part.is_whole; beginning = takes_kept a b c part.whole part.beginning k }
 
 -- the output that the words ask for, from what was read
 pub asked : (file : List ℕ → Option (List ℕ)) (words : List Text) (job : Job) (script : List ℕ) (parts : List (List ℕ)) → AsksToRun words job →
-    Tells (file job.script) script → AreTold file job.parts.items parts →
-    AskToWrite file words (output (hash_of_choice job.hash) (record { limit = job.how.rows; parts = parts }) script)
-asked file words job script parts a s p = record {
+    Tells (file job.script) script → AreTold file job.parts.items parts → (whole : List ℕ) →
+    IsOutput (hash_of_choice job.hash) (record { limit = job.how.rows; parts = parts }) script whole → AskToWrite file words whole
+asked file words job script parts a s p whole is = record {
   job = job;
   asked = a;
   script = script;
   script_told = s;
   parts = parts;
   parts_told = p;
-  whole_is = refl;
+  is_output = is;
 }
 
-pub wrote : (IsWhole : List ℕ → Type 0) (a b : Option (List ℕ)) (whole : List ℕ) → IsWhole whole → Appends a b whole → Writes IsWhole a b
-wrote IsWhole a b whole is p = record { whole = whole; is_whole = is; taken = p }
+module _ (Is IsWhole : List ℕ → Type 0) (a b : Option (List ℕ)) (so : (whole : List ℕ) → Is whole → IsWhole whole) where
+  -- what was written is so, since what it was said to be is
+  pub writes_as : Writes Is a b → Writes IsWhole a b
+  writes_as w = record { whole = w.whole; is_whole = so w.whole w.is_whole; taken = w.taken }
 
-pub began : (IsWhole : List ℕ → Type 0) (a b : Option (List ℕ)) (whole : List ℕ) → IsWhole whole → TakesBeginning a b whole → BeginsToWrite IsWhole a b
-began IsWhole a b whole is t = record { whole = whole; is_whole = is; beginning = t }
+  pub begins_as : BeginsToWrite Is a b → BeginsToWrite IsWhole a b
+  begins_as w = record { whole = w.whole; is_whole = so w.whole w.is_whole; beginning = w.beginning }

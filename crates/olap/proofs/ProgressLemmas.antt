@@ -1,25 +1,29 @@
 -- How far a run has come.
-use Rattle.std.proofs.Common.{◌≡◌, ℕ, ◌+◌, ◌<◌, ◌≤◌, Bool, true, false, cond, Option, Some, None, Err, List, [], ◌∷◌, ◌++◌, length, map, reverse, refl, ap, subst, Bor, arith}
-use Rattle.std.proofs.lemmas.Bool.Decides.{nat_tests}
-use Rattle.std.proofs.lemmas.List.{map-append, reverse-append}
+use Rattle.std.proofs.Common.{◌≡◌, ◌⊎◌, ℕ, ◌+◌, ◌<◌, ◌≤◌, Bool, true, false, cond, Option, Some, None, Result, Ok, Err, List, [], ◌∷◌, ◌++◌, inl, inr, length, map, reverse, refl, sym, ap, subst, append_assoc, Bor, arith}
+use Rattle.std.proofs.lemmas.List.{append-nil, length-map, map-append, reverse-append}
 use Rattle.std.proofs.lemmas.List.Splits.{length-slice_split}
 use Rattle.std.proofs.lemmas.List.Sums.{count_by-le-length}
+use Rattle.std.proofs.KnownBytes.{Appends-nil, Appends-trans}
 use Rattle.std.specs.Io.KnownBytes.{Appends}
 use Rattle.std.specs.List.{slice_split}
-use Rattle.std.specs.Prelude.{◌==◌}
+use Rattle.std.specs.Prelude.{◌==◌, IfErr, IsErr, Vec}
 use Rattle.std.specs.Str.Lines.{lines, lines_of_parts}
+use Rattle.std.specs.declared.alloc.Global.{Global}
 use Rattle.board.specs.Editions.{Editions}
-use Rattle.cells.specs.declared.refused.Refused.TheVariants.{Limit}
-use Rattle.olap.specs.Endings.{Delivers}
-use Rattle.olap.specs.Givens.{Givens}
-use Rattle.olap.specs.declared.ended.Ended.TheVariants.{WriteFailed}
-use Rattle.olap.specs.Limits.{part_limit, script_limit}
-use Rattle.olap.specs.declared.fault.Fault.TheVariants.{Line}
 use Rattle.cells.specs.declared.cell.Cell.{Cell}
-use Rattle.olap.specs.Output.{blocks, deed_behind, edition, is_publish, output, refusal}
+use Rattle.cells.specs.declared.refused.Refused.TheVariants.{Limit}
+use Rattle.olap.specs.Endings.{BeginsToWrite, Delivers, Writes}
+use Rattle.olap.specs.Givens.{Givens, givens}
+use Rattle.olap.specs.Limits.{part_limit, script_limit}
+use Rattle.olap.specs.Output.{AreBlocks, IsOutput, IsTooMuch, deed_behind, edition, is_publish, line_first, no_line, of_lines, refusal, too_much}
 use Rattle.olap.specs.Stands.{Executes, Publishable, Stands}
-use Rattle.report.specs.Taken.{TakesBeginning, TakesUpTo}
-use Rattle.report.specs.Laws.{takes_beginning, takes_more, takes_so_far, takes_start, takes_whole}
+use Rattle.olap.specs.declared.ended.Ended.{Ended}
+use Rattle.olap.specs.declared.ended.Ended.TheVariants.{OutOfMemory, WriteFailed}
+use Rattle.olap.specs.declared.fault.Fault.TheVariants.{Line}
+use Rattle.olap.proofs.BlocksLemmas.{some_blocks}
+use Rattle.olap.proofs.SaysLemmas.{EachAnswered}
+use Rattle.report.specs.Laws.{takes_beginning}
+use Rattle.report.specs.Taken.{TakesBeginning}
 
 -- the lines that a loop has gone over, the last one first
 abbrev pub last_first : List (Bor (List ℕ)) → List (List ℕ)
@@ -28,16 +32,20 @@ last_first yielded = reverse (map (λ line. line.now) yielded)
 pub last_first-more : (yielded : List (Bor (List ℕ))) (line : Bor (List ℕ)) → last_first (yielded ++ line ∷ []) ≡ line.now ∷ last_first yielded
 last_first-more yielded line = rw (map-append, reverse-append) refl
 
--- the lines before were run, and the rest is to be run
+-- the lines before were run, and the rest is to be run: behind what was taken, any blocks of the rest are the script's
 pub record Reached (old new : Option (List ℕ)) (hash : Cell → ℕ) (givens : Givens) (before rest script : List (List ℕ)) (desk : Option Editions) (number : ℕ) : Type 0 where
-  pub taken : TakesUpTo old new (blocks hash givens [] script) (blocks hash givens before rest)
+  pub front : List ℕ
+  pub taken : Appends old new front
+  pub blocks : (bytes : List ℕ) → AreBlocks hash givens before rest bytes → AreBlocks hash givens [] script (front ++ bytes)
   pub stands : Stands givens before desk
   pub number_is : number ≡ length before
   pub short : length before + length rest ≤ script_limit + 1
 
 pub reached_start : (told : Option (List ℕ)) (hash : Cell → ℕ) (givens : Givens) (script : List (List ℕ)) → length script ≤ script_limit + 1 → Reached told told hash givens [] script script None 0
 reached_start told hash givens script short = record {
-  taken = takes_start told (blocks hash givens [] script);
+  front = [];
+  taken = Appends-nil told;
+  blocks = λ bytes are. are;
   stands = refl;
   number_is = refl;
   short = omega arith;
@@ -45,37 +53,81 @@ reached_start told hash givens script short = record {
 
 module _ (old new : Option (List ℕ)) (hash : Cell → ℕ) (givens : Givens) (before left script : List (List ℕ)) (desk : Option Editions) (number : ℕ) (reached : Reached old new hash givens before left script desk number) where
   module _ (line : List ℕ) (rest : List (List ℕ)) (after : Option Editions) (piece : List ℕ) (is : left ≡ line ∷ rest) (executes : Executes hash givens line (number + 1) desk after piece) where
-    -- the piece that comes next
-    next_piece : TakesUpTo old new (blocks hash givens [] script) (piece ++ blocks hash givens (line ∷ before) rest)
-    next_piece =
-        let counted : number + 1 ≡ length before + 1 = ap (λ n. n + 1) reached.number_is in
-        rw (executes.block before reached.stands counted) (subst (λ ls. TakesUpTo old new (blocks hash givens [] script) (blocks hash givens before ls)) is reached.taken)
+    -- the piece comes next
+    next_piece : (bytes : List ℕ) → AreBlocks hash givens (line ∷ before) rest bytes → AreBlocks hash givens [] script (reached.front ++ (piece ++ bytes))
+    next_piece bytes are =
+        let block = executes.block before reached.stands (ap (λ n. n + 1) reached.number_is) in
+        reached.blocks (piece ++ bytes) (subst (λ ls. AreBlocks hash givens before ls (piece ++ bytes)) (sym is) (line_first piece bytes block are))
 
     -- one line more
     pub reached_more : (newer : Option (List ℕ)) → Appends new newer piece → Reached old newer hash givens (line ∷ before) rest script after (number + 1)
     reached_more newer appends = record {
-      taken = takes_more old new newer (blocks hash givens [] script) piece (blocks hash givens (line ∷ before) rest) next_piece appends;
+      front = reached.front ++ piece;
+      taken = Appends-trans old new newer reached.front piece reached.taken appends;
+      blocks = λ bytes are. subst (AreBlocks hash givens [] script) (sym (append_assoc reached.front piece bytes)) (next_piece bytes are);
       stands = executes.stands before reached.stands;
       number_is = omega (arith, reached.number_is);
       short = omega (arith, reached.short, ap length is);
     }
 
     -- a beginning of the next piece
-    pub reached_beginning : (newer : Option (List ℕ)) → TakesBeginning new newer piece → TakesBeginning old newer (blocks hash givens [] script)
-    reached_beginning newer beginning = takes_beginning old new newer (blocks hash givens [] script) piece (blocks hash givens (line ∷ before) rest) next_piece beginning
+    pub reached_beginning : EachAnswered → (newer : Option (List ℕ)) → TakesBeginning new newer piece → BeginsToWrite (AreBlocks hash givens [] script) old newer
+    reached_beginning each newer beginning =
+        let (bytes, are) = some_blocks each hash givens rest (line ∷ before) in
+        record {
+          whole = reached.front ++ (piece ++ bytes);
+          is_whole = next_piece bytes are;
+          beginning = takes_beginning old new newer (reached.front ++ (piece ++ bytes)) piece bytes (record { front = reached.front; whole_is = refl; taken = reached.taken }) beginning;
+        }
 
   -- the pieces so far
-  pub reached_so_far : TakesBeginning old new (blocks hash givens [] script)
-  reached_so_far = takes_so_far old new (blocks hash givens [] script) (blocks hash givens before left) reached.taken
+  pub reached_so_far : EachAnswered → BeginsToWrite (AreBlocks hash givens [] script) old new
+  reached_so_far each =
+      let (bytes, are) = some_blocks each hash givens left before in
+      record {
+        whole = reached.front ++ bytes;
+        is_whole = reached.blocks bytes are;
+        beginning = record { rest = bytes; up_to = record { front = reached.front; whole_is = refl; taken = reached.taken } };
+      }
 
   -- no line is left
-  pub reached_end : left ≡ [] → Appends old new (blocks hash givens [] script)
-  reached_end is = takes_whole old new (blocks hash givens [] script) (subst (λ ls. TakesUpTo old new (blocks hash givens [] script) (blocks hash givens before ls)) is reached.taken)
+  pub reached_end : left ≡ [] → Writes (AreBlocks hash givens [] script) old new
+  reached_end is = record {
+    whole = reached.front;
+    is_whole = subst (AreBlocks hash givens [] script) (append-nil reached.front) (reached.blocks [] (subst (λ ls. AreBlocks hash givens before ls []) (sym is) no_line));
+    taken = reached.taken;
+  }
 
--- the writer failed behind a beginning of the whole
-pub delivers_late : {W : Type 0} (taken : W → Option (List ℕ)) (faults : W → ℕ) (old new : W) (whole : List ℕ)
-    → TakesBeginning (taken old) (taken new) whole → faults old < faults new → Delivers {T = Unit {0}} taken faults old new whole (Err WriteFailed)
-delivers_late taken faults old new whole beginning failed = record { output = tt; beginning = beginning; fault = λ e. failed; sound = tt }
+-- ---- how a run ends
+
+module _ {W : Type 0} (taken : W → Option (List ℕ)) (faults : W → ℕ) (old new : W) (IsWhole : List ℕ → Type 0) where
+  -- all of it was written
+  pub delivers_whole : {T : Type 0} (x : T) → Writes IsWhole (taken old) (taken new) → faults new ≡ faults old → Delivers {T = T} taken faults old new IsWhole (Ok x)
+  delivers_whole x whole sound = record { output = whole; beginning = tt; fault = λ e. absurd cc; sound = sound }
+
+  -- a line ended the run behind a beginning of the whole
+  pub delivers_early : {T : Type 0} (result : Result T Ended) → BeginsToWrite IsWhole (taken old) (taken new) → IsErr result → IfErr result (λ e. e ≡ OutOfMemory) → Delivers taken faults old new IsWhole result
+  delivers_early (Ok x) beginning failed ended = absurd cc
+  delivers_early (Err e) beginning failed ended = record { output = tt; beginning = beginning; fault = λ late. absurd cc; sound = tt }
+
+  -- the writer failed behind a beginning of the whole
+  pub delivers_late : BeginsToWrite IsWhole (taken old) (taken new) → faults old < faults new → Delivers {T = Unit {0}} taken faults old new IsWhole (Err WriteFailed)
+  delivers_late beginning failed = record { output = tt; beginning = beginning; fault = λ e. failed; sound = tt }
+
+  -- what was delivered is so, since what it was said to be is
+  pub delivers_as : {T : Type 0} (Is : List ℕ → Type 0) (result : Result T Ended) → ((bytes : List ℕ) → Is bytes → IsWhole bytes) → Delivers taken faults old new Is result → Delivers taken faults old new IsWhole result
+  delivers_as Is (Ok x) so d = record {
+    output = record { whole = d.output.whole; is_whole = so d.output.whole d.output.is_whole; taken = d.output.taken };
+    beginning = tt;
+    fault = d.fault;
+    sound = d.sound;
+  }
+  delivers_as Is (Err e) so d = record {
+    output = tt;
+    beginning = record { whole = d.beginning.whole; is_whole = so d.beginning.whole d.beginning.is_whole; beginning = d.beginning.beginning };
+    fault = d.fault;
+    sound = tt;
+  }
 
 -- ---- numbers stay small
 
@@ -107,11 +159,17 @@ length-lines bs = omega (arith, length-lines_of_parts (slice_split (λ b. b == 1
 
 -- ---- a script beyond a limit, and one within them
 
-pub output_long : (hash : Cell → ℕ) (givens : Givens) (script : List ℕ) → script_limit < length script → output hash givens script ≡ refusal 0 (Line Limit)
-output_long hash givens script h = grind (arith, nat_tests)
+module _ {W T : Type 0} (taken : W → Option (List ℕ)) (faults : W → ℕ) (old new : W) (hash : Cell → ℕ) (rows : ℕ) (parts : List (Vec ℕ Global)) (script : List ℕ) (result : Result T Ended) where
+  counted : length (givens rows parts).parts ≡ length parts
+  counted = length-map parts (λ p. p.items)
 
-pub output_many : (hash : Cell → ℕ) (givens : Givens) (script : List ℕ) → part_limit < length givens.parts → output hash givens script ≡ refusal 0 (Line Limit)
-output_many hash givens script h = grind (arith, nat_tests)
+  pub delivers_too_much : (script_limit < length script) ⊎ (part_limit < length parts) → Delivers taken faults old new (λ bytes. bytes ≡ refusal 0 (Line Limit)) result →
+      Delivers taken faults old new (IsOutput hash (givens rows parts) script) result
+  delivers_too_much much d = delivers_as taken faults old new _ _ result (λ bytes is. subst (IsOutput hash (givens rows parts) script) (sym is) (too_much (beyond much))) d where
+    beyond : (script_limit < length script) ⊎ (part_limit < length parts) → IsTooMuch (givens rows parts) script
+    beyond (inl long) = inl long
+    beyond (inr many) = inr (omega (arith, many, counted))
 
-pub output_within : (hash : Cell → ℕ) (givens : Givens) (script : List ℕ) → length script ≤ script_limit → length givens.parts ≤ part_limit → output hash givens script ≡ blocks hash givens [] (lines script)
-output_within hash givens script h i = grind (arith, nat_tests)
+  pub delivers_lines : length script ≤ script_limit → length parts ≤ part_limit → Delivers taken faults old new (AreBlocks hash (givens rows parts) [] (lines script)) result →
+      Delivers taken faults old new (IsOutput hash (givens rows parts) script) result
+  delivers_lines short few d = delivers_as taken faults old new _ _ result (λ bytes are. of_lines short (omega (arith, few, counted)) are) d

@@ -10,6 +10,6 @@ pub mod Keys
 pub mod Limits
 pub mod Output
 pub mod Programs
-pub mod Queries
+pub mod Says
 pub mod Stands
 pub mod Statements

@@ -1,5 +1,5 @@
 -- The numbers that bound a run, each named here and in `src/limits.rt`: the ranges of what it may be told, with what
--- stands where nothing is told, and the limits of a script, its parts and its queries.
+-- stands where nothing is told, and the limits of a script and its parts.
 use Rattle.std.specs.Prelude.{ℕ, ◌≤◌, ◌^◌, ◌-◌}
 use Rattle.trie.specs.Digits.{digit_count}
 use Rattle.board.specs.Limits.{row_limit}
@@ -27,10 +27,3 @@ script_limit = 1048576
 
 abbrev pub part_limit : ℕ
 part_limit = 64
-
--- the most bytes of a query, and the most parentheses that are open at once
-abbrev pub query_limit : ℕ
-query_limit = 65536
-
-abbrev pub parenthesis_limit : ℕ
-parenthesis_limit = 64

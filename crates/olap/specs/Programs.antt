@@ -1,14 +1,12 @@
 -- What the program does with its words, its files and its standard input.
-use Rattle.std.specs.Prelude.{◌≡◌, ◌⊎◌, ℕ, List, [], ◌∷◌, Option}
-use Rattle.std.specs.Io.KnownBytes.{Appends}
+use Rattle.std.specs.Prelude.{◌⊎◌, ℕ, List, [], Option}
 use Rattle.clap.specs.Words.{IsAmong, Text, fault_of}
 use Rattle.clap.specs.declared.error.kind.ErrorKind.TheVariants.{DisplayHelp, DisplayVersion}
 use Rattle.olap.specs.CommandLine.{olap}
 use Rattle.olap.specs.Folders.{AreTold, Tells}
 use Rattle.olap.specs.Hows.{default_hash, default_settings, hash_of_choice}
 use Rattle.olap.specs.Jobs.{AsksToRun}
-use Rattle.olap.specs.Output.{output}
-use Rattle.report.specs.Taken.{TakesBeginning}
+use Rattle.olap.specs.Output.{IsOutput}
 use Rattle.olap.specs.declared.job.Job.{Job}
 
 -- the words ask for help or for the version
@@ -23,22 +21,10 @@ pub record AskToWrite (file : Text → Option (List ℕ)) (words : List Text) (w
   pub script_told : Tells (file job.script) script
   pub parts : List (List ℕ)
   pub parts_told : AreTold file job.parts.items parts
-  pub whole_is : whole ≡ output (hash_of_choice job.hash) (record { limit = job.how.rows; parts = parts }) script
+  pub is_output : IsOutput (hash_of_choice job.hash) (record { limit = job.how.rows; parts = parts }) script whole
 
 -- this is the output of the script that standard input holds, with the defaults and no parts
 pub record IsOutputOf (input : Option (List ℕ)) (whole : List ℕ) : Type 0 where
   pub script : List ℕ
   pub script_told : Tells input script
-  pub whole_is : whole ≡ output (hash_of_choice default_hash) (record { limit = default_settings.rows; parts = [] }) script
-
--- the writer took such an output, whole
-pub record Writes (IsWhole : List ℕ → Type 0) (old new : Option (List ℕ)) : Type 0 where
-  pub whole : List ℕ
-  pub is_whole : IsWhole whole
-  pub taken : Appends old new whole
-
--- the writer took a beginning of such an output
-pub record BeginsToWrite (IsWhole : List ℕ → Type 0) (old new : Option (List ℕ)) : Type 0 where
-  pub whole : List ℕ
-  pub is_whole : IsWhole whole
-  pub beginning : TakesBeginning old new whole
+  pub is_output : IsOutput (hash_of_choice default_hash) (record { limit = default_settings.rows; parts = [] }) script whole

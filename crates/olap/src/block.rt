@@ -1,6 +1,6 @@
 //! The blocks of lines: reports, shapes and refusals.
-ghost use Rattle.std.specs.Prelude.{◌≡◌, ◌++◌, IfErr, IfOk, IsErr, OnOk, string_bytes};
-ghost use Rattle.std.specs.FinMap.{keys, len};
+ghost use Rattle.std.specs.Prelude.{◌≡◌, ◌++◌, IfErr, IfOk, IsErr, Ok, OnOk, string_bytes};
+ghost use Rattle.std.specs.FinMap.{keys};
 ghost use Rattle.std.specs.List.{flat_map};
 ghost use Rattle.trie.specs.Shapes.{shape_of};
 ghost use Rattle.board.specs.Editions as editions;
@@ -14,31 +14,13 @@ use cells::{Cell, KeyHash, Refused};
 use std::alloc::{AllocError, Global};
 use trie::Prefix;
 
-/// The block of a report on the last published edition.
-pub fn report_text<H: KeyHash<Cell>>(
-    alloc: Global,
-    keeper: &Keeper<H>,
-    number: u64,
-) -> Result<String, Ended>
-    ensures text { IfOk result (λ text. string_bytes text ≡ report number (editions.edition keeper.now) (len (editions.published keeper.now))) }
-    ensures ended { IfErr result (λ e. e ≡ Ended.OutOfMemory) }
-{
-    let Ok(snapshot) = keeper.snapshot() else {
-        return Err(Ended::OutOfMemory);
-    };
-    let edition = snapshot.edition();
-    let count = snapshot.root().len();
-    let text = format!(in alloc; "line {number} edition {edition}\nCOUNT(*)\n{count}\n")?;
-    Ok(text)
-}
-
 /// The block of a shape of the last published edition.
 pub fn shape_block<H: KeyHash<Cell>>(
     alloc: Global,
     keeper: &Keeper<H>,
     number: u64,
-) -> Result<String, Ended>
-    ensures text { IfOk result (λ text. string_bytes text ≡ shape_text number (editions.edition keeper.now) (shape_of H.hash_of (keys (editions.published keeper.now)))) }
+) -> Result<Vec<u8>, Ended>
+    ensures block { IfOk result (λ block. block.items ≡ shape_text number (editions.edition keeper.now) (shape_of H.hash_of (keys (editions.published keeper.now)))) }
     ensures ended { IfErr result (λ e. e ≡ Ended.OutOfMemory) }
 {
     let Ok(snapshot) = keeper.snapshot() else {
@@ -48,7 +30,7 @@ pub fn shape_block<H: KeyHash<Cell>>(
     let shape = snapshot.root().shape()?;
     let mut text = format!(in alloc; "line {number} edition {published}\n")?;
     push_lines(&mut text, shape.as_slice())?;
-    Ok(text)
+    Ok(text.into_bytes())
 }
 
 /// The text with a line for each prefix behind it.
@@ -70,8 +52,8 @@ fn push_line(text: &mut String, line: &(Prefix, u64)) -> Result<(), AllocError>
 }
 
 /// The block of a refused line. Want of memory is no refusal of a line: it ends the run.
-pub fn refusal_text(alloc: Global, number: u64, fault: Fault) -> Result<String, Ended>
-    ensures text { IfOk result (λ text. string_bytes text ≡ refusal number fault) }
+pub fn refusal_block(alloc: Global, number: u64, fault: Fault) -> Result<Vec<u8>, Ended>
+    ensures block { IfOk result (λ block. block.items ≡ refusal number fault) }
     ensures memory { fault ≡ Line Refused.OutOfMemory → IsErr result }
     ensures ended { IfErr result (λ e. e ≡ Ended.OutOfMemory) }
 {
@@ -79,5 +61,21 @@ pub fn refusal_text(alloc: Global, number: u64, fault: Fault) -> Result<String, 
         return Err(Ended::OutOfMemory);
     }
     let text = format!(in alloc; "line {number} refused {fault}\n")?;
-    Ok(text)
+    Ok(text.into_bytes())
+}
+
+/// The block of a report: its heading, and then the text of its answer.
+pub fn report_block(
+    alloc: Global,
+    number: u64,
+    edition: u64,
+    answer: &[u8],
+) -> Result<Vec<u8>, Ended>
+    ensures block { IfOk result (λ block. block.items ≡ report number edition (Ok answer.now)) }
+    ensures ended { IfErr result (λ e. e ≡ Ended.OutOfMemory) }
+{
+    let heading = format!(in alloc; "line {number} edition {edition}\n")?;
+    let mut block = heading.into_bytes();
+    block.extend_from_slice(answer)?;
+    Ok(block)
 }

@@ -1,6 +1,6 @@
 //! The numbers that bound a run, each named here and in `specs/Limits.antt`: the ranges of what it may be
-//! told, with what stands where nothing is said, and the limits of a script, its parts and its queries. A
-//! test holds the texts of help to them.
+//! told, with what stands where nothing is said, and the limits of a script and its parts. A test holds the
+//! texts of help to them.
 
 use board::MAX_ROWS;
 use trie::MAX_DEPTH;
@@ -49,9 +49,3 @@ pub const MAX_SCRIPT_BYTES: usize = 1_048_576;
 
 /// The most parts that may be handed in.
 pub const MAX_PARTS: usize = 64;
-
-/// The most bytes of a query.
-pub const MAX_QUERY_BYTES: usize = 65_536;
-
-/// The most parentheses of a query that may be open at once.
-pub const MAX_OPEN_PARENTHESES: usize = 64;

@@ -1,13 +1,13 @@
 //! The program's whole deed over any files, reader and writers: `main` calls it with those of the system.
 ghost use Rattle.std.specs.Prelude.{◌≡◌, ◌⊎◌, [], map, string_bytes};
 ghost use Rattle.std.specs.Io.Buffered.{writer_buffer, writer_contents};
-ghost use Rattle.std.specs.Io.KnownBytes.{Appends, Keeps};
+ghost use Rattle.std.specs.Io.KnownBytes.{Keeps};
+ghost use Rattle.olap.specs.Endings.{BeginsToWrite, Writes};
 ghost use Rattle.olap.specs.Givens.{givens};
 ghost use Rattle.olap.specs.Hows.{hash_of_choice};
 ghost use Rattle.olap.specs.Jobs.{IsHelp};
-ghost use Rattle.olap.specs.Output.{output};
-ghost use Rattle.olap.specs.Programs.{AskForHelp, AskToWrite, BeginsToWrite, IsOutputOf, Writes};
-ghost use Rattle.report.specs.Taken.{TakesBeginning};
+ghost use Rattle.olap.specs.Output.{IsOutput};
+ghost use Rattle.olap.specs.Programs.{AskForHelp, AskToWrite, IsOutputOf};
 
 use crate::close::{NOTHING_RUN, WRITTEN, close_run};
 use crate::how::How;
@@ -93,11 +93,11 @@ pub fn run_input<W: Write + Drop, E: Write>(
     err: &mut E,
 ) -> (u8, BufWriter<W>)
     ensures status { (result.0 ≡ 0) ⊎ (result.0 ≡ 3) }
-    ensures written { result.0 ≡ 0 → Appends (writer_contents W.contents out) (writer_contents W.contents result.1)
-        (output (hash_of_choice hash) (givens how.now.rows input.now.parts.items) input.now.script.items) }
+    ensures written { result.0 ≡ 0 → Writes (IsOutput (hash_of_choice hash) (givens how.now.rows input.now.parts.items) input.now.script.items)
+        (writer_contents W.contents out) (writer_contents W.contents result.1) }
     ensures flushed { result.0 ≡ 0 → writer_buffer result.1 ≡ [] }
-    ensures beginning { TakesBeginning (writer_contents W.contents out) (writer_contents W.contents result.1)
-        (output (hash_of_choice hash) (givens how.now.rows input.now.parts.items) input.now.script.items) }
+    ensures beginning { BeginsToWrite (IsOutput (hash_of_choice hash) (givens how.now.rows input.now.parts.items) input.now.script.items)
+        (writer_contents W.contents out) (writer_contents W.contents result.1) }
     ensures quiet { result.0 ≡ 0 → err.new ≡ err.old }
 {
     let mut pour = Pour::new(out);

@@ -1,15 +1,15 @@
 //! Runs a script: one keeper, line after line, and a block of output for each line that has one.
-ghost use Rattle.std.specs.Prelude.{◌+◌, ◌<◌, ◌≤◌, ◌^◌, [], length};
+ghost use Rattle.std.specs.Prelude.{◌≡◌, ◌+◌, ◌<◌, ◌≤◌, ◌^◌, [], length};
 ghost use Rattle.std.specs.Str.Lines.{lines};
 ghost use Rattle.olap.specs.Endings.{Delivers};
 ghost use Rattle.olap.specs.Givens.{givens};
 ghost use Rattle.olap.specs.Hows.{hash_of_choice};
 ghost use Rattle.olap.specs.Limits.{script_limit};
-ghost use Rattle.olap.specs.Output.{blocks, output, refusal};
-ghost use Rattle.olap.specs.Stands.{IsFresh, MayRun};
+ghost use Rattle.olap.specs.Output.{AreBlocks, IsOutput, refusal};
+ghost use Rattle.olap.specs.Stands.{IsFresh};
 ghost use Rattle.olap.specs.declared.fault.Fault.TheVariants.{Line as AtLine};
 
-use crate::block::refusal_text;
+use crate::block::refusal_block;
 use crate::ended::Ended;
 use crate::fault::Fault;
 use crate::how::How;
@@ -18,18 +18,19 @@ use crate::limits::{MAX_PARTS, MAX_SCRIPT_BYTES};
 use crate::lines::lines_of;
 use crate::step::{Line, Setup, execute};
 use board::Keeper;
-use cells::{Cell, Fnv, KeyHash, Plain, Refused};
+use cells::{Cell, Fnv, KeyHash, Plain, Refused, Tuple};
+use query::each_text_has_an_answer;
 use report::{Gate, Out, write_whole};
 use std::alloc::Global;
 
-/// Runs a script. Where it answers Ok, the bytes that the writer took in the call are `output` of the
-/// script: each report counts the rows that stood published at its line, whatever later lines change.
+/// Runs a script. Where it answers Ok, the bytes that the writer took in the call are the script's output:
+/// each report is that of the rows that stood published at its line, whatever later lines change.
 ///
-/// Where it ends early, a beginning of them was taken: [`Ended::OutOfMemory`] where a growth was
+/// Where it ends early, a beginning of its output was taken: [`Ended::OutOfMemory`] where a growth was
 /// refused, [`Ended::WriteFailed`] where the writer failed in the call. A script of more than
 /// 1,048,576 bytes and more than 64 parts are refused as a whole: the output is `line 0 refused 15`.
-/// The parts have no effect yet. `gate` is told of each publish.
-pub fn run<H: KeyHash<Cell>, O: Out, G: Gate>(
+/// The parts have no effect yet. `gate` is told of each publish and of each piece of a report.
+pub fn run<H: KeyHash<Cell> + KeyHash<Tuple>, O: Out, G: Gate>(
     alloc: Global,
     script: &[u8],
     parts: &[Vec<u8>],
@@ -38,15 +39,14 @@ pub fn run<H: KeyHash<Cell>, O: Out, G: Gate>(
     out: &mut O,
 ) -> Result<(), Ended>
     requires { O.faults out.old + 1 < 2 ^ 64 }
-    ensures { Delivers O.taken O.faults out.old out.new (output H.hash_of (givens how.now.rows parts.now) script.now) result }
+    ensures { Delivers O.taken O.faults out.old out.new (IsOutput H.KeyHash-1.hash_of (givens how.now.rows parts.now) script.now) result }
 {
     if script.len() > MAX_SCRIPT_BYTES || parts.len() > MAX_PARTS {
         return write_refusal(alloc, out);
     }
-    let limit = how.rows();
     let setup = Setup {
         alloc,
-        limit,
+        how,
         parts,
         gate,
     };
@@ -64,7 +64,7 @@ pub fn run_by<O: Out, G: Gate>(
     out: &mut O,
 ) -> Result<(), Ended>
     requires { O.faults out.old + 1 < 2 ^ 64 }
-    ensures { Delivers O.taken O.faults out.old out.new (output (hash_of_choice hash) (givens how.now.rows parts.now) script.now) result }
+    ensures { Delivers O.taken O.faults out.old out.new (IsOutput (hash_of_choice hash) (givens how.now.rows parts.now) script.now) result }
 {
     match hash {
         HashChoice::Fnv => run::<Fnv, O, G>(alloc, script, parts, how, gate, out),
@@ -74,22 +74,21 @@ pub fn run_by<O: Out, G: Gate>(
 
 /// Runs the lines of a script that is not too long. The keeper is made by a line and is owned here,
 /// so that it ends in one place, on every way out.
-fn run_lines<H: KeyHash<Cell>, O: Out, G: Gate>(
+fn run_lines<H: KeyHash<Cell> + KeyHash<Tuple>, O: Out, G: Gate>(
     setup: &Setup<'_, G>,
     script: &[u8],
     out: &mut O,
 ) -> Result<(), Ended>
     requires faults { O.faults out.old + 1 < 2 ^ 64 }
     requires short { length script.now ≤ script_limit }
-    requires limit { MayRun setup.now.limit }
-    ensures { Delivers O.taken O.faults out.old out.new (blocks H.hash_of (givens setup.now.limit setup.now.parts.now) [] (lines script.now)) result }
+    ensures { Delivers O.taken O.faults out.old out.new (AreBlocks H.KeyHash-1.hash_of (givens setup.now.how.now.rows setup.now.parts.now) [] (lines script.now)) result }
 {
     let mut desk: Option<Keeper<H>> = None;
     run_at(setup, script, &mut desk, out)
 }
 
 /// The same at a desk where there is no keeper yet.
-fn run_at<H: KeyHash<Cell>, O: Out, G: Gate>(
+fn run_at<H: KeyHash<Cell> + KeyHash<Tuple>, O: Out, G: Gate>(
     setup: &Setup<'_, G>,
     script: &[u8],
     desk: &mut Option<Keeper<H>>,
@@ -97,29 +96,31 @@ fn run_at<H: KeyHash<Cell>, O: Out, G: Gate>(
 ) -> Result<(), Ended>
     requires faults { O.faults out.old + 1 < 2 ^ 64 }
     requires short { length script.now ≤ script_limit }
-    requires limit { MayRun setup.now.limit }
     requires fresh { IsFresh desk.old }
-    ensures { Delivers O.taken O.faults out.old out.new (blocks H.hash_of (givens setup.now.limit setup.now.parts.now) [] (lines script.now)) result }
+    ensures { Delivers O.taken O.faults out.old out.new (AreBlocks H.KeyHash-1.hash_of (givens setup.now.how.now.rows setup.now.parts.now) [] (lines script.now)) result }
 {
+    // The law by which what was written is a beginning of an output, where a line ends the run; it does
+    // nothing.
+    each_text_has_an_answer();
     let mut number = 0u64;
     for bytes in lines_of(script) {
         number += 1;
         let block = execute(setup, desk, Line { number, bytes })?;
-        let Ok(()) = write_whole(out, block.as_bytes()) else {
+        let Ok(()) = write_whole(out, block.as_slice()) else {
             return Err(Ended::WriteFailed);
         };
     }
     Ok(())
 }
 
-/// Delivers the whole output of a script that is too long, or of too many parts.
+/// Delivers the output of a script that is too long, or of too many parts.
 #[tactic(auto, using(report::specs::Laws::takes_nothing))]
 fn write_refusal<O: Out>(alloc: Global, out: &mut O) -> Result<(), Ended>
     requires { O.faults out.old + 1 < 2 ^ 64 }
-    ensures { Delivers O.taken O.faults out.old out.new (refusal 0 (AtLine Refused.Limit)) result }
+    ensures { Delivers O.taken O.faults out.old out.new (λ bytes. bytes ≡ refusal 0 (AtLine Refused.Limit)) result }
 {
-    let text = refusal_text(alloc, 0, Fault::Line(Refused::Limit))?;
-    let Ok(()) = write_whole(out, text.as_bytes()) else {
+    let refusal = refusal_block(alloc, 0, Fault::Line(Refused::Limit))?;
+    let Ok(()) = write_whole(out, refusal.as_slice()) else {
         return Err(Ended::WriteFailed);
     };
     Ok(())

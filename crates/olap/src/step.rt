@@ -1,27 +1,29 @@
 //! The step of one line: what it says is done, and its block is made.
-ghost use Rattle.std.specs.Prelude.{◌≡◌, ◌+◌, ◌<◌, ◌^◌, [], IfErr, IfOk, None, OnOk, Some, string_bytes};
+ghost use Rattle.std.specs.Prelude.{◌≡◌, ◌+◌, ◌<◌, ◌^◌, [], IfErr, IfOk, None, OnOk, Some};
 ghost use Rattle.std.specs.FinMap.{remove};
 ghost use Rattle.cells.specs.Fitting.{IsRowOf};
 ghost use Rattle.board.specs.Editions.{ChangesDraft, Publishes};
 ghost use Rattle.board.specs.Editions as editions;
 ghost use Rattle.olap.specs.Givens.{givens};
-ghost use Rattle.olap.specs.Stands.{Executes, MayRun, Publishable, PutsRow};
+ghost use Rattle.olap.specs.Stands.{Executes, Publishable, PutsRow};
 
-use crate::block::{refusal_text, report_text, shape_block};
+use crate::block::{refusal_block, shape_block};
 use crate::ended::Ended;
 use crate::fault::Fault;
+use crate::how::How;
+use crate::reporting::execute_report;
 use crate::statement::{Statement, read_first, read_statement};
 use board::{Keeper, rows_have_the_shape_of_their_keys};
-use cells::{Cell, KeyHash, Row};
+use cells::{Cell, KeyHash, Row, Tuple};
 use report::Gate;
 use std::alloc::Global;
 
-/// What each line is run with: where memory comes from, the most rows of the draft, the parts, which
-/// no command reads yet, and who is told of each publish.
+/// What each line is run with: where memory comes from, how the run is made, the parts, which no command
+/// reads yet, and who is told of each publish and of a report's pieces.
 #[derive(Drop)]
 pub struct Setup<'a, G: Gate> {
     pub alloc: Global,
-    pub limit: u64,
+    pub how: &'a How,
     pub parts: &'a [Vec<u8>],
     pub gate: &'a G,
 }
@@ -34,22 +36,21 @@ pub struct Line<'a> {
 }
 
 /// Does what a line says, and gives the line's block.
-pub fn execute<H: KeyHash<Cell>, G: Gate>(
+pub fn execute<H: KeyHash<Cell> + KeyHash<Tuple>, G: Gate>(
     setup: &Setup<'_, G>,
     desk: &mut Option<Keeper<H>>,
     line: Line<'_>,
-) -> Result<String, Ended>
+) -> Result<Vec<u8>, Ended>
     requires publishable { Publishable desk.old }
-    requires limit { MayRun setup.now.limit }
-    ensures step { IfOk result (λ text. Executes H.hash_of (givens setup.now.limit setup.now.parts.now) line.entry.bytes.now line.entry.number desk.old desk.new (string_bytes text)) }
+    ensures step { IfOk result (λ block. Executes H.KeyHash-1.hash_of (givens setup.now.how.now.rows setup.now.parts.now) line.entry.bytes.now line.entry.number desk.old desk.new block.items) }
     ensures ended { IfErr result (λ e. e ≡ Ended.OutOfMemory) }
 {
     if let Some(keeper) = desk {
         return execute_kept(setup, keeper, line);
     }
-    let (keeper, text) = execute_first(setup, line)?;
+    let (keeper, block) = execute_first(setup, line)?;
     *desk = keeper;
-    Ok(text)
+    Ok(block)
 }
 
 /// The same before there is a table.
@@ -57,49 +58,48 @@ pub fn execute<H: KeyHash<Cell>, G: Gate>(
 fn execute_first<H: KeyHash<Cell>, G: Gate>(
     setup: &Setup<'_, G>,
     line: Line<'_>,
-) -> Result<(Option<Keeper<H>>, String), Ended>
-    requires { MayRun setup.now.limit }
-    ensures step { IfOk result (λ r. Executes H.hash_of (givens setup.now.limit setup.now.parts.now) line.entry.bytes.now line.entry.number None r.0 (string_bytes r.1)) }
+) -> Result<(Option<Keeper<H>>, Vec<u8>), Ended>
+    ensures step { IfOk result (λ r. Executes H.hash_of (givens setup.now.how.now.rows setup.now.parts.now) line.entry.bytes.now line.entry.number None r.0 r.1.items) }
     ensures ended { IfErr result (λ e. e ≡ Ended.OutOfMemory) }
 {
     let alloc = setup.alloc;
     match read_first(alloc, line.bytes) {
-        Ok(None) => Ok((None, String::new(alloc))),
-        Ok(Some(schema)) => match Keeper::new(alloc, schema, setup.limit, 1) {
-            Ok(keeper) => Ok((Some(keeper), String::new(alloc))),
+        Ok(None) => Ok((None, Vec::new(alloc))),
+        Ok(Some(schema)) => match Keeper::new(alloc, schema, setup.how.rows(), 1) {
+            Ok(keeper) => Ok((Some(keeper), Vec::new(alloc))),
             Err(_) => Err(Ended::OutOfMemory),
         },
         Err(fault) => {
-            let text = refusal_text(alloc, line.number, fault)?;
-            Ok((None, text))
+            let block = refusal_block(alloc, line.number, fault)?;
+            Ok((None, block))
         }
     }
 }
 
 /// The same once there is a table.
 #[tactic(auto, using(crate::proofs::StepsLemmas::executes_nothing, crate::proofs::StepsLemmas::executes_refused, crate::proofs::StepsLemmas::executes_report, crate::proofs::StepsLemmas::executes_put, crate::proofs::StepsLemmas::executes_overflow, crate::proofs::StepsLemmas::executes_publish, crate::proofs::StepsLemmas::executes_delete))]
-fn execute_kept<H: KeyHash<Cell>, G: Gate>(
+fn execute_kept<H: KeyHash<Cell> + KeyHash<Tuple>, G: Gate>(
     setup: &Setup<'_, G>,
     keeper: &mut Keeper<H>,
     line: Line<'_>,
-) -> Result<String, Ended>
+) -> Result<Vec<u8>, Ended>
     requires { editions.edition keeper.old + 1 < 2 ^ 64 }
-    ensures step { IfOk result (λ text. Executes H.hash_of (givens setup.now.limit setup.now.parts.now) line.entry.bytes.now line.entry.number (Some keeper.old) (Some keeper.new) (string_bytes text)) }
+    ensures step { IfOk result (λ block. Executes H.KeyHash-1.hash_of (givens setup.now.how.now.rows setup.now.parts.now) line.entry.bytes.now line.entry.number (Some keeper.old) (Some keeper.new) block.items) }
     ensures ended { IfErr result (λ e. e ≡ Ended.OutOfMemory) }
 {
     let alloc = setup.alloc;
     match read_statement(alloc, keeper.schema(), setup.parts, line.bytes) {
-        Ok(Statement::Nothing) => Ok(String::new(alloc)),
+        Ok(Statement::Nothing) => Ok(Vec::new(alloc)),
         Ok(Statement::Put(row)) => put(alloc, keeper, row, line.number),
         Ok(Statement::Delete(key)) => delete(alloc, keeper, &key),
         Ok(Statement::Publish) => publish(alloc, setup.gate, keeper),
-        Ok(Statement::Report) => report_text(alloc, keeper, line.number),
+        Ok(Statement::Report(query)) => execute_report(setup, keeper, query, line.number),
         Ok(Statement::Shape) => {
             // The law by which the block is that of the published rows; it does nothing.
             rows_have_the_shape_of_their_keys::<H>();
             shape_block(alloc, keeper, line.number)
         }
-        Err(fault) => refusal_text(alloc, line.number, fault),
+        Err(fault) => refusal_block(alloc, line.number, fault),
     }
 }
 
@@ -109,14 +109,14 @@ fn put<H: KeyHash<Cell>>(
     keeper: &mut Keeper<H>,
     row: Row,
     number: u64,
-) -> Result<String, Ended>
+) -> Result<Vec<u8>, Ended>
     requires row { IsRowOf (editions.schema keeper.old) row }
-    ensures step { IfOk result (λ text. PutsRow keeper.old keeper.new row number (string_bytes text)) }
+    ensures step { IfOk result (λ block. PutsRow keeper.old keeper.new row number block.items) }
     ensures ended { IfErr result (λ e. e ≡ Ended.OutOfMemory) }
 {
     match keeper.put(row) {
-        Ok(()) => Ok(String::new(alloc)),
-        Err(refused) => refusal_text(alloc, number, Fault::Line(refused)),
+        Ok(()) => Ok(Vec::new(alloc)),
+        Err(refused) => refusal_block(alloc, number, Fault::Line(refused)),
     }
 }
 
@@ -125,15 +125,15 @@ fn delete<H: KeyHash<Cell>>(
     alloc: Global,
     keeper: &mut Keeper<H>,
     key: &Cell,
-) -> Result<String, Ended>
+) -> Result<Vec<u8>, Ended>
     ensures draft { OnOk result (ChangesDraft keeper.old keeper.new (remove (editions.draft keeper.old) key.now)) }
-    ensures nothing { IfOk result (λ text. string_bytes text ≡ []) }
+    ensures nothing { IfOk result (λ block. block.items ≡ []) }
     ensures ended { IfErr result (λ e. e ≡ Ended.OutOfMemory) }
 {
     if keeper.delete(key).is_err() {
         return Err(Ended::OutOfMemory);
     }
-    Ok(String::new(alloc))
+    Ok(Vec::new(alloc))
 }
 
 /// Publishes the draft, and tells the gate.
@@ -141,15 +141,15 @@ pub fn publish<H: KeyHash<Cell>, G: Gate>(
     alloc: Global,
     gate: &G,
     keeper: &mut Keeper<H>,
-) -> Result<String, Ended>
+) -> Result<Vec<u8>, Ended>
     requires { editions.edition keeper.old + 1 < 2 ^ 64 }
     ensures published { OnOk result (Publishes keeper.old keeper.new) }
-    ensures nothing { IfOk result (λ text. string_bytes text ≡ []) }
+    ensures nothing { IfOk result (λ block. block.items ≡ []) }
     ensures ended { IfErr result (λ e. e ≡ Ended.OutOfMemory) }
 {
     if keeper.publish().is_err() {
         return Err(Ended::OutOfMemory);
     }
     gate.published(keeper.edition());
-    Ok(String::new(alloc))
+    Ok(Vec::new(alloc))
 }

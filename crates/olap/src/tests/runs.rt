@@ -3,7 +3,7 @@
 use crate::ended::Ended;
 use crate::how::How;
 use crate::run::run;
-use cells::{Cell as Key, KeyHash};
+use cells::{Cell as Key, KeyHash, Tuple};
 use report::{Open, Pour};
 use std::alloc::Global;
 use trie::Cutting;
@@ -14,7 +14,7 @@ pub(super) type Row = (&'static [u8], &'static str);
 pub(super) const CUTTING: Cutting = Cutting { depth: 1, small: 0 };
 
 /// Whether a script writes this, with so many rows at most. Want of memory is an error.
-pub(super) fn writes<H: KeyHash<Key>>(
+pub(super) fn writes<H: KeyHash<Key> + KeyHash<Tuple>>(
     alloc: Global,
     script: &[u8],
     parts: &[Vec<u8>],
@@ -30,7 +30,7 @@ pub(super) fn writes<H: KeyHash<Key>>(
 }
 
 /// The first place of the table whose script writes something else.
-pub(super) fn first_wrong<H: KeyHash<Key>>(
+pub(super) fn first_wrong<H: KeyHash<Key> + KeyHash<Tuple>>(
     alloc: Global,
     rows: u64,
     table: &[Row],

@@ -3,4 +3,4 @@ use Rattle.olap.proofs.BlocksLemmas.{answer_alike}
 use Rattle.olap.proofs.laws.hash_decides_shapes_alone.Goals as goal
 
 pub returns : goal.returns
-returns c = λ hash other givens before line unlike. answer_alike hash other givens before (deed_behind givens before line) unlike
+returns c = λ hash other givens before line bytes unlike is. answer_alike hash other givens before (deed_behind givens before line) bytes unlike is

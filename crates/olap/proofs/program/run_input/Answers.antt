@@ -2,15 +2,15 @@ use Rattle.std.proofs.Common.{rules}
 use Rattle.std.specs.Io.Buffered.{writer_contents}
 use Rattle.olap.specs.Givens.{givens}
 use Rattle.olap.specs.Hows.{hash_of_choice}
-use Rattle.olap.specs.Output.{output}
-use Rattle.olap.proofs.ProgramLemmas.{takes_closed}
+use Rattle.olap.specs.Output.{IsOutput}
+use Rattle.olap.proofs.ProgramLemmas.{begins_closed}
 use Rattle.olap.proofs.program.run_input.Goals as goal
 
 pub returns-clause-beginning : goal.returns-clause-beginning
 returns-clause-beginning g c =
     let all = c.run_by-ended.ensures.output in
     let part = c.run_by-ended.ensures.beginning in
-    takes_closed (writer_contents g.W.Write.contents c.args.out) (writer_contents g.W.Write.contents c.into_inner-out.result)
+    begins_closed (IsOutput (hash_of_choice c.args.hash) (givens c.args.how.now.rows c.args.input.now.parts.items) c.args.input.now.script.items)
+    (writer_contents g.W.Write.contents c.args.out) (writer_contents g.W.Write.contents c.into_inner-out.result)
     (writer_contents g.W.Write.contents c.close_run-status.new.out)
-    (output (hash_of_choice c.args.hash) (givens c.args.how.now.rows c.args.input.now.parts.items) c.args.input.now.script.items)
     c.run_by-ended.result (search rules) (search rules) (search rules)

@@ -1,7 +1,7 @@
-use Rattle.std.proofs.Common.{◌≡◌, ◌∙◌, arith, refl}
+use Rattle.std.proofs.Common.{◌≡◌, ◌∙◌, arith, refl, rules}
 use Rattle.std.specs.Str.Lines.{lines}
 use Rattle.olap.specs.Givens.{givens}
-use Rattle.olap.proofs.ProgressLemmas.{last_first, last_first-more, length-lines, publishable, reached_beginning, reached_more, reached_start, delivers_late}
+use Rattle.olap.proofs.ProgressLemmas.{delivers_early, delivers_late, delivers_whole, last_first, last_first-more, length-lines, publishable, reached_beginning, reached_end, reached_more, reached_so_far, reached_start}
 use Rattle.olap.proofs.run.run_at.Goals as goal
 
 pub loop-bytes-init : goal.loop-bytes-init
@@ -14,21 +14,35 @@ loop-bytes-init g c =
 
 pub execute-requires-clause-publishable : goal.execute-requires-clause-publishable
 execute-requires-clause-publishable g c =
-    λ κs outlives. publishable (givens c.args.setup.now.limit c.args.setup.now.parts.now) (last_first c.loop-bytes.yielded) c.loop-bytes.desk c.loop-bytes.invariant.reached.stands (omega (arith, c.loop-bytes.invariant.reached.short))
+    λ κs outlives. publishable (givens c.args.setup.now.how.now.rows c.args.setup.now.parts.now) (last_first c.loop-bytes.yielded) c.loop-bytes.desk c.loop-bytes.invariant.reached.stands (omega (arith, c.loop-bytes.invariant.reached.short))
 
 pub returns-in_default : goal.returns-in_default
 returns-in_default g c =
     let late =
-    reached_beginning _ _ g.H.KeyHash.hash_of (givens c.args.setup.now.limit c.args.setup.now.parts.now) (last_first c.loop-bytes.yielded) c.loop-bytes.bytes-iterator (lines c.args.script.now) c.loop-bytes.desk c.loop-bytes.number
-    c.loop-bytes.invariant.reached c.in-Some.bytes.now c.next.new.self c.execute.new.desk _ c.in-Some.ensures.steps c.in_ok-block.ensures.step _
-    (rw c.as_bytes.ensures.value at c.in_default.ensures.beginning) in
+    reached_beginning _ _ g.H.KeyHash-1.hash_of (givens c.args.setup.now.how.now.rows c.args.setup.now.parts.now) (last_first c.loop-bytes.yielded) c.loop-bytes.bytes-iterator (lines c.args.script.now) c.loop-bytes.desk c.loop-bytes.number
+    c.loop-bytes.invariant.reached c.in-Some.bytes.now c.next.new.self c.execute.new.desk _ c.in-Some.ensures.steps c.in_ok-block.ensures.step c.each_text_has_an_answer.ensures _
+    (rw c.as_slice.ensures.value at c.in_default.ensures.beginning) in
     delivers_late g.O.Out.taken g.O.Out.faults _ _ _ late (omega (arith, c.in_default.ensures.fault, c.loop-bytes.invariant.sound))
 
 pub loop-bytes-preserved : goal.loop-bytes-preserved
 loop-bytes-preserved g c = record {
   reached = rw last_first-more
-      (reached_more _ _ g.H.KeyHash.hash_of (givens c.args.setup.now.limit c.args.setup.now.parts.now) (last_first c.loop-bytes.yielded) c.loop-bytes.bytes-iterator (lines c.args.script.now) c.loop-bytes.desk c.loop-bytes.number
+      (reached_more _ _ g.H.KeyHash-1.hash_of (givens c.args.setup.now.how.now.rows c.args.setup.now.parts.now) (last_first c.loop-bytes.yielded) c.loop-bytes.bytes-iterator (lines c.args.script.now) c.loop-bytes.desk c.loop-bytes.number
       c.loop-bytes.invariant.reached c.in-Some.bytes.now c.next.new.self c.execute.new.desk _ c.in-Some.ensures.steps c.in_ok-block.ensures.step _
-      (rw c.as_bytes.ensures.value at c.in-Ok.ensures.whole));
+      (rw c.as_slice.ensures.value at c.in-Ok.ensures.whole));
   sound = c.in-Ok.ensures.sound ∙ c.loop-bytes.invariant.sound;
 }
+
+pub returns-in_err-block : goal.returns-in_err-block
+returns-in_err-block g c =
+    delivers_early g.O.Out.taken g.O.Out.faults _ _ _ c.from_residual.result
+    (reached_so_far _ _ g.H.KeyHash-1.hash_of (givens c.args.setup.now.how.now.rows c.args.setup.now.parts.now) (last_first c.loop-bytes.yielded) c.loop-bytes.bytes-iterator (lines c.args.script.now) c.loop-bytes.desk c.loop-bytes.number
+    c.loop-bytes.invariant.reached c.each_text_has_an_answer.ensures)
+    (search rules) (search rules)
+
+pub returns : goal.returns
+returns g c =
+    delivers_whole g.O.Out.taken g.O.Out.faults _ _ _ _
+    (reached_end _ _ g.H.KeyHash-1.hash_of (givens c.args.setup.now.how.now.rows c.args.setup.now.parts.now) (last_first c.loop-bytes.yielded) c.loop-bytes.bytes-iterator (lines c.args.script.now) c.loop-bytes.desk c.loop-bytes.number
+    c.loop-bytes.invariant.reached c.in-None.ensures.steps.0)
+    c.loop-bytes.invariant.sound

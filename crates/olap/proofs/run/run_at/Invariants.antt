@@ -6,6 +6,6 @@ use Rattle.olap.proofs.run.run_at.Given as goal
 
 abbrev pub invariant-loop-bytes : goal.invariant-loop-bytes
 invariant-loop-bytes g l = record {
-  reached : Reached (g.O.Out.taken l.fn.out) (g.O.Out.taken l.out) g.H.KeyHash.hash_of (givens l.setup.limit l.setup.parts.now) (last_first l.yielded) l.bytes-iterator (lines l.script) l.desk l.number;
+  reached : Reached (g.O.Out.taken l.fn.out) (g.O.Out.taken l.out) g.H.KeyHash-1.hash_of (givens l.setup.how.now.rows l.setup.parts.now) (last_first l.yielded) l.bytes-iterator (lines l.script) l.desk l.number;
   sound : g.O.Out.faults l.out ≡ g.O.Out.faults l.fn.out;
 }

@@ -1,5 +1,4 @@
 use Rattle.std.proofs.Common.{◌∙◌, Ok, Some, ap, sym}
-use Rattle.std.specs.Prelude.{string_bytes}
 use Rattle.olap.specs.Deeds.{deed}
 use Rattle.olap.specs.Givens.{givens}
 use Rattle.olap.specs.Statements.{deed_of_statement}
@@ -8,20 +7,20 @@ use Rattle.olap.proofs.step.execute_kept.Goals as goal
 
 pub returns-in-Ok-Put-clause-step : goal.returns-in-Ok-Put-clause-step
 returns-in-Ok-Put-clause-step g c =
-    let given = givens c.args.setup.now.limit c.args.setup.now.parts.now in
+    let given = givens c.args.setup.now.how.now.rows c.args.setup.now.parts.now in
     let does =
     ap (λ t. deed given.parts (Some t) c.args.line.bytes.now) (sym c.schema.ensures) ∙ c.in-Ok-Put.ensures.exact
-    ∙ ap (λ s. Ok (deed_of_statement s)) c.in-Ok-Put.field-0-is in
-    executes_puts g.H.KeyHash.hash_of given c.args.line.bytes.now c.args.line.number c.args.keeper.now c.put.new.keeper c.in-Ok-Put.row string_bytes c.put.result does c.put.ensures.step
+    ∙ ap (λ s. Ok (deed_of_statement c.schema.result.now s)) c.in-Ok-Put.field-0-is in
+    executes_puts g.H.KeyHash-1.hash_of given c.args.line.bytes.now c.args.line.number c.args.keeper.now c.put.new.keeper c.in-Ok-Put.row (λ block. block.items) c.put.result does c.put.ensures.step
 
 pub returns-in-Ok-Shape-clause-step : goal.returns-in-Ok-Shape-clause-step
 returns-in-Ok-Shape-clause-step g c =
-    let given = givens c.args.setup.now.limit c.args.setup.now.parts.now in
+    let given = givens c.args.setup.now.how.now.rows c.args.setup.now.parts.now in
     let does =
     ap (λ t. deed given.parts (Some t) c.args.line.bytes.now) (sym c.schema.ensures) ∙ c.in-Ok-Shape.ensures.exact
-    ∙ ap (λ s. Ok (deed_of_statement s)) c.in-Ok-Shape.field-0-is in
-    executes_shapes g.H.KeyHash.hash_of given c.args.line.bytes.now c.args.line.number c.args.keeper.now string_bytes c.shape_block.result does
-    c.rows_have_the_shape_of_their_keys.ensures c.shape_block.ensures.text
+    ∙ ap (λ s. Ok (deed_of_statement c.schema.result.now s)) c.in-Ok-Shape.field-0-is in
+    executes_shapes g.H.KeyHash-1.hash_of given c.args.line.bytes.now c.args.line.number c.args.keeper.now (λ block. block.items) c.shape_block.result does
+    c.rows_have_the_shape_of_their_keys.ensures c.shape_block.ensures.block
 
 pub put-requires : goal.put-requires
 put-requires g c = record { row = rw (← c.schema.ensures) (rw c.in-Ok-Put.field-0-is at c.in-Ok-Put.ensures.fits) }
