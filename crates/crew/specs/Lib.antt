@@ -1,0 +1,4 @@
+pub mod Draws
+pub mod Law
+pub mod Limits
+pub mod Seats
