@@ -1,6 +1,6 @@
 //! Nodes: what stands below a prefix of digits.
 ghost use Rattle.std.specs.Prelude.{◌≡◌, ◌+◌, ◌-◌, ◌<◌, ◌≤◌, ◌^◌, [], false, None, Some, IfOk, IsTrue, OnErr, OnOk, length, set};
-ghost use Rattle.std.specs.Prelude.{get_or, slice_index_or, sum_by};
+ghost use Rattle.std.specs.Prelude.{◌⊎◌, bit_or, count_ones, get_or, slice_index_or, sum_by, vec_capacity};
 ghost use Rattle.std.specs.List.{flat_map};
 ghost use Rattle.trie.specs.Counts.{next_count};
 ghost use Rattle.trie.specs.Dense.{below_bit, bit_at, IsDense, places_in};
@@ -209,7 +209,8 @@ pub fn room_for_both<K: Drop, V: Drop>(
     first: Bitmap,
     second: Bitmap,
 ) -> Result<Children<K, V>, AllocError>
-    ensures { IfOk result (λ made. (made.bitmap ≡ 0) × (made.children.items ≡ [])) }
+    ensures none { IfOk result (λ made. (made.bitmap ≡ 0) × (made.children.items ≡ [])) }
+    ensures room { IfOk result (λ made. vec_capacity made.children ≡ count_ones (bit_or first second)) }
 {
     let children = Vec::with_capacity(alloc, (first | second).count_ones() as usize)?;
     Ok(Children {
@@ -221,7 +222,8 @@ pub fn room_for_both<K: Drop, V: Drop>(
 /// Whether the place of a digit has a child in one of two branches.
 pub fn either_has(first: Bitmap, second: Bitmap, digit: usize) -> bool
     requires { digit < place_count }
-    ensures { result ≡ false → (bit_at first digit ≡ 0) × (bit_at second digit ≡ 0) }
+    ensures yes { IsTrue result → (bit_at first digit ≡ 1) ⊎ (bit_at second digit ≡ 1) }
+    ensures no { result ≡ false → (bit_at first digit ≡ 0) × (bit_at second digit ≡ 0) }
 {
     has(first, digit) || has(second, digit)
 }

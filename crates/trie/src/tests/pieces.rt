@@ -1,6 +1,6 @@
 //! Cutting a map into pieces.
 use super::hashes::filled;
-use crate::{Cutting, MAX_DEPTH, Piece, Visitor};
+use crate::{Cutting, MAX_DEPTH, Piece, Trie, Visitor};
 use cells::{Cell, Plain};
 use std::alloc::{AllocError, Global};
 use std::process::Abort;
@@ -55,42 +55,68 @@ const CUTS: [(u8, u64, &[i64]); 5] = [
     (MAX_DEPTH, 3, &[1, 2]),
 ];
 
+/// Whether the pieces begin with these keys, and have so many entries in all.
+fn are_cut(
+    rt: &impl Abort,
+    alloc: Global,
+    pieces: &[Piece<Cell, Cell, Plain>],
+    firsts: &[i64],
+    number: u64,
+) -> Result<bool, AllocError> {
+    let mut all: u64 = 0;
+    for (piece, key) in pieces.iter().zip(firsts) {
+        let (number, first) = lent(rt, alloc, piece)?;
+        if first != *key {
+            return Ok(false);
+        }
+        all = all.wrapping_add(number);
+    }
+    Ok(pieces.len() == firsts.len() && all == number)
+}
+
 #[test]
 fn pieces_of_four_keys(rt: HostRuntime) -> Result<(), Fail> {
-    let alloc = rt.alloc();
-    let map = filled::<Plain>(&rt, alloc, &[(1, 1), (17, 1), (33, 1), (2, 1)])?;
+    let map = filled::<Plain>(&rt, rt.alloc(), &[(1, 1), (17, 1), (33, 1), (2, 1)])?;
     for (depth, small, firsts) in &CUTS {
         let cutting = Cutting {
             depth: *depth,
             small: *small,
         };
-        let pieces = map.split(alloc, &cutting)?;
-        assert_eq!(rt; pieces.len(), firsts.len());
-        let mut all: u64 = 0;
-        for (piece, key) in pieces.iter().zip(*firsts) {
-            let (number, first) = lent(&rt, alloc, piece)?;
-            assert_eq!(rt; first, *key);
-            all = all.wrapping_add(number);
-        }
-        assert_eq!(rt; all, 4);
+        let pieces = map.split(rt.alloc(), &cutting)?;
+        assert!(rt; are_cut(&rt, rt.alloc(), pieces.as_slice(), firsts, 4)?);
     }
     Ok(())
 }
 
-/// A whole map lends its entries, too, and one without entries has no piece.
-#[test]
-fn whole_maps(rt: HostRuntime) -> Result<(), Fail> {
-    let alloc = rt.alloc();
-    let map = filled::<Plain>(&rt, alloc, &[(1, 1), (17, 1)])?;
-    let none = filled::<Plain>(&rt, alloc, &[])?;
+/// How many entries a map lends.
+fn number_lent(map: &Trie<Cell, Cell, Plain>) -> Result<u64, AllocError> {
     let mut lent = Counter {
         number: 0,
         first: 0,
     };
     map.walk(&mut lent)?;
-    none.walk(&mut lent)?;
-    assert_eq!(rt; lent.number, 2);
+    Ok(lent.number)
+}
+
+/// Whether a map lends no entry and has no piece.
+fn has_nothing(alloc: Global, map: &Trie<Cell, Cell, Plain>) -> Result<bool, AllocError> {
     let cutting = Cutting { depth: 0, small: 0 };
-    assert_eq!(rt; none.split(alloc, &cutting)?.len(), 0);
+    let pieces = map.split(alloc, &cutting)?;
+    Ok(pieces.is_empty() && number_lent(map)? == 0)
+}
+
+/// A whole map lends its entries, too.
+#[test]
+fn whole_maps(rt: HostRuntime) -> Result<(), Fail> {
+    let map = filled::<Plain>(&rt, rt.alloc(), &[(1, 1), (17, 1)])?;
+    assert_eq!(rt; number_lent(&map)?, 2);
+    Ok(())
+}
+
+/// A map without entries lends none and has no piece.
+#[test]
+fn no_entries(rt: HostRuntime) -> Result<(), Fail> {
+    let none = filled::<Plain>(&rt, rt.alloc(), &[])?;
+    assert!(rt; has_nothing(rt.alloc(), &none)?);
     Ok(())
 }
