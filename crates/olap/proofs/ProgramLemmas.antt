@@ -10,7 +10,7 @@ use Rattle.olap.specs.Folders.{AreTold, Tells}
 use Rattle.olap.specs.Hows.{hash_of_choice}
 use Rattle.olap.specs.Jobs.{AsksToRun}
 use Rattle.olap.specs.Output.{IsOutput}
-use Rattle.olap.specs.Programs.{AskToWrite}
+use Rattle.olap.specs.Programs.{AskToWrite, IsOutputOfJob}
 use Rattle.report.specs.Taken.{TakesBeginning}
 use Rattle.olap.specs.declared.job.Job.{Job}
 
@@ -31,18 +31,22 @@ pub begins_closed : {T E : Type 0} (IsWhole : List ℕ → Type 0) (a b c : Opti
 begins_closed IsWhole a b c (Ok x) all part k = record { whole = all.whole; is_whole = all.is_whole; beginning = takes_kept a b c all.whole (takes_all a b all.whole all.taken) k }
 begins_closed IsWhole a b c (Err e) all part k = record { whole = part.whole; is_whole = part.is_whole; beginning = takes_kept a b c part.whole part.beginning k }
 
--- the output that the words ask for, from what was read
-pub asked : (file : List ℕ → Option (List ℕ)) (words : List Text) (job : Job) (script : List ℕ) (parts : List (List ℕ)) → AsksToRun words job →
+-- the output of a job, from what was read
+pub output_of_job : (file : List ℕ → Option (List ℕ)) (job : Job) (script : List ℕ) (parts : List (List ℕ)) →
     Tells (file job.script) script → AreTold file job.parts.items parts → (whole : List ℕ) →
-    IsOutput (hash_of_choice job.hash) (record { limit = job.how.rows; parts = parts }) script whole → AskToWrite file words whole
-asked file words job script parts a s p whole is = record {
+    IsOutput (hash_of_choice job.hash) (record { limit = job.how.rows; parts = parts }) script whole → IsOutputOfJob file job whole
+output_of_job file job script parts s p whole is = record { script = script; script_told = s; parts = parts; parts_told = p; is_output = is }
+
+-- the output that the words ask for, from that of their job
+pub asked : (file : List ℕ → Option (List ℕ)) (words : List Text) (job : Job) → AsksToRun words job → (whole : List ℕ) → IsOutputOfJob file job whole → AskToWrite file words whole
+asked file words job a whole of = record {
   job = job;
   asked = a;
-  script = script;
-  script_told = s;
-  parts = parts;
-  parts_told = p;
-  is_output = is;
+  script = of.script;
+  script_told = of.script_told;
+  parts = of.parts;
+  parts_told = of.parts_told;
+  is_output = of.is_output;
 }
 
 module _ (Is IsWhole : List ℕ → Type 0) (a b : Option (List ℕ)) (so : (whole : List ℕ) → Is whole → IsWhole whole) where

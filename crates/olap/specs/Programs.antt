@@ -13,6 +13,14 @@ use Rattle.olap.specs.declared.job.Job.{Job}
 abbrev pub AskForHelp : List Text → Type 0
 AskForHelp words = IsAmong DisplayHelp (fault_of olap words) ⊎ IsAmong DisplayVersion (fault_of olap words)
 
+-- this is the output of a job, whose files hold what is told
+pub record IsOutputOfJob (file : Text → Option (List ℕ)) (job : Job) (whole : List ℕ) : Type 0 where
+  pub script : List ℕ
+  pub script_told : Tells (file job.script) script
+  pub parts : List (List ℕ)
+  pub parts_told : AreTold file job.parts.items parts
+  pub is_output : IsOutput (hash_of_choice job.hash) (record { limit = job.how.rows; parts = parts }) script whole
+
 -- the words ask for a run over these files, and this is its output
 pub record AskToWrite (file : Text → Option (List ℕ)) (words : List Text) (whole : List ℕ) : Type 0 where
   pub job : Job

@@ -26,10 +26,22 @@ pub fn shape_block<H: KeyHash<Cell>>(
     let Ok(snapshot) = keeper.snapshot() else {
         return Err(Ended::OutOfMemory);
     };
-    let published = snapshot.edition();
     let shape = snapshot.root().shape()?;
-    let mut text = format!(in alloc; "line {number} edition {published}\n")?;
-    push_lines(&mut text, shape.as_slice())?;
+    shape_lines(alloc, number, snapshot.edition(), shape.as_slice())
+}
+
+/// The text of a shape: its heading, and a line for each prefix.
+fn shape_lines(
+    alloc: Global,
+    number: u64,
+    edition: u64,
+    shape: &[(Prefix, u64)],
+) -> Result<Vec<u8>, Ended>
+    ensures text { IfOk result (λ text. text.items ≡ shape_text number edition shape.now) }
+    ensures ended { IfErr result (λ e. e ≡ Ended.OutOfMemory) }
+{
+    let mut text = format!(in alloc; "line {number} edition {edition}\n")?;
+    push_lines(&mut text, shape)?;
     Ok(text.into_bytes())
 }
 

@@ -7,12 +7,12 @@ ghost use Rattle.olap.specs.Givens.{givens};
 ghost use Rattle.olap.specs.Hows.{hash_of_choice};
 ghost use Rattle.olap.specs.Jobs.{IsHelp};
 ghost use Rattle.olap.specs.Output.{IsOutput};
-ghost use Rattle.olap.specs.Programs.{AskForHelp, AskToWrite, IsOutputOf};
+ghost use Rattle.olap.specs.Programs.{AskForHelp, AskToWrite, IsOutputOf, IsOutputOfJob};
 
 use crate::close::{NOTHING_RUN, WRITTEN, close_run};
 use crate::how::How;
 use crate::input::{Folder, Input, read_input};
-use crate::job::{HashChoice, WordsFault};
+use crate::job::{HashChoice, Job, WordsFault};
 use crate::run::run_by;
 use crate::words::job_of;
 use report::{Open, Pour};
@@ -40,11 +40,28 @@ pub fn run_words<F: Folder, W: Write + Drop, E: Write>(
     ensures beginning { result.0 ≡ 3
         → BeginsToWrite (AskToWrite (F.file folder.now) (map string_bytes given.now)) (writer_contents W.contents out) (writer_contents W.contents result.1) }
 {
-    let job = match job_of(alloc, given) {
-        Ok(job) => job,
-        Err(fault) => return refuse(&fault, out, err),
-    };
-    match read_input(alloc, folder, &job) {
+    match job_of(alloc, given) {
+        Ok(job) => run_job(alloc, &job, folder, out, err),
+        Err(fault) => refuse(&fault, out, err),
+    }
+}
+
+/// Runs a job over the files that it names, and gives the program's status and the writer back, as
+/// [`run_words`] does.
+fn run_job<F: Folder, W: Write + Drop, E: Write>(
+    alloc: Global,
+    job: &Job,
+    folder: &F,
+    out: BufWriter<W>,
+    err: &mut E,
+) -> (u8, BufWriter<W>)
+    ensures status { (result.0 ≡ 0) ⊎ ((result.0 ≡ 2) ⊎ (result.0 ≡ 3)) }
+    ensures written { result.0 ≡ 0 → Writes (IsOutputOfJob (F.file folder.now) job.now) (writer_contents W.contents out) (writer_contents W.contents result.1) }
+    ensures flushed { result.0 ≡ 0 → writer_buffer result.1 ≡ [] }
+    ensures nothing { result.0 ≡ 2 → Keeps (writer_contents W.contents out) (writer_contents W.contents result.1) }
+    ensures beginning { result.0 ≡ 3 → BeginsToWrite (IsOutputOfJob (F.file folder.now) job.now) (writer_contents W.contents out) (writer_contents W.contents result.1) }
+{
+    match read_input(alloc, folder, job) {
         Ok(input) => run_input(alloc, &job.how, job.hash, &input, out, err),
         Err(name) => (cannot_read(name, err), out),
     }

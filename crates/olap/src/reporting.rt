@@ -27,7 +27,11 @@ pub fn execute_report<H: KeyHash<Cell> + KeyHash<Tuple>, G: Gate>(
     ensures ended { IfErr result (λ e. e ≡ Ended.OutOfMemory) }
 {
     match read_plan(setup.alloc, text, keeper.schema()) {
-        Ok(plan) => execute_plan(setup, keeper, &plan, number),
+        Ok(plan) => {
+            let block = execute_plan(setup, keeper, &plan, number);
+            drop(plan);
+            block
+        }
         Err(fault) => refusal_block(setup.alloc, number, Fault::Line(fault)),
     }
 }

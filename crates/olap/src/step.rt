@@ -91,7 +91,7 @@ fn execute_kept<H: KeyHash<Cell> + KeyHash<Tuple>, G: Gate>(
     match read_statement(alloc, keeper.schema(), setup.parts, line.bytes) {
         Ok(Statement::Nothing) => Ok(Vec::new(alloc)),
         Ok(Statement::Put(row)) => put(alloc, keeper, row, line.number),
-        Ok(Statement::Delete(key)) => delete(alloc, keeper, &key),
+        Ok(Statement::Delete(key)) => delete(alloc, keeper, key),
         Ok(Statement::Publish) => publish(alloc, setup.gate, keeper),
         Ok(Statement::Report(query)) => execute_report(setup, keeper, query, line.number),
         Ok(Statement::Shape) => {
@@ -124,13 +124,13 @@ fn put<H: KeyHash<Cell>>(
 fn delete<H: KeyHash<Cell>>(
     alloc: Global,
     keeper: &mut Keeper<H>,
-    key: &Cell,
+    key: Cell,
 ) -> Result<Vec<u8>, Ended>
-    ensures draft { OnOk result (ChangesDraft keeper.old keeper.new (remove (editions.draft keeper.old) key.now)) }
+    ensures draft { OnOk result (ChangesDraft keeper.old keeper.new (remove (editions.draft keeper.old) key)) }
     ensures nothing { IfOk result (λ block. block.items ≡ []) }
     ensures ended { IfErr result (λ e. e ≡ Ended.OutOfMemory) }
 {
-    if keeper.delete(key).is_err() {
+    if keeper.delete(&key).is_err() {
         return Err(Ended::OutOfMemory);
     }
     Ok(Vec::new(alloc))

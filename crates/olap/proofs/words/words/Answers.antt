@@ -1,10 +1,12 @@
-use Rattle.std.proofs.Common.{rules, map, List}
-use Rattle.clap.specs.Words.{Row, Text, found_of, rows_of}
-use Rattle.olap.proofs.CommandLineLemmas.{run_with_no_script}
+use Rattle.std.proofs.Common.{map, rules}
+use Rattle.clap.specs.Words.{found_of, rows_of}
+use Rattle.olap.proofs.CommandLineLemmas.{asks_of_found, fault_of_found}
 use Rattle.olap.proofs.words.words.Goals as goal
 
-pub returns-in_default-value-clause-fault : goal.returns-in_default-value-clause-fault
-returns-in_default-value-clause-fault c =
-    let given : List Text = map (λ w. w.now) c.args.words.now in
-    let found : List Row = rows_of (found_of c.in-Some.found.now) in
-    (search rules, run_with_no_script given found (search rules) (search rules) (search rules))
+pub returns-in-Some-clause-job : goal.returns-in-Some-clause-job
+returns-in-Some-clause-job c =
+    asks_of_found (map (λ w. w.now) c.args.words.now) (rows_of (found_of c.in-Some.found.now)) c.job_found.result (search rules) c.job_found.ensures.job
+
+pub returns-in-Some-clause-fault : goal.returns-in-Some-clause-fault
+returns-in-Some-clause-fault c =
+    fault_of_found (map (λ w. w.now) c.args.words.now) (rows_of (found_of c.in-Some.found.now)) c.job_found.result (search rules) (search rules) c.job_found.ensures.fault
