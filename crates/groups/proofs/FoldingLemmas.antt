@@ -1,11 +1,11 @@
 -- Groups and the rows that went into them.
-use Rattle.std.specs.Prelude.{◌≡◌, ℕ, zero, suc, ◌+◌, ◌<◌, ◌≤◌, Bool, true, false, List, [], ◌∷◌, ◌++◌, length, set, Option, Some, None, if◌then◌else◌, refl}
+use Rattle.std.specs.Prelude.{◌≡◌, ℕ, zero, suc, ◌+◌, ◌<◌, ◌≤◌, Bool, true, false, List, [], ◌∷◌, ◌++◌, length, set, Some, None, if◌then◌else◌, refl}
 use Rattle.std.specs.List.{All, AllByRecursion}
 use Rattle.std.specs.List.Sorted.{IsPermutation}
 use Rattle.std.proofs.Common.{get_or, ap, ap₂, sym, ◌∙◌, subst, arith, inl, inr}
 use Rattle.std.proofs.lemmas.List.{append_assoc, append-nil, get_or_read, length-append, length-map}
 use Rattle.std.proofs.lemmas.List.Sorted.{All-permutation, IsPermutation-append_comm, IsPermutation-append_left, IsPermutation-append_right, IsPermutation-refl, IsPermutation-trans, length_permutation}
-use Rattle.aggs.specs.Accs.{AccTakes, AccsFit, acc_kind, acc_of, acc_room, acc_takes, acc_together, kind_of}
+use Rattle.aggs.specs.Accs.{AccsFit, acc_kind, acc_of, acc_room, acc_takes, acc_together}
 use Rattle.aggs.specs.Room.{cell_limit}
 use Rattle.aggs.specs.declared.acc.Acc.{Acc}
 use Rattle.cells.specs.Fitting.{AreStored, IsStored}
@@ -13,13 +13,13 @@ use Rattle.cells.specs.TupleOrder.{tuple_eq, tuple_eq-equiv}
 use Rattle.cells.specs.Values.{Entry}
 use Rattle.cells.specs.declared.cell.Cell.{Cell}
 use Rattle.cells.specs.declared.cell.Cell.TheVariants.{Null}
-use Rattle.groups.specs.Accumulators.{AllFit, CanStep, MayStep, accs_of, accs_together, both, group, group_or, is_start, no_rows, stepped}
-use Rattle.groups.specs.Folding.{AreParts, CanCount, CanTake, Covers, FitsRow, Group, HasRoom, IsPart, MayTake, Steps, Takes, joined, picked}
+use Rattle.groups.specs.Accumulators.{CanStep, MayStep, accs_of, accs_together, both, group, group_or, is_start, no_rows, stepped}
+use Rattle.groups.specs.Folding.{AreParts, CanTake, Covers, FitsRow, Group, HasRoom, IsPart, MayTake, Takes, joined, picked}
 use Rattle.groups.specs.Groups.{cell_at, column_of, members, tuple_of}
 use Rattle.groups.specs.Laws.{accs_join, group_any_order, group_joins}
 use Rattle.groups.specs.Laying.{given, met_from}
 use Rattle.groups.specs.declared.aggregation.Aggregation.{Aggregation}
-use Rattle.groups.proofs.TuplesLemmas.{all_at, all_both, all_first, all_push, all_second}
+use Rattle.groups.proofs.TuplesLemmas.{all_at, all_first, all_push, all_second}
 
 -- ---- what holds of each row holds in any order
 module _ {X : Type 0} (P : X → Type 0) where

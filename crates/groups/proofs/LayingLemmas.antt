@@ -1,14 +1,14 @@
 -- Groups laid over tries.
 use Rattle.std.specs.Prelude.{◌≡◌, ◌==◌, ℕ, ◌+◌, ◌<◌, ◌≤◌, Bool, true, false, not, ◌&&◌, List, [], ◌∷◌, ◌++◌, length, take, drop, Option, Some, None, IfSome, cond, if◌then◌else◌, refl}
 use Rattle.std.specs.FinMap as map
-use Rattle.std.specs.FinMap.{FinMap, IsAntisymmetric}
+use Rattle.std.specs.FinMap.{IsAntisymmetric}
 use Rattle.std.specs.List.{AllByRecursion}
 use Rattle.std.specs.Ordering.{is_eq, is_lt}
 use Rattle.std.specs.declared.cmp.Ordering.{Ordering}
 use Rattle.std.proofs.Common.{eqb-true, get_or, ap, sym, ◌∙◌, subst, arith}
 use Rattle.std.proofs.lemmas.List.{drop_more, length-append, length-map, length-take, take_all, take_more, take-append-drop}
 use Rattle.std.proofs.lemmas.List.Sorted.{length_permutation}
-use Rattle.aggs.specs.Accs.{acc_kind, acc_of, acc_room, kind_of}
+use Rattle.aggs.specs.Accs.{acc_kind, acc_room}
 use Rattle.aggs.specs.Room.{cell_limit}
 use Rattle.aggs.specs.declared.acc.Acc.{Acc}
 use Rattle.cells.specs.SameKeys.{exact_tuples, same_tuples}
@@ -25,7 +25,7 @@ use Rattle.groups.specs.declared.aggregation.Aggregation.{Aggregation}
 use Rattle.groups.proofs.FoldingLemmas.{all_in_order, covers_none, met_covers, met_joined, stored_column}
 use Rattle.groups.proofs.TuplesLemmas.{all_both, all_first, all_second}
 use Rattle.trie.specs.Digits.{digit_order}
-use Rattle.trie.specs.Entries.{value_at, with_pair}
+use Rattle.trie.specs.Entries.{with_pair}
 use Rattle.trie.specs.Maps.{map_of}
 
 -- with a pair more a list is longer by one at most

@@ -2,6 +2,7 @@ pub mod AccumulatorsLemmas
 pub mod CoarseningLemmas
 pub mod FinishLemmas
 pub mod FoldingLemmas
+pub mod FoldsLemmas
 pub mod JoinLemmas
 pub mod LayingLemmas
 pub mod OrderLemmas
@@ -9,5 +10,6 @@ pub mod PlanLemmas
 pub mod PoolLemmas
 pub mod ReportLemmas
 pub mod SetTuplesLemmas
+pub mod SourcesLemmas
 pub mod TuplesLemmas
 pub mod VisitingLemmas

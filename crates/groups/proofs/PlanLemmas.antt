@@ -12,7 +12,7 @@ use Rattle.cells.specs.declared.cell.Cell.TheVariants as cell
 use Rattle.cells.specs.declared.schema.Column.{Column}
 use Rattle.cells.specs.declared.schema.ColumnType.TheVariants as column
 use Rattle.groups.specs.Accumulators.{aggregations_of}
-use Rattle.groups.specs.Folding.{AreWithin, CanFold, FitsRow, FitsSet, MayTake}
+use Rattle.groups.specs.Folding.{AreWithin, CanFoldSet, FitsSet, MayTake}
 use Rattle.groups.specs.Groups.{cell_at}
 use Rattle.groups.specs.Partials.{MayFold}
 use Rattle.groups.specs.declared.aggregation.Aggregation.{Aggregation}
@@ -96,6 +96,10 @@ module _ (laws : PlansFitRows) (table : Table) (row : Entry) (fits : IsRowOf tab
       by_condition : (o : Option (PredicateTree (Test ℕ))) → ((p : PredicateTree (Test ℕ)) → o ≡ Some p → IsOver (length row.cells) p) → IfSome o (λ p. IsOver (length row.cells) p)
       by_condition None h = tt
       by_condition (Some p) h = h p refl
+
+-- rows that can be folded into the groups of each set of the plan
+pub record CanFold (plan : PlanTree) (aggregations : List Aggregation) (rows : List Entry) : Type 0 where
+  pub each : AllByRecursion (λ set. CanFoldSet plan.condition aggregations set rows) plan.sets
 
 pub can_fold : (laws : PlansFitRows) (plan : PlanTree) (aggregations : List Aggregation) (rows : List Entry) → aggregations ≡ aggregations_of plan.items →
     MayFold plan rows → CanFold plan aggregations rows

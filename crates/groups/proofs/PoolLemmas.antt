@@ -1,27 +1,22 @@
 -- Pools of groups, and partial results set by set.
-use Rattle.std.specs.Prelude.{◌≡◌, ◌≢◌, ◌==◌, ℕ, zero, suc, ◌+◌, ◌<◌, ◌≤◌, Bool, true, false, List, [], ◌∷◌, ◌++◌, IfSome, length, nat_eq, ◌&&◌, take, Option, Some, None, refl, slice_index_or}
+use Rattle.std.specs.Prelude.{◌≡◌, ◌==◌, ℕ, ◌+◌, ◌<◌, ◌≤◌, Bool, true, false, List, [], ◌∷◌, ◌++◌, length, nat_eq, ◌&&◌, take, Some, refl, slice_index_or}
 use Rattle.std.specs.Cmp.Lexicographic.{pointwise}
-use Rattle.std.specs.List.{AllByRecursion, slice_get}
-use Rattle.std.proofs.Common.{eqb-true, get_or, ap, ap₂, sym, ◌∙◌, subst, arith}
+use Rattle.std.proofs.Common.{eqb-true, get_or, ap, ap₂, sym, ◌∙◌, subst}
 use Rattle.std.proofs.lemmas.List.{map-append, take_all, take_more}
 use Rattle.std.proofs.lemmas.List.Quantifiers.{position-Some}
-use Rattle.aggs.specs.declared.acc.Acc.{Acc}
 use Rattle.cells.specs.Values.{Entry}
 use Rattle.cells.specs.declared.cell.Cell.{Cell}
-use Rattle.groups.specs.Coarsening.{ArePlaces, CanCoarsen, picked_columns}
-use Rattle.groups.specs.Folding.{AreWithin, CanCount, CanFold, CanFoldSet, Covers, Group, IsFolded}
-use Rattle.groups.specs.Groups.{kept, place_in}
+use Rattle.groups.specs.Coarsening.{ArePlaces, CanCoarsen}
+use Rattle.groups.specs.Folding.{Covers, Group, IsFolded}
+use Rattle.groups.specs.Groups.{place_in}
 use Rattle.groups.specs.Laying.{IsLaid}
 use Rattle.groups.specs.Partials.{StandsAt, StandsEach}
-use Rattle.groups.specs.Pools.{IsPool, MayCoarsen}
+use Rattle.groups.specs.Pools.{AreCounted, Grows, HaveFiner, IsPool, MayCoarsen, MayCoarsenAll, has_finer}
 use Rattle.groups.specs.declared.aggregation.Aggregation.{Aggregation}
 use Rattle.groups.specs.declared.pool.Folded.{Folded}
 use Rattle.groups.proofs.LayingLemmas.{start_stands}
-use Rattle.groups.proofs.TuplesLemmas.{all_at, all_push}
-use Rattle.groups.proofs.VisitingLemmas.{can_count_kept}
-use Rattle.query.specs.Plans.{PlanTree}
-use Rattle.query.specs.Trees.{PredicateTree}
-use Rattle.query.specs.declared.test.Test.{Test}
+use Rattle.groups.proofs.SourcesLemmas.{finer_stays}
+use Rattle.groups.proofs.TuplesLemmas.{all_at, all_push, all_through}
 
 -- ---- places of columns
 pub places_none : (finer places : List ℕ) → places ≡ [] → ArePlaces finer [] places
@@ -54,23 +49,56 @@ module _ {H : Type 0} where
   pool_at aggregations rows pool i f now h is = subst (λ (g : Folded H). Covers aggregations g.set.items rows g.bag) (sym is)
       (all_at (λ (g : Folded H). Covers aggregations g.set.items rows g.bag) pool i f now.each h)
 
-  pub folded_kept : (condition : Option (PredicateTree (Test ℕ))) (aggregations : List Aggregation) (set : List ℕ) (rows : List Entry) (columns : List ℕ) (groups : List (Group H)) →
-      CanFoldSet condition aggregations set rows → Covers aggregations columns (kept condition rows) groups → IsFolded aggregations columns groups
-  folded_kept condition aggregations set rows columns groups can covers = record {
-    rows = kept condition rows;
-    covers = covers;
-    can = can_count_kept condition aggregations set rows can;
+  pub counted_at : (aggregations : List Aggregation) (pool : List (Folded H)) (set : List ℕ) (groups : List (Group H)) → (counted : AreCounted aggregations pool) →
+      ((rows : List Entry) → IsPool aggregations rows pool → Covers aggregations set rows groups) → IsFolded aggregations set groups
+  counted_at aggregations pool set groups counted covers = record { rows = counted.rows; covers = covers counted.rows counted.covers; can = counted.can }
+
+  pub may_coarsen_at : (pool : List (Folded H)) (i : ℕ) (f : Folded H) → MayCoarsenAll pool → i < length pool → f ≡ get_or pool i f → MayCoarsen f
+  may_coarsen_at pool i f may h is = record {
+    aggregations = may.aggregations;
+    folded = counted_at may.aggregations pool f.set.items f.bag may.counted (λ rows now. pool_at may.aggregations rows pool i f now h is);
   }
 
   pub can_coarsen : (aggregations : List Aggregation) (finer set places : List ℕ) (groups : List (Group H)) → ArePlaces finer set places → IsFolded aggregations finer groups →
       CanCoarsen places groups
   can_coarsen aggregations finer set places groups are folded = record { aggregations = aggregations; columns = finer; within = are.within; folded = folded }
 
--- ---- the sets of a plan
-pub set_at : (plan : PlanTree) (aggregations : List Aggregation) (rows : List Entry) (i : ℕ) (set : List ℕ) → CanFold plan aggregations rows → i < length plan.sets →
-    set ≡ get_or plan.sets i set → CanFoldSet plan.condition aggregations set rows
-set_at plan aggregations rows i set can h is = subst (λ s. CanFoldSet plan.condition aggregations s rows) (sym is)
-    (all_at (λ s. CanFoldSet plan.condition aggregations s rows) plan.sets i set can.each h)
+-- ---- a pool that grows
+module _ {H : Type 0} where
+  pub grows_not : (old new : List (Folded H)) → new ≡ old → Grows old new
+  grows_not old new e = rw e (record { covers = λ aggregations rows now. now; finer = λ set h. h })
+
+  pub grows_more : (old mid new : List (Folded H)) → Grows old mid → Grows mid new → Grows old new
+  grows_more old mid new first second = record {
+    covers = λ aggregations rows now. second.covers aggregations rows (first.covers aggregations rows now);
+    finer = λ set h. second.finer set (first.finer set h);
+  }
+
+  pub grows_by : (old new : List (Folded H)) (f : Folded H) → ((aggregations : List Aggregation) (rows : List Entry) → IsPool aggregations rows old → Covers aggregations f.set.items rows f.bag) →
+      new ≡ old ++ f ∷ [] → Grows old new
+  grows_by old new f covers e = rw e (record {
+    covers = λ aggregations rows now. pool_more aggregations rows old (old ++ f ∷ []) f now (covers aggregations rows now) refl;
+    finer = finer_stays old f;
+  })
+
+  pub grows_by_set : (old slice new : List (Folded H)) (set : List ℕ) (f : Folded H) → slice ≡ old → f.set.items ≡ set →
+      ((aggregations : List Aggregation) (rows : List Entry) → IsPool aggregations rows slice → Covers aggregations set rows f.bag) → new ≡ old ++ f ∷ [] → Grows old new
+  grows_by_set old slice new set f same is covers e = grows_by old new f (λ aggregations rows now.
+      rw is (covers aggregations rows (rw same now))) e
+
+  pub grown_counted : (aggregations : List Aggregation) (old new : List (Folded H)) → Grows old new → AreCounted aggregations old → AreCounted aggregations new
+  grown_counted aggregations old new grows counted = record { rows = counted.rows; covers = grows.covers aggregations counted.rows counted.covers; can = counted.can }
+
+  pub grown_may : (old new : List (Folded H)) → Grows old new → MayCoarsenAll old → MayCoarsenAll new
+  grown_may old new grows may = record { aggregations = may.aggregations; counted = grown_counted may.aggregations old new grows may.counted }
+
+  pub grown_finer : (old new : List (Folded H)) (sets : List (List ℕ)) → Grows old new → HaveFiner old sets → HaveFiner new sets
+  grown_finer old new sets grows finer = all_through _ _ grows.finer sets finer
+
+  pub finer_at : (pool : List (Folded H)) (sets its : List (List ℕ)) (i : ℕ) (s set : List ℕ) → HaveFiner pool sets → its ≡ sets → i < length its → s ≡ get_or its i s → set ≡ s →
+      has_finer pool set ≡ true
+  finer_at pool sets its i s set finer same h is e =
+      rw (e, is, same) (all_at (λ (x : List ℕ). has_finer pool x ≡ true) sets i s finer (subst (λ l. i < length l) same h))
 
 module _ {H : Type 0} (hash : List Cell → ℕ) (aggregations : List Aggregation) (rows : List Entry) where
   stands_push : (sets : List (List ℕ)) (tries : List (List (Group H))) (s : List ℕ) (t : List (Group H)) →
@@ -103,6 +131,24 @@ module _ {H : Type 0} (hash : List Cell → ℕ) (aggregations : List Aggregatio
   stands_next sets its i s t tries new trie same h is e now one f =
       stands_more sets i s tries new trie (subst (λ l. i < length l) same h) (subst (λ (l : List (List ℕ)). s ≡ get_or l i s) same is) now
       (subst (λ u. StandsAt hash aggregations u rows trie) e one) f
+
+module _ {H : Type 0} (hash : List Cell → ℕ) (aggregations : List Aggregation) (pool : List (Folded H)) where
+  -- for whatever rows went into the pool
+  pub record StandsFor (sets : List (List ℕ)) (i : ℕ) (tries : List (List (Group H))) : Type 0 where
+    pub each : (rows : List Entry) → IsPool aggregations rows pool → StandsTo hash aggregations rows sets i tries
+
+  pub stands_for_none : (sets : List (List ℕ)) (tries : List (List (Group H))) → tries ≡ [] → StandsFor sets 0 tries
+  stands_for_none sets tries e = record { each = λ rows now. stands_none hash aggregations rows sets tries e }
+
+  pub stands_for_next : (sets its : List (List ℕ)) (i : ℕ) (s t : List ℕ) (tries new : List (List (Group H))) (trie : List (Group H)) → its ≡ sets → i < length its → s ≡ get_or its i s → t ≡ s →
+      StandsFor sets i tries → ((rows : List Entry) → IsPool aggregations rows pool → StandsAt hash aggregations t rows trie) → new ≡ tries ++ trie ∷ [] → StandsFor sets (i + 1) new
+  stands_for_next sets its i s t tries new trie same h is e now one f = record {
+    each = λ rows pooled. stands_next hash aggregations rows sets its i s t tries new trie same h is e (now.each rows pooled) (one rows pooled) f;
+  }
+
+  pub stands_for_all : (sets : List (List ℕ)) (i : ℕ) (tries : List (List (Group H))) → length sets ≤ i → StandsFor sets i tries → (rows : List Entry) →
+      IsPool aggregations rows pool → StandsEach hash aggregations sets rows tries
+  stands_for_all sets i tries h now rows pooled = stands_all hash aggregations rows sets i tries h (now.each rows pooled)
 
 module _ {H : Type 0} (hash : List Cell → ℕ) where
   -- the start stands for no rows

@@ -1,9 +1,8 @@
 -- Rows that a walk lends, one after another.
-use Rattle.std.specs.Prelude.{◌≡◌, ℕ, ◌+◌, ◌≤◌, Bool, true, List, [], ◌∷◌, ◌++◌, length, map, Option, refl}
+use Rattle.std.specs.Prelude.{◌≡◌, ℕ, true, List, [], ◌∷◌, ◌++◌, Option, refl}
 use Rattle.std.specs.List.{AllByRecursion}
 use Rattle.std.proofs.Common.{ap, sym, ◌∙◌, subst, arith}
 use Rattle.std.proofs.lemmas.List.{append_assoc, append-nil, length-append, map-append}
-use Rattle.aggs.specs.Room.{cell_limit}
 use Rattle.cells.specs.Values.{Entry}
 use Rattle.cells.specs.declared.cell.Cell.{Cell}
 use Rattle.groups.specs.Folding.{CanCount, CanFoldSet, Covers, FitsRow, FitsSet, Group, HasRoom, Takes}
@@ -12,7 +11,7 @@ use Rattle.groups.specs.Laws.{all_kept, kept_join, kept_short}
 use Rattle.groups.specs.Partials.{rows_of}
 use Rattle.groups.specs.Visiting.{MayVisit, TakesKept, Visits}
 use Rattle.groups.specs.declared.aggregation.Aggregation.{Aggregation}
-use Rattle.groups.proofs.FoldingLemmas.{covers_more, covers_none}
+use Rattle.groups.proofs.FoldingLemmas.{covers_more}
 use Rattle.groups.proofs.TuplesLemmas.{all_first, all_push, all_second, all_through}
 use Rattle.query.specs.Trees.{PredicateTree}
 use Rattle.query.specs.declared.test.Test.{Test}
@@ -88,31 +87,29 @@ module _ {S H : Type 0} (condition : S → Option (PredicateTree (Test ℕ))) (a
   visited old new [] e = visited_none old new e
   visited old new (x ∷ es) t = visited_more old t.0 new x.0 x.1 (rows_of es) t.1 (visited t.0 new es t.2)
 
-  none_yet : (old : S) → groups old ≡ [] → Covers (aggregations old) (set old) [] (groups old)
-  none_yet old e = subst (Covers (aggregations old) (set old) []) (sym e) (covers_none (aggregations old) (set old))
+  pub visited_all : (old new : S) (es : List (Cell × Entry)) → TakesAll (Visits condition aggregations set groups) old es new → (befores : List Entry) →
+      Covers (aggregations old) (set old) befores (groups old) → Covers (aggregations old) (set old) (befores ++ kept (condition old) (rows_of es)) (groups new)
+  visited_all old new es t = (visited old new es t).serves
 
-  pub visited_all : (old new : S) (es : List (Cell × Entry)) → groups old ≡ [] → TakesAll (Visits condition aggregations set groups) old es new →
-      Covers (aggregations old) (set old) (kept (condition old) (rows_of es)) (groups new)
-  visited_all old new es e t = (visited old new es t).serves [] (none_yet old e)
-
-  may_visit_at : (old mid : S) (before after : List Entry) (key : Cell) (row : Entry) → groups old ≡ [] → Visited old before mid →
-      CanFoldSet (condition old) (aggregations old) (set old) (before ++ row ∷ after) → MayVisit condition aggregations set groups mid key row
-  may_visit_at old mid before after key row e v can =
-      let fits : FitsSet (condition old) (aggregations old) (set old) row = (all_second _ before (row ∷ after) can.each).0 in
+  may_visit_at : (old mid : S) (taken before after : List Entry) (key : Cell) (row : Entry) → Covers (aggregations old) (set old) (kept (condition old) taken) (groups old) →
+      Visited old before mid → CanFoldSet (condition old) (aggregations old) (set old) ((taken ++ before) ++ row ∷ after) → MayVisit condition aggregations set groups mid key row
+  may_visit_at old mid taken before after key row covers v can =
+      let fits : FitsSet (condition old) (aggregations old) (set old) row = (all_second _ (taken ++ before) (row ∷ after) can.each).0 in
       let room : HasRoom (aggregations old) (set old) row (groups mid) = record {
-        rows = kept (condition old) before;
-        covers = v.serves [] (none_yet old e);
-        can = can_count (condition old) (aggregations old) (set old) before after row can;
+        rows = kept (condition old) (taken ++ before);
+        covers = subst (λ l. Covers (aggregations old) (set old) l (groups mid)) (sym (kept_join (condition old) taken before)) (v.serves (kept (condition old) taken) covers);
+        can = can_count (condition old) (aggregations old) (set old) (taken ++ before) after row can;
       } in
       record {
         fits = rw (v.condition_stays, v.aggregations_stay, v.set_stays) fits;
         room = rw (v.aggregations_stay, v.set_stays) room;
       }
 
-  pub may_visit : (old : S) (es : List (Cell × Entry)) → groups old ≡ [] → CanFoldSet (condition old) (aggregations old) (set old) (rows_of es) →
-      MayTakeAll (MayVisit condition aggregations set groups) (Visits condition aggregations set groups) old es
-  may_visit old es e can = record {
+  pub may_visit : (old : S) (taken : List Entry) (es : List (Cell × Entry)) → Covers (aggregations old) (set old) (kept (condition old) taken) (groups old) →
+      CanFoldSet (condition old) (aggregations old) (set old) (taken ++ rows_of es) → MayTakeAll (MayVisit condition aggregations set groups) (Visits condition aggregations set groups) old es
+  may_visit old taken es covers can = record {
     asked = λ before after x mid split t.
-        may_visit_at old mid (rows_of before) (rows_of after) x.0 x.1 e (visited old mid before t)
-        (subst (CanFoldSet (condition old) (aggregations old) (set old)) (ap rows_of split ∙ map-append (λ x. x.1) before (x ∷ after)) can);
+        may_visit_at old mid taken (rows_of before) (rows_of after) x.0 x.1 covers (visited old mid before t)
+        (subst (CanFoldSet (condition old) (aggregations old) (set old))
+        (ap (λ l. taken ++ l) (ap rows_of split ∙ map-append (λ x. x.1) before (x ∷ after)) ∙ sym (append_assoc taken (rows_of before) (x.1 ∷ rows_of after))) can);
   }

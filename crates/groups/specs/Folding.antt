@@ -13,7 +13,6 @@ use Rattle.cells.specs.declared.cell.Cell.TheVariants.{Null}
 use Rattle.groups.specs.Accumulators.{CanStep, accs_of, no_rows, stepped}
 use Rattle.groups.specs.Groups.{cell_at, tuple_of}
 use Rattle.groups.specs.declared.aggregation.Aggregation.{Aggregation}
-use Rattle.query.specs.Plans.{PlanTree}
 use Rattle.query.specs.Trees.{PredicateTree}
 use Rattle.query.specs.Truth.{IsOver}
 use Rattle.query.specs.declared.test.Test.{Test}
@@ -111,7 +110,3 @@ pub record FitsSet (condition : Option (PredicateTree (Test ℕ))) (aggregations
 pub record CanFoldSet (condition : Option (PredicateTree (Test ℕ))) (aggregations : List Aggregation) (set : List ℕ) (rows : List Entry) : Type 0 where
   pub each : AllByRecursion (FitsSet condition aggregations set) rows
   pub few : length rows ≤ cell_limit
-
--- they can be folded into those of each set of the plan
-pub record CanFold (plan : PlanTree) (aggregations : List Aggregation) (rows : List Entry) : Type 0 where
-  pub each : AllByRecursion (λ set. CanFoldSet plan.condition aggregations set rows) plan.sets

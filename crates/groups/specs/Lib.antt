@@ -5,6 +5,7 @@ pub mod Codes
 pub mod Folding
 pub mod Visiting
 pub mod Pools
+pub mod Folds
 pub mod Coarsening
 pub mod Laying
 pub mod Laws

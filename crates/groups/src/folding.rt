@@ -1,79 +1,95 @@
-//! Rows folded into groups.
-ghost use Rattle.std.specs.Prelude.{◌≡◌, IfOk, IfSome, length};
-ghost use Rattle.groups.specs.Folding.{CanFoldSet, Covers};
-ghost use Rattle.groups.specs.Groups.{keeps, kept};
-ghost use Rattle.groups.specs.Partials.{rows_of};
-ghost use Rattle.query.specs.Truth.{IsOver};
+//! Rows folded piece by piece.
+ghost use Rattle.std.specs.Prelude.{[], List, ◌++◌, IfOk};
+ghost use Rattle.cells.specs.Values.{Entry};
+ghost use Rattle.groups.specs.Folds.{AllGoOn, Folds, MayAllGoOn, MayEnd, MayTakeMore};
+ghost use Rattle.groups.specs.Groups.{kept};
+ghost use Rattle.groups.specs.Partials.{Stands, rows_of};
+ghost use Rattle.query.specs.Plans.{PlanTree};
 
-use crate::aggregation::Aggregation;
-use crate::bag::Bag;
-use cells::{Cell, KeyHash, Row};
-use query::{Plan, Truth};
+use crate::aggregation::{Aggregation, aggregations};
+use crate::partial::Partial;
+use crate::pool::Folded;
+use crate::pool_tries::tries_of;
+use crate::sources::sources_of;
+use crate::visiting::{KeptRows, fold_into};
+use cells::{Cell, KeyHash, Row, Tuple};
+use query::{Plan, predicates_fit_rows, rows_fit_columns};
 use std::alloc::{AllocError, Global};
-use trie::{Piece, Visitor};
+use trie::Piece;
 
-/// The rows of a piece for which a plan's WHERE is true, and the aggregates of its select list.
+/// A partial result in the making, for one worker that takes several pieces: the rows of all go into the same groups,
+/// and the tries are made of them once, in the end. The rows are folded into the groups of a few grouping sets alone,
+/// the sources, from which those of the others are made. It owns copies of the cells that it keeps, and borrows the
+/// plan.
 #[derive(Drop)]
-pub struct KeptRows<'a, H: KeyHash<Cell>> {
-    pub piece: &'a Piece<Cell, Row, H>,
-    pub plan: &'a Plan,
-    pub aggregations: &'a [Aggregation],
-}
-
-/// The groups of a set, while rows are lent to it that are folded into them.
-#[derive(Drop)]
-struct Fold<'a, H: KeyHash<Cell>> {
-    alloc: Global,
+pub struct Folding<'a, H: KeyHash<Cell>> {
     plan: &'a Plan,
-    aggregations: &'a [Aggregation],
-    set: &'a [usize],
-    bag: Bag<H>,
+    aggregations: Vec<Aggregation>,
+    sources: Vec<Folded<H>>,
 }
 
-impl<'a, H: KeyHash<Cell>> Visitor<Cell, Row> for Fold<'a, H> {
-    ghost use Rattle.groups.specs.Visiting.{MayVisit, Visits};
+impl<'a, H: KeyHash<Cell> + KeyHash<Tuple>> Folding<'a, H> {
+    /// No rows yet.
+    pub fn new(alloc: Global, plan: &'a Plan) -> Result<Folding<'a, H>, AllocError>
+        ensures { IfOk result (λ f. Folds plan.now [] f) }
+    {
+        let aggregations = aggregations(alloc, plan.items())?;
+        let sources = sources_of(alloc, plan.sets())?;
+        Ok(Folding {
+            plan,
+            aggregations,
+            sources,
+        })
+    }
 
-    ghost asks = { MayVisit (λ f. f.plan.now.condition) (λ f. f.aggregations.now) (λ f. f.set.now) (λ f. f.bag) };
-
-    ghost takes = { Visits (λ f. f.plan.now.condition) (λ f. f.aggregations.now) (λ f. f.set.now) (λ f. f.bag) };
-
-    fn visit(&mut self, _key: &Cell, row: &Row) -> Result<(), AllocError> {
-        if !keeps(self.plan, row) {
-            return Ok(());
-        }
-        self.bag.take(self.alloc, row, self.set, self.aggregations)?;
+    /// Takes the rows of the piece for which the plan's WHERE is true, behind those that are there. The piece's rows are
+    /// of the table that the plan was checked for. A row whose group is there takes memory only for what accumulators
+    /// keep of it. After an error nothing is known of the rows, and the folding is to be dropped.
+    pub fn take(&mut self, alloc: Global, piece: &Piece<Cell, Row, H>) -> Result<(), AllocError>
+        requires { MayTakeMore self.old (rows_of piece.now) }
+        ensures { (plan : PlanTree) (rows : List Entry) → Folds plan rows self.old →
+            IfOk result (λ _. Folds plan (rows ++ kept plan.condition (rows_of piece.now)) self.new) }
+    {
+        predicates_fit_rows();
+        rows_fit_columns();
+        let rows = KeptRows {
+            piece,
+            plan: self.plan,
+            aggregations: self.aggregations.as_slice(),
+        };
+        fold_all(alloc, &rows, &mut self.sources)?;
         Ok(())
     }
-}
 
-/// Whether the plan's WHERE is true for the row, if it has one.
-fn keeps(plan: &Plan, row: &Row) -> bool
-    requires { IfSome plan.now.condition (λ p. IsOver (length row.now.cells) p) }
-    ensures { result ≡ keeps plan.now.condition row.now }
-{
-    match plan.condition() {
-        None => true,
-        Some(predicate) => matches!(predicate.truth(row), Truth::True),
+    /// The partial result of all rows that were taken.
+    pub fn into_partial(self, alloc: Global) -> Result<Partial<H>, AllocError>
+        requires { MayEnd self }
+        ensures { (plan : PlanTree) (rows : List Entry) → Folds plan rows self.entry →
+            IfOk result (λ p. Stands H.KeyHash-2.hash_of plan rows p) }
+    {
+        predicates_fit_rows();
+        rows_fit_columns();
+        let Folding {
+            plan,
+            aggregations,
+            sources,
+        } = self;
+        let tries = tries_of(alloc, plan.sets(), aggregations.as_slice(), sources)?;
+        Ok(Partial { tries })
     }
 }
 
-/// The groups of a set, made in one walk over the rows.
-pub fn folded<H: KeyHash<Cell>>(
+/// Folds the rows into the groups of each source.
+fn fold_all<H: KeyHash<Cell>>(
     alloc: Global,
     rows: &KeptRows<'_, H>,
-    set: &[usize],
-) -> Result<Bag<H>, AllocError>
-    requires { CanFoldSet rows.now.plan.now.condition rows.now.aggregations.now set.now (rows_of rows.now.piece.now) }
-    ensures { IfOk result (λ b. Covers rows.now.aggregations.now set.now (kept rows.now.plan.now.condition (rows_of rows.now.piece.now)) b) }
+    sources: &mut Vec<Folded<H>>,
+) -> Result<(), AllocError>
+    requires { MayAllGoOn rows.now sources.old.items }
+    ensures { IfOk result (λ _. AllGoOn rows.now sources.old.items sources.new.items) }
 {
-    let mut fold = Fold {
-        alloc,
-        plan: rows.plan,
-        aggregations: rows.aggregations,
-        set,
-        bag: Bag::new(alloc),
-    };
-    rows.piece.walk(&mut fold)?;
-    let Fold { bag, .. } = fold;
-    Ok(bag)
+    for place in 0..sources.len() {
+        fold_into(alloc, rows, &mut sources[place])?;
+    }
+    Ok(())
 }

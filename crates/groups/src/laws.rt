@@ -11,12 +11,13 @@ ghost use Rattle.query.specs.Plans.{PlanTree};
 
 use cells::{Cell, KeyHash, Tuple};
 
-/// The order of the rows does not count: the report is the same, and what stands for rows stands for them in any
-/// order.
+/// The order of the rows does not count: the report is the same, what stands for rows stands for them in any order, and
+/// rows that may be folded may be folded in any order.
 pub fn any_order<H: KeyHash<Cell> + KeyHash<Tuple>>()
     ensures report { (plan : PlanTree) (xs ys : List Entry) → IsPermutation xs ys → report_rows plan xs ≡ report_rows plan ys }
     ensures stands { (plan : PlanTree) (xs ys : List Entry) (partial : List (List (List Cell × List (Acc H)))) →
         IsPermutation xs ys → Stands H.KeyHash-2.hash_of plan xs partial → Stands H.KeyHash-2.hash_of plan ys partial }
+    ensures fold { (plan : PlanTree) (xs ys : List Entry) → IsPermutation xs ys → MayFold plan xs → MayFold plan ys }
 {}
 
 /// Parts of rows that may be folded may be folded each, what is kept of the parts is what is kept of the whole, and it

@@ -15,8 +15,11 @@ mod partial;
 mod pool;
 mod pool_tries;
 mod report_row;
+mod sources;
 mod tuples;
+mod visiting;
 
+pub use folding::Folding;
 pub use laws::{any_order, parts_may_meet, worked_reports};
 pub use partial::Partial;
 pub use report_row::ReportRow;

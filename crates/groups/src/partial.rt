@@ -8,13 +8,12 @@ ghost use Rattle.query.specs.Plans.{PlanTree};
 use crate::accumulators::Accumulators;
 use crate::aggregation::aggregations;
 use crate::finishing::add_set;
-use crate::folding::KeptRows;
+use crate::folding::Folding;
 use crate::joining::join_groups;
 use crate::laying::start;
-use crate::pool_tries::tries_of;
 use crate::report_row::ReportRow;
 use cells::{Cell, KeyHash, Row, Tuple};
-use query::{Plan, predicates_fit_rows, rows_fit_columns};
+use query::Plan;
 use std::alloc::{AllocError, Global};
 use std::marker::Model;
 use trie::{Piece, Trie};
@@ -24,7 +23,7 @@ use trie::{Piece, Trie};
 /// keeps, and neither the rows nor the plan.
 #[derive(Drop)]
 pub struct Partial<H: KeyHash<Cell> + KeyHash<Tuple>> {
-    tries: Vec<Trie<Tuple, Accumulators<H>, H>>,
+    pub(crate) tries: Vec<Trie<Tuple, Accumulators<H>, H>>,
 }
 
 impl<H: KeyHash<Cell> + KeyHash<Tuple>> Model for Partial<H> {
@@ -66,16 +65,9 @@ impl<H: KeyHash<Cell> + KeyHash<Tuple>> Partial<H> {
         requires { MayFold plan.now (rows_of piece.now) }
         ensures { IfOk result (λ p. Stands H.KeyHash-2.hash_of plan.now (kept plan.now.condition (rows_of piece.now)) p) }
     {
-        predicates_fit_rows();
-        rows_fit_columns();
-        let aggregations = aggregations(alloc, plan.items())?;
-        let rows = KeptRows {
-            piece,
-            plan,
-            aggregations: aggregations.as_slice(),
-        };
-        let tries = tries_of(alloc, &rows)?;
-        Ok(Partial { tries })
+        let mut folding = Folding::new(alloc, plan)?;
+        folding.take(alloc, piece)?;
+        folding.into_partial(alloc)
     }
 
     /// The partial result of both lists of rows together. Both are of one plan.

@@ -1,16 +1,17 @@
 //! Groups of several grouping sets over the same rows, the coarser ones made from the finer.
-ghost use Rattle.std.specs.Prelude.{◌<◌, List, IfOk, IfSome, length};
+ghost use Rattle.std.specs.Prelude.{◌≡◌, ◌<◌, List, true, IfOk, IfSome, length, position, slice_index_or};
 ghost use Rattle.std.specs.Option.{option_copied};
 ghost use Rattle.cells.specs.Values.{Entry};
 ghost use Rattle.groups.specs.Coarsening.{ArePlaces};
 ghost use Rattle.groups.specs.Folding.{Covers};
-ghost use Rattle.groups.specs.Pools.{CanFoldAll, CanFoldBy, IsPool, MayCoarsen, kept_of};
+ghost use Rattle.groups.specs.Pools.{Grows, HaveFiner, IsPool, MayCoarsen, MayCoarsenAll, has_all, has_finer};
 ghost use Rattle.groups.specs.declared.aggregation.Aggregation.{Aggregation};
+ghost use Rattle.groups.specs.declared.pool.Folded.{Folded};
 
 use crate::bag::Bag;
 use crate::coarsening::coarsened;
-use crate::folding::{KeptRows, folded};
 use crate::report_row::place_in;
+use crate::sources::{has_all, most_columns};
 use cells::{Cell, KeyHash};
 use query::GroupSet;
 use std::alloc::{AllocError, Global};
@@ -22,20 +23,23 @@ pub struct Folded<H: KeyHash<Cell>> {
     pub bag: Bag<H>,
 }
 
-/// The groups of each set of the plan, each set once. Sets of more columns are folded first, so that others can be
-/// made from their groups; no set is folded that the plan does not name.
+/// The groups of each set that has columns, each set once, made from those of the sources. Sets of more columns come
+/// first, so that others can be made from their groups. From those of the empty set no other is made, so it is left
+/// out, unless it is a source.
 pub fn pool_of<H: KeyHash<Cell>>(
     alloc: Global,
-    rows: &KeptRows<'_, H>,
+    sets: &[GroupSet],
+    sources: Vec<Folded<H>>,
 ) -> Result<Vec<Folded<H>>, AllocError>
-    requires { CanFoldAll rows.now }
-    ensures { IfOk result (λ v. IsPool rows.now.aggregations.now (kept_of rows.now) v.items) }
+    requires can { MayCoarsenAll sources.items }
+    requires finer { HaveFiner sources.items sets.now }
+    ensures { IfOk result (λ v. Grows sources.items v.items) }
 {
-    let mut pool = Vec::new(alloc);
-    let mut more = most_columns(rows.plan.sets()).saturating_add(1);
-    while more > 0 {
-        more -= 1;
-        add_sets(alloc, rows, more, &mut pool)?;
+    let mut pool = sources;
+    let mut columns = most_columns(sets);
+    while columns > 0 {
+        add_sets(alloc, sets, columns, &mut pool)?;
+        columns -= 1;
     }
     Ok(pool)
 }
@@ -53,51 +57,35 @@ pub fn groups_in<'a, H: KeyHash<Cell>>(pool: &'a [Folded<H>], set: &[usize]) -> 
     None
 }
 
-/// The groups of the set, made from the fewest groups of the pool that will do, or else from the rows.
+/// The groups of the set, made from the fewest groups of the pool that will do.
 pub fn groups_by<H: KeyHash<Cell>>(
     alloc: Global,
-    rows: &KeptRows<'_, H>,
     set: &[usize],
     pool: &[Folded<H>],
 ) -> Result<Bag<H>, AllocError>
-    requires can { CanFoldBy rows.now set.now }
-    requires pool { IsPool rows.now.aggregations.now (kept_of rows.now) pool.now }
-    ensures { IfOk result (λ b. Covers rows.now.aggregations.now set.now (kept_of rows.now) b) }
+    requires can { MayCoarsenAll pool.now }
+    requires finer { has_finer pool.now set.now ≡ true }
+    ensures { (aggregations : List Aggregation) (rows : List Entry) → IsPool aggregations rows pool.now →
+        IfOk result (λ b. Covers aggregations set.now rows b) }
 {
-    let Some(place) = fewest(pool, set) else {
-        return folded(alloc, rows, set);
-    };
-    let Some(bag) = made_coarser(alloc, &pool[place], set)? else {
-        return folded(alloc, rows, set);
-    };
-    Ok(bag)
-}
-
-/// The most columns that one of the sets has.
-fn most_columns(sets: &[GroupSet]) -> usize {
-    let mut most = 0;
-    for set in sets {
-        if set.columns.len() > most {
-            most = set.columns.len();
-        }
-    }
-    most
+    let place = fewest(pool, set);
+    made_coarser(alloc, &pool[place], set)
 }
 
 /// Adds the groups of the sets of so many columns to the pool.
 fn add_sets<H: KeyHash<Cell>>(
     alloc: Global,
-    rows: &KeptRows<'_, H>,
+    sets: &[GroupSet],
     columns: usize,
     pool: &mut Vec<Folded<H>>,
 ) -> Result<(), AllocError>
-    requires can { CanFoldAll rows.now }
-    requires pool { IsPool rows.now.aggregations.now (kept_of rows.now) pool.old.items }
-    ensures { IfOk result (λ _. IsPool rows.now.aggregations.now (kept_of rows.now) pool.new.items) }
+    requires can { MayCoarsenAll pool.old.items }
+    requires finer { HaveFiner pool.old.items sets.now }
+    ensures { IfOk result (λ _. Grows pool.old.items pool.new.items) }
 {
-    for set in rows.plan.sets() {
+    for set in sets {
         if set.columns.len() == columns {
-            add_set(alloc, rows, set.columns.as_slice(), pool)?;
+            add_set(alloc, set.columns.as_slice(), pool)?;
         }
     }
     Ok(())
@@ -106,80 +94,88 @@ fn add_sets<H: KeyHash<Cell>>(
 /// Adds the groups of a set to the pool, unless they are there.
 fn add_set<H: KeyHash<Cell>>(
     alloc: Global,
-    rows: &KeptRows<'_, H>,
     set: &[usize],
     pool: &mut Vec<Folded<H>>,
 ) -> Result<(), AllocError>
-    requires can { CanFoldBy rows.now set.now }
-    requires pool { IsPool rows.now.aggregations.now (kept_of rows.now) pool.old.items }
-    ensures { IfOk result (λ _. IsPool rows.now.aggregations.now (kept_of rows.now) pool.new.items) }
+    requires can { MayCoarsenAll pool.old.items }
+    requires finer { has_finer pool.old.items set.now ≡ true }
+    ensures { IfOk result (λ _. Grows pool.old.items pool.new.items) }
 {
     if groups_in(pool.as_slice(), set).is_some() {
         return Ok(());
     }
-    let bag = groups_by(alloc, rows, set, pool.as_slice())?;
+    let bag = groups_by(alloc, set, pool.as_slice())?;
     let set = Vec::from_slice(alloc, set)?;
     pool.push(Folded { set, bag })?;
     Ok(())
 }
 
-/// The place in the pool of the fewest groups from which those of the set can be made. Nothing rests on it but speed.
-fn fewest<H: KeyHash<Cell>>(pool: &[Folded<H>], set: &[usize]) -> Option<usize>
-    ensures { IfSome result (λ i. i < length pool.now) }
+/// The place in the pool of the fewest groups from which those of the set can be made.
+fn fewest<H: KeyHash<Cell>>(pool: &[Folded<H>], set: &[usize]) -> usize
+    requires { has_finer pool.now set.now ≡ true }
+    ensures within { result < length pool.now }
+    ensures finer { (d : Folded H) → has_all (slice_index_or pool.now result d).set.items set.now ≡ true }
 {
-    let mut place = None;
-    let mut least = usize::MAX;
+    let mut place = first_finer(pool, set);
+    let mut least = pool[place].bag.groups().len();
     for (i, finer) in pool.iter().enumerate() {
         let count = finer.bag.groups().len();
-        if count < least && has_all(finer.set.as_slice(), set) {
-            place = Some(i);
-            least = count;
+        if count < least {
+            if has_all(finer.set.as_slice(), set) {
+                place = i;
+                least = count;
+            }
         }
     }
     place
 }
 
-/// Whether all columns of the set are among the finer ones.
-fn has_all(finer: &[usize], set: &[usize]) -> bool {
-    for column in set {
-        if place_in(finer, *column).is_none() {
-            return false;
-        }
-    }
-    true
+/// The first place in the pool of groups from which those of the set can be made.
+fn first_finer<H: KeyHash<Cell>>(pool: &[Folded<H>], set: &[usize]) -> usize
+    requires { has_finer pool.now set.now ≡ true }
+    ensures within { result < length pool.now }
+    ensures finer { (d : Folded H) → has_all (slice_index_or pool.now result d).set.items set.now ≡ true }
+{
+    let Some(place) = place_of_finer(pool, set) else {
+        unreachable!()
+    };
+    place
 }
 
-/// The groups of the set from finer ones, if they are finer.
+/// The first place in the pool of groups from which those of the set can be made, if there are any.
+fn place_of_finer<H: KeyHash<Cell>>(pool: &[Folded<H>], set: &[usize]) -> Option<usize>
+    ensures { result ≡ position (λ (f : Folded H). has_all f.set.items set.now) pool.now }
+{
+    pool.iter()
+        .position(|finer| has_all(finer.set.as_slice(), set))
+}
+
+/// The groups of the set from finer ones.
 fn made_coarser<H: KeyHash<Cell>>(
     alloc: Global,
     finer: &Folded<H>,
     set: &[usize],
-) -> Result<Option<Bag<H>>, AllocError>
-    requires { MayCoarsen finer.now }
+) -> Result<Bag<H>, AllocError>
+    requires can { MayCoarsen finer.now }
+    requires finer { has_all finer.now.set.items set.now ≡ true }
     ensures { (aggregations : List Aggregation) (rows : List Entry) → Covers aggregations finer.now.set.items rows finer.now.bag →
-        IfOk result (λ o. IfSome o (λ b. Covers aggregations set.now rows b)) }
+        IfOk result (λ b. Covers aggregations set.now rows b) }
 {
-    let Some(places) = places_in(alloc, finer.set.as_slice(), set)? else {
-        return Ok(None);
-    };
-    let bag = coarsened(alloc, &finer.bag, places.as_slice())?;
-    Ok(Some(bag))
+    let places = places_in(alloc, finer.set.as_slice(), set)?;
+    coarsened(alloc, &finer.bag, places.as_slice())
 }
 
-/// The places of the set's columns among the finer ones, if all are there.
-fn places_in(
-    alloc: Global,
-    finer: &[usize],
-    set: &[usize],
-) -> Result<Option<Vec<usize>>, AllocError>
-    ensures { IfOk result (λ o. IfSome o (λ v. ArePlaces finer.now set.now v.items)) }
+/// The places of the set's columns among the finer ones.
+fn places_in(alloc: Global, finer: &[usize], set: &[usize]) -> Result<Vec<usize>, AllocError>
+    requires { has_all finer.now set.now ≡ true }
+    ensures { IfOk result (λ v. ArePlaces finer.now set.now v.items) }
 {
     let mut places = Vec::new(alloc);
     for column in set {
         let Some(place) = place_in(finer, *column) else {
-            return Ok(None);
+            unreachable!()
         };
         places.push(place)?;
     }
-    Ok(Some(places))
+    Ok(places)
 }

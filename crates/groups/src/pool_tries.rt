@@ -1,48 +1,55 @@
-//! The tries of the sets of a plan, made from a pool of their groups.
-ghost use Rattle.std.specs.Prelude.{IfOk};
+//! The tries of the sets of a plan, made from groups of the sources.
+ghost use Rattle.std.specs.Prelude.{◌≡◌, List, true, IfOk};
+ghost use Rattle.cells.specs.Values.{Entry};
 ghost use Rattle.groups.specs.Partials.{StandsAt, StandsEach};
-ghost use Rattle.groups.specs.Pools.{CanFoldAll, CanFoldBy, IsPool, kept_of};
+ghost use Rattle.groups.specs.Pools.{AreCounted, HaveFiner, IsPool, has_finer};
 
 use crate::accumulators::Accumulators;
-use crate::folding::KeptRows;
+use crate::aggregation::Aggregation;
 use crate::laying::trie_of;
 use crate::pool::{Folded, groups_by, groups_in, pool_of};
 use cells::{Cell, KeyHash, Tuple};
+use query::GroupSet;
 use std::alloc::{AllocError, Global};
 use trie::Trie;
 
-/// The tries of the plan's sets, in their order.
+/// The tries of the sets, in their order, for each list of rows that went into the sources.
 pub fn tries_of<H: KeyHash<Cell> + KeyHash<Tuple>>(
     alloc: Global,
-    rows: &KeptRows<'_, H>,
+    sets: &[GroupSet],
+    aggregations: &[Aggregation],
+    sources: Vec<Folded<H>>,
 ) -> Result<Vec<Trie<Tuple, Accumulators<H>, H>>, AllocError>
-    requires { CanFoldAll rows.now }
-    ensures { IfOk result (λ v. StandsEach H.KeyHash-2.hash_of rows.now.aggregations.now rows.now.plan.now.sets (kept_of rows.now) v.items) }
+    requires can { AreCounted aggregations.now sources.items }
+    requires finer { HaveFiner sources.items sets.now }
+    ensures { (rows : List Entry) → IsPool aggregations.now rows sources.items →
+        IfOk result (λ v. StandsEach H.KeyHash-2.hash_of aggregations.now sets.now rows v.items) }
 {
-    let pool = pool_of(alloc, rows)?;
+    let pool = pool_of(alloc, sets, sources)?;
     let mut tries = Vec::new(alloc);
-    for set in rows.plan.sets() {
-        let trie = trie_by(alloc, rows, set.columns.as_slice(), pool.as_slice())?;
+    for set in sets {
+        let trie = trie_by(alloc, set.columns.as_slice(), aggregations, pool.as_slice())?;
         tries.push(trie)?;
     }
     Ok(tries)
 }
 
-/// The trie of a set, from its groups in the pool. The pool has those of each set of the plan; for another set they
-/// are made.
+/// The trie of a set, from its groups in the pool. Where the pool has none, as of the empty set, they are made from
+/// those of another set.
 fn trie_by<H: KeyHash<Cell> + KeyHash<Tuple>>(
     alloc: Global,
-    rows: &KeptRows<'_, H>,
     set: &[usize],
+    aggregations: &[Aggregation],
     pool: &[Folded<H>],
 ) -> Result<Trie<Tuple, Accumulators<H>, H>, AllocError>
-    requires can { CanFoldBy rows.now set.now }
-    requires pool { IsPool rows.now.aggregations.now (kept_of rows.now) pool.now }
-    ensures { IfOk result (λ t. StandsAt H.KeyHash-2.hash_of rows.now.aggregations.now set.now (kept_of rows.now) t) }
+    requires can { AreCounted aggregations.now pool.now }
+    requires finer { has_finer pool.now set.now ≡ true }
+    ensures { (rows : List Entry) → IsPool aggregations.now rows pool.now →
+        IfOk result (λ t. StandsAt H.KeyHash-2.hash_of aggregations.now set.now rows t) }
 {
     if let Some(groups) = groups_in(pool, set) {
-        return trie_of(alloc, groups, set, rows.aggregations);
+        return trie_of(alloc, groups, set, aggregations);
     }
-    let groups = groups_by(alloc, rows, set, pool)?;
-    trie_of(alloc, &groups, set, rows.aggregations)
+    let groups = groups_by(alloc, set, pool)?;
+    trie_of(alloc, &groups, set, aggregations)
 }

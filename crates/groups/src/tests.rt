@@ -1,4 +1,5 @@
 //! Tests of what no clause says: that calls succeed.
 
 mod finishing;
+mod folding;
 mod tuples;

@@ -70,7 +70,11 @@ fn is_printed(alloc: Global, row: &ReportRow, expected: &[&str]) -> Result<bool,
 }
 
 /// Whether the rows' values are printed so.
-fn are_printed(alloc: Global, rows: &[ReportRow], expected: &[[&str; 4]]) -> Result<bool, Fail> {
+pub(super) fn are_printed(
+    alloc: Global,
+    rows: &[ReportRow],
+    expected: &[[&str; 4]],
+) -> Result<bool, Fail> {
     if rows.len() != expected.len() {
         return Ok(false);
     }

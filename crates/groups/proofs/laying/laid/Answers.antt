@@ -1,4 +1,4 @@
-use Rattle.groups.proofs.LayingLemmas.{fits_copy, laid_all, laid_copy}
+use Rattle.groups.proofs.LayingLemmas.{fits_copy, laid_copy}
 use Rattle.groups.proofs.laying.laid.Goals as goal
 
 pub with_group-requires-clause-fit : goal.with_group-requires-clause-fit

@@ -1,4 +1,4 @@
-use Rattle.std.proofs.Common.{List, ap, sym, subst, ◌∙◌}
+use Rattle.std.proofs.Common.{sym, subst, ◌∙◌}
 use Rattle.groups.specs.Folding.{Covers}
 use Rattle.groups.proofs.PoolLemmas.{pool_at, same_set}
 use Rattle.groups.proofs.pool.groups_in.Goals as goal

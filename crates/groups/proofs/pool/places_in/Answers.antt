@@ -1,6 +1,10 @@
-use Rattle.std.proofs.Common.{arith, sym, ◌∙◌}
-use Rattle.groups.proofs.PoolLemmas.{places_all, places_more, places_none}
+use Rattle.std.proofs.Common.{sym, ◌∙◌}
+use Rattle.groups.proofs.PoolLemmas.{places_more}
+use Rattle.groups.proofs.SourcesLemmas.{column_is_there}
 use Rattle.groups.proofs.pool.places_in.Goals as goal
+
+pub unreachable-requires : goal.unreachable-requires
+unreachable-requires c = column_is_there c.args.finer.now c.args.set.now c.loop-column.column-index c.place_in.result c.requires c.loop-column-test.true c.place_in.ensures c.in_default.is
 
 pub loop-column-preserved : goal.loop-column-preserved
 loop-column-preserved c =

@@ -1,4 +1,4 @@
-use Rattle.std.proofs.Common.{◌<◌, ◌≡◌, get_or, length, arith, rules, refl}
+use Rattle.std.proofs.Common.{◌<◌, get_or, length, arith, refl}
 use Rattle.cells.specs.SameKeys.{same_cells}
 use Rattle.groups.proofs.TuplesLemmas.{all_at, one_picked_more, was_true}
 use Rattle.groups.proofs.tuples.is_tuple_of.Goals as goal

@@ -1,6 +1,6 @@
-use Rattle.std.proofs.Common.{rules, refl, None}
+use Rattle.std.proofs.Common.{refl, None}
 use Rattle.std.proofs.lemmas.Slice.Zip.{either_empty_from_Zip}
-use Rattle.groups.proofs.AccumulatorsLemmas.{joining_all, joining_first, joining_may, joining_more}
+use Rattle.groups.proofs.AccumulatorsLemmas.{joining_all, joining_may, joining_more}
 use Rattle.groups.proofs.accumulators.Accumulators.join.Goals as goal
 
 pub join-requires-clause-fits : goal.join-requires-clause-fits

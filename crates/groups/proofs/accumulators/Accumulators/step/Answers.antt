@@ -1,4 +1,4 @@
-use Rattle.std.proofs.Common.{◌≡◌, [], ◌∷◌, get_or, rules, arith, refl, sym, ap, subst, ◌∙◌}
+use Rattle.std.proofs.Common.{[], ◌∷◌, rules, arith, sym, ap, subst, ◌∙◌}
 use Rattle.aggs.specs.Accs.{AccTakes, AccsFit, acc_of, acc_together, kind_of}
 use Rattle.groups.proofs.AccumulatorsLemmas.{cell_read, item, item_is, stepping_all, stepping_first, stepping_may, stepping_more, stepping_within}
 use Rattle.groups.proofs.accumulators.Accumulators.step.Goals as goal

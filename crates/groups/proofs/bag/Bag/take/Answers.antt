@@ -1,4 +1,4 @@
-use Rattle.std.proofs.Common.{List, ap, get_or, set, subst, ◌≡◌, ◌∙◌}
+use Rattle.std.proofs.Common.{List, ap, get_or, set, subst, ◌≡◌}
 use Rattle.std.proofs.lemmas.Result.{IfOk-weaker}
 use Rattle.groups.proofs.FoldingLemmas.{takes_found, takes_new}
 use Rattle.groups.proofs.bag.Bag.take.Goals as goal

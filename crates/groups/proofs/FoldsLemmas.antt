@@ -1,0 +1,205 @@
+-- Rows folded piece by piece.
+use Rattle.std.specs.Prelude.{◌≡◌, ℕ, zero, suc, ◌+◌, ◌<◌, ◌≤◌, List, [], ◌∷◌, ◌++◌, length, set, refl, ◌||◌, ⊤}
+use Rattle.std.specs.List.{AllByRecursion, Contains, list_any}
+use Rattle.std.specs.List.Sorted.{IsPermutation}
+use Rattle.std.proofs.Common.{get_or, ap, ap₂, sym, ◌∙◌, subst, arith}
+use Rattle.std.proofs.lemmas.List.Sorted.{length_permutation}
+use Rattle.cells.specs.Fitting.{IsRowOf}
+use Rattle.cells.specs.Values.{Entry}
+use Rattle.cells.specs.declared.cell.Cell.{Cell}
+use Rattle.groups.specs.Accumulators.{aggregations_of}
+use Rattle.groups.specs.Folding.{CanFoldSet, Covers, Group}
+use Rattle.groups.specs.Folds.{AllGoOn, Folds, GoesOn, MayAllGoOn, MayEnd, MayGoOn, MayTakeMore, kept_of}
+use Rattle.groups.specs.Groups.{kept}
+use Rattle.groups.specs.Partials.{MayFold, Stands, StandsEach, rows_of}
+use Rattle.groups.specs.Pools.{AreCounted, AreSources, HaveFiner, IsPool, has_all, has_finer, sets_of}
+use Rattle.groups.specs.declared.aggregation.Aggregation.{Aggregation}
+use Rattle.groups.specs.declared.folding.Folding.{Folding}
+use Rattle.groups.specs.declared.pool.Folded.{Folded}
+use Rattle.groups.specs.declared.visiting.KeptRows.{KeptRows}
+use Rattle.groups.proofs.FoldingLemmas.{all_in_order}
+use Rattle.groups.proofs.PlanLemmas.{CanFold, PlansFitRows, can_fold}
+use Rattle.groups.proofs.TuplesLemmas.{all_at, all_through}
+use Rattle.groups.proofs.VisitingLemmas.{can_count_kept}
+use Rattle.query.specs.Plans.{PlanTree}
+
+-- ---- source by source
+module _ {H : Type 0} (rows : KeptRows H) where
+  pub goes_on : (columns : List ℕ) (was : List (Group H)) (old new : Folded H) → columns ≡ old.set.items → was ≡ old.bag → new.set.items ≡ old.set.items →
+      ((befores : List Entry) → Covers rows.aggregations.now columns befores was → Covers rows.aggregations.now columns (befores ++ kept_of rows) new.bag) → GoesOn rows old new
+  goes_on columns was old new same is stays serves = record {
+    set_stays = stays;
+    serves = λ befores covers.
+        subst (λ (s : List ℕ). Covers rows.aggregations.now s (befores ++ kept_of rows) new.bag) same
+        (serves befores (subst (λ (s : List ℕ). Covers rows.aggregations.now s befores was) (sym same) (subst (Covers rows.aggregations.now old.set.items befores) (sym is) covers)));
+  }
+
+  -- the rows have gone into the first i sources
+  abbrev pub GoneOn : ℕ → List (Folded H) → List (Folded H) → Type 0
+  GoneOn i [] [] = ⊤
+  GoneOn i [] (n ∷ new) = ⊥
+  GoneOn i (o ∷ old) [] = ⊥
+  GoneOn zero (o ∷ old) (n ∷ new) = (n ≡ o) × GoneOn zero old new
+  GoneOn (suc i) (o ∷ old) (n ∷ new) = GoesOn rows o n × GoneOn i old new
+
+  pub gone_none : (old : List (Folded H)) → GoneOn 0 old old
+  gone_none [] = tt
+  gone_none (o ∷ old) = (refl, gone_none old)
+
+  pub gone_length : (i : ℕ) (old new : List (Folded H)) → GoneOn i old new → length new ≡ length old
+  gone_length i [] [] now = refl
+  gone_length i [] (n ∷ new) now = absurd now
+  gone_length i (o ∷ old) [] now = absurd now
+  gone_length zero (o ∷ old) (n ∷ new) now = ap suc (gone_length zero old new now.1)
+  gone_length (suc i) (o ∷ old) (n ∷ new) now = ap suc (gone_length i old new now.1)
+
+  -- the next source is as it was
+  pub gone_at : (i : ℕ) (old new : List (Folded H)) (d : Folded H) → GoneOn i old new → get_or new i d ≡ get_or old i d
+  gone_at i [] [] d now = refl
+  gone_at i [] (n ∷ new) d now = absurd now
+  gone_at i (o ∷ old) [] d now = absurd now
+  gone_at zero (o ∷ old) (n ∷ new) d now = now.0
+  gone_at (suc i) (o ∷ old) (n ∷ new) d now = gone_at i old new d now.1
+
+  gone_more : (i : ℕ) (old new : List (Folded H)) (f d : Folded H) → i < length old → GoneOn i old new → GoesOn rows (get_or old i d) f → GoneOn (suc i) old (set new i f)
+  gone_more i [] [] f d h now goes = absurd (omega (arith, h))
+  gone_more i [] (n ∷ new) f d h now goes = absurd now
+  gone_more i (o ∷ old) [] f d h now goes = absurd now
+  gone_more zero (o ∷ old) (n ∷ new) f d h now goes = (goes, now.1)
+  gone_more (suc i) (o ∷ old) (n ∷ new) f d h now goes = (now.0, gone_more i old new f d (omega (arith, h)) now.1 goes)
+
+  gone_sets : (i : ℕ) (old new : List (Folded H)) → length old ≤ i → GoneOn i old new → sets_of new ≡ sets_of old
+  gone_sets i [] [] h now = refl
+  gone_sets i [] (n ∷ new) h now = absurd now
+  gone_sets i (o ∷ old) [] h now = absurd now
+  gone_sets zero (o ∷ old) (n ∷ new) h now = absurd (omega (arith, h))
+  gone_sets (suc i) (o ∷ old) (n ∷ new) h now = ap₂ (λ (s : List ℕ) (rest : List (List ℕ)). s ∷ rest) (now.0).set_stays (gone_sets i old new (omega (arith, h)) now.1)
+
+  gone_covers : (befores : List Entry) (i : ℕ) (old new : List (Folded H)) → length old ≤ i → GoneOn i old new →
+      AllByRecursion (λ (f : Folded H). Covers rows.aggregations.now f.set.items befores f.bag) old →
+      AllByRecursion (λ (f : Folded H). Covers rows.aggregations.now f.set.items (befores ++ kept_of rows) f.bag) new
+  gone_covers befores i [] [] h now all = tt
+  gone_covers befores i [] (n ∷ new) h now all = absurd now
+  gone_covers befores i (o ∷ old) [] h now all = absurd now
+  gone_covers befores zero (o ∷ old) (n ∷ new) h now all = absurd (omega (arith, h))
+  gone_covers befores (suc i) (o ∷ old) (n ∷ new) h now all = (
+    subst (λ (s : List ℕ). Covers rows.aggregations.now s (befores ++ kept_of rows) n.bag) (sym (now.0).set_stays) ((now.0).serves befores all.0),
+    gone_covers befores i old new (omega (arith, h)) now.1 all.1,
+  )
+
+  pub gone_all : (i : ℕ) (old new : List (Folded H)) → length old ≤ i → GoneOn i old new → AllGoOn rows old new
+  gone_all i old new h now = record {
+    sets_stay = gone_sets i old new h now;
+    serves = λ befores pool. record { each = gone_covers befores i old new h now pool.each };
+  }
+
+  pub may_go_at : (i : ℕ) (old new : List (Folded H)) (f : Folded H) → i < length old → MayAllGoOn rows old → GoneOn i old new → f ≡ get_or new i f → MayGoOn rows f
+  may_go_at i old new f h may now is = subst (MayGoOn rows) (sym (is ∙ gone_at i old new f now)) (all_at (MayGoOn rows) old i f may.each h)
+
+  pub gone_step : (i : ℕ) (old now new : List (Folded H)) (f g : Folded H) → i < length old → GoneOn i old now → f ≡ get_or now i f → GoesOn rows f g → new ≡ set now i g →
+      GoneOn (i + 1) old new
+  gone_step i old now new f g h gone is goes e =
+      let next : suc i ≡ i + 1 = omega arith in
+      subst (GoneOn (i + 1) old) (sym e)
+      (subst (λ n. GoneOn n old (set now i g)) next (gone_more i old now g f h gone (subst (λ x. GoesOn rows x g) (is ∙ gone_at i old now f gone) goes)))
+
+-- ---- the sources of a plan
+pub may_fold_any_order : (plan : PlanTree) (xs ys : List Entry) → IsPermutation xs ys → MayFold plan xs → MayFold plan ys
+may_fold_any_order plan xs ys p may = record {
+  table = may.table;
+  planned = may.planned;
+  fit = all_in_order (IsRowOf may.table) xs ys p may.fit;
+  few = omega (arith, may.few, length_permutation xs ys p);
+}
+
+can_by : (laws : PlansFitRows) (plan : PlanTree) (rows : List Entry) (columns : List ℕ) → MayFold plan rows → Contains plan.sets columns → CanFoldSet plan.condition (aggregations_of plan.items) columns rows
+can_by laws plan rows columns may contains =
+    let can : CanFold plan (aggregations_of plan.items) rows = can_fold laws plan (aggregations_of plan.items) rows refl may in
+    subst (λ s. CanFoldSet plan.condition (aggregations_of plan.items) s rows) contains.2
+    (all_at (λ s. CanFoldSet plan.condition (aggregations_of plan.items) s rows) plan.sets contains.0 columns can.each contains.1)
+
+module _ {H : Type 0} where
+  finer_by_sets : (set : List ℕ) (old new : List (Folded H)) → sets_of new ≡ sets_of old → has_finer new set ≡ has_finer old set
+  finer_by_sets set old new e = by_sets new ∙ ap (list_any (λ s. has_all s set)) e ∙ sym (by_sets old)
+    where
+      by_sets : (pool : List (Folded H)) → has_finer pool set ≡ list_any (λ s. has_all s set) (sets_of pool)
+      by_sets [] = refl
+      by_sets (f ∷ pool) = ap (λ b. has_all f.set.items set || b) (by_sets pool)
+
+  pub folds_none : (plan : PlanTree) (folding : Folding H) → folding.plan.now ≡ plan → folding.aggregations.items ≡ aggregations_of plan.items →
+      AreSources plan.sets folding.sources.items → Folds plan [] folding
+  folds_none plan folding planned same sources = record {
+    planned = planned;
+    aggregations = same;
+    finer = sources.finer;
+    among = (sources.planned).among;
+    covers = (sources.planned).none (aggregations_of plan.items);
+  }
+
+  pub folds_more : (plan : PlanTree) (befores : List Entry) (old new : Folding H) (rows : KeptRows H) → Folds plan befores old → new.plan.now ≡ old.plan.now →
+      new.aggregations.items ≡ old.aggregations.items → rows.plan.now ≡ old.plan.now → rows.aggregations.now ≡ old.aggregations.items →
+      AllGoOn rows old.sources.items new.sources.items → Folds plan (befores ++ kept plan.condition (rows_of rows.piece.now)) new
+  folds_more plan befores old new rows folds same_plan same_aggregations by with all = record {
+    planned = same_plan ∙ folds.planned;
+    aggregations = same_aggregations ∙ folds.aggregations;
+    finer = all_through _ _ (λ s f. finer_by_sets s old.sources.items new.sources.items all.sets_stay ∙ f) plan.sets folds.finer;
+    among = subst (AllByRecursion (Contains plan.sets)) (sym all.sets_stay) folds.among;
+    covers = served;
+  }
+    where
+      is_plan : rows.plan.now ≡ plan
+      is_plan = by ∙ folds.planned
+
+      are : rows.aggregations.now ≡ aggregations_of plan.items
+      are = with ∙ folds.aggregations
+
+      served : IsPool (aggregations_of plan.items) (befores ++ kept plan.condition (rows_of rows.piece.now)) new.sources.items
+      served =
+          subst (λ a. IsPool a (befores ++ kept plan.condition (rows_of rows.piece.now)) new.sources.items) are
+          (subst (λ p. IsPool rows.aggregations.now (befores ++ kept p.condition (rows_of rows.piece.now)) new.sources.items) is_plan
+          (all.serves befores (subst (λ a. IsPool a befores old.sources.items) (sym are) folds.covers)))
+
+  go_each : (rows : KeptRows H) (plan : PlanTree) (taken : List Entry) → ((set : List ℕ) → Contains plan.sets set → CanFoldSet rows.plan.now.condition rows.aggregations.now set (taken ++ rows_of rows.piece.now)) →
+      (sources : List (Folded H)) → AllByRecursion (Contains plan.sets) (sets_of sources) →
+      AllByRecursion (λ (f : Folded H). Covers rows.aggregations.now f.set.items (kept rows.plan.now.condition taken) f.bag) sources → AllByRecursion (MayGoOn rows) sources
+  go_each rows plan taken can [] among covers = tt
+  go_each rows plan taken can (f ∷ sources) among covers = (
+    record { taken = taken; covers = covers.0; can = can f.set.items among.0 },
+    go_each rows plan taken can sources among.1 covers.1,
+  )
+
+  pub may_all_go : (laws : PlansFitRows) (folding : Folding H) (rows : KeptRows H) → rows.plan.now ≡ folding.plan.now → rows.aggregations.now ≡ folding.aggregations.items →
+      MayTakeMore folding (rows_of rows.piece.now) → MayAllGoOn rows folding.sources.items
+  may_all_go laws folding rows by with may =
+      let is_plan : rows.plan.now ≡ may.plan = by ∙ (may.folds).planned in
+      let are : rows.aggregations.now ≡ aggregations_of (may.plan).items = with ∙ (may.folds).aggregations in
+      record {
+        each = go_each rows may.plan may.taken
+            (λ s contains. rw (is_plan, are) (can_by laws may.plan (may.taken ++ rows_of rows.piece.now) s may.may contains))
+            folding.sources.items (may.folds).among (rw (is_plan, are) ((may.folds).covers).each);
+      }
+
+  pub end_counted : (laws : PlansFitRows) (folding : Folding H) (aggregations : List Aggregation) → aggregations ≡ folding.aggregations.items → MayEnd folding →
+      AreCounted aggregations folding.sources.items
+  end_counted laws folding aggregations is may =
+      subst (λ a. AreCounted a folding.sources.items) (sym (is ∙ (may.folds).aggregations)) (record {
+        rows = kept (may.plan).condition may.taken;
+        covers = (may.folds).covers;
+        can = can_count_kept (may.plan).condition (aggregations_of (may.plan).items) (get_or (may.plan).sets 0 []) may.taken
+            (all_at (λ s. CanFoldSet (may.plan).condition (aggregations_of (may.plan).items) s may.taken) (may.plan).sets 0 []
+            (can_fold laws may.plan (aggregations_of (may.plan).items) may.taken refl may.may).each ((may.may).planned).some);
+      })
+
+  pub end_finer : (folding : Folding H) (sets : List (List ℕ)) → sets ≡ folding.plan.now.sets → MayEnd folding → HaveFiner folding.sources.items sets
+  end_finer folding sets is may = rw (is, (may.folds).planned) (may.folds).finer
+
+  pub stands_end : (hash : List Cell → ℕ) (folding : Folding H) (aggregations : List Aggregation) (sets : List (List ℕ)) (tries : List (List (Group H))) (plan : PlanTree) (rows : List Entry) →
+      aggregations ≡ folding.aggregations.items → sets ≡ folding.plan.now.sets → Folds plan rows folding →
+      ((rows : List Entry) → IsPool aggregations rows folding.sources.items → StandsEach hash aggregations sets rows tries) → Stands hash plan rows tries
+  stands_end hash folding aggregations sets tries plan rows is are folds stands =
+      let same : aggregations ≡ aggregations_of plan.items = is ∙ folds.aggregations in
+      let each : StandsEach hash aggregations sets rows tries = stands rows (rw same folds.covers) in
+      record {
+        each = subst (λ a. StandsEach hash a plan.sets rows tries) same
+            (subst (λ s. StandsEach hash aggregations s rows tries) (are ∙ ap (λ (p : PlanTree). p.sets) folds.planned) each);
+      }

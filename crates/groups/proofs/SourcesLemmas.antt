@@ -1,0 +1,134 @@
+-- Sets that have all columns of others.
+use Rattle.std.specs.Prelude.{◌≡◌, ◌==◌, ℕ, suc, ◌+◌, ◌<◌, ◌≤◌, Bool, true, false, List, [], ◌∷◌, ◌++◌, ◌||◌, length, nat_lt, position, refl, take, Option, Some, None}
+use Rattle.std.specs.List.{AllByRecursion, Contains, list_all, list_any, position_or_len}
+use Rattle.std.specs.Option.{is_some}
+use Rattle.std.proofs.Common.{get_or, ap, sym, ◌∙◌, subst, arith}
+use Rattle.std.proofs.lemmas.Bool.{ltb-false}
+use Rattle.std.proofs.lemmas.List.{map-append, take_all, take_more}
+use Rattle.std.proofs.lemmas.List.Folds.{list_all_at, list_any-append, list_any_none}
+use Rattle.std.proofs.lemmas.List.Sums.{fails_before_first}
+use Rattle.groups.specs.Groups.{place_in}
+use Rattle.groups.specs.Pools.{AddsSource, ArePlanned, AreSources, has_all, has_finer, sets_of}
+use Rattle.groups.specs.declared.pool.Folded.{Folded}
+use Rattle.groups.proofs.FoldingLemmas.{covers_none}
+use Rattle.groups.proofs.TuplesLemmas.{all_push, all_through}
+
+-- ---- a set has all its own columns
+found : (p : ℕ → Bool) (xs : List ℕ) (k : ℕ) → k < length xs → p (get_or xs k 0) ≡ true → is_some (position p xs) ≡ true
+found p xs k h e = go (nat_lt (position_or_len p xs) (length xs)) refl
+  where
+    go : (b : Bool) → nat_lt (position_or_len p xs) (length xs) ≡ b → is_some (position p xs) ≡ true
+    go true f = rw f refl
+    go false f =
+        let past : length xs ≤ position_or_len p xs = ltb-false _ _ f in
+        let bad = fails_before_first p xs k 0 (omega (arith, h, past)) in
+        cc
+
+all_true : (q : ℕ → Bool) (xs : List ℕ) → ((k : ℕ) → k < length xs → q (get_or xs k 0) ≡ true) → list_all q xs ≡ true
+all_true q [] each = refl
+all_true q (x ∷ xs) each = rw (each 0 (omega arith)) (all_true q xs (λ k h. each (suc k) (omega (arith, h))))
+
+same_number : (n : ℕ) → (n == n) ≡ true
+same_number n = grind arith
+
+pub has_itself : (set : List ℕ) → has_all set set ≡ true
+has_itself set = all_true (λ c. is_some (place_in set c)) set (λ k h. found (λ c. c == get_or set k 0) set k h (same_number (get_or set k 0)))
+
+-- ---- what is found
+not_found : {X : Type 0} (p : X → Bool) (xs : List X) → position p xs ≡ None → list_any p xs ≡ false
+not_found {X} p xs e = go (nat_lt (position_or_len p xs) (length xs)) refl
+  where
+    go : (b : Bool) → nat_lt (position_or_len p xs) (length xs) ≡ b → list_any p xs ≡ false
+    go true f =
+        let some : position p xs ≡ Some (position_or_len p xs) = rw f refl in
+        cc
+    go false f =
+        let past : length xs ≤ position_or_len p xs = ltb-false _ _ f in
+        list_any_none p xs (λ k d h. fails_before_first p xs k d (omega (arith, h, past)))
+
+pub finer_is_there : {H : Type 0} (pool : List (Folded H)) (set : List ℕ) (found : Option ℕ) → has_finer pool set ≡ true →
+    found ≡ position (λ (f : Folded H). has_all f.set.items set) pool → found ≡ None → ⊥
+finer_is_there {H} pool set found has is none =
+    let e : has_finer pool set ≡ false = not_found (λ (f : Folded H). has_all f.set.items set) pool (sym is ∙ none) in
+    cc
+
+pub column_is_there : (finer set : List ℕ) (i : ℕ) (found : Option ℕ) → has_all finer set ≡ true → i < length set → found ≡ place_in finer (get_or set i 0) → found ≡ None → ⊥
+column_is_there finer set i found has h is none =
+    let e : has_all finer set ≡ false = list_all_at (λ c. is_some (place_in finer c)) set i 0 h (ap is_some (sym is ∙ none)) in
+    cc
+
+-- ---- a source more
+either_first : (a b : Bool) → a ≡ true → (a || b) ≡ true
+either_first a b e = rw e refl
+
+either_second : (a b : Bool) → b ≡ true → (a || b) ≡ true
+either_second true b e = refl
+either_second false b e = e
+
+module _ {H : Type 0} where
+  pub finer_stays : (pool : List (Folded H)) (f : Folded H) (set : List ℕ) → has_finer pool set ≡ true → has_finer (pool ++ f ∷ []) set ≡ true
+  finer_stays pool f set e =
+      list_any-append (λ (g : Folded H). has_all g.set.items set) pool (f ∷ []) ∙ either_first (has_finer pool set) (has_finer (f ∷ []) set) e
+
+  pub finer_here : (pool : List (Folded H)) (f : Folded H) → has_finer (pool ++ f ∷ []) f.set.items ≡ true
+  finer_here pool f =
+      list_any-append (λ (g : Folded H). has_all g.set.items f.set.items) pool (f ∷ [])
+      ∙ either_second (has_finer pool f.set.items) (has_finer (f ∷ []) f.set.items) (either_first _ false (has_itself f.set.items))
+
+  pub adds_nothing : (set : List ℕ) (old new : List (Folded H)) → has_finer old set ≡ true → new ≡ old → AddsSource set old new
+  adds_nothing set old new e same = rw same (record { finer = e; stay = λ other h. h; planned = λ sets contains now. now })
+
+  pub adds_source : (set : List ℕ) (old new : List (Folded H)) (f : Folded H) → f.set.items ≡ set → f.bag ≡ [] → new ≡ old ++ f ∷ [] → AddsSource set old new
+  adds_source set old new f is empty e = rw e (record {
+    finer = subst (λ s. has_finer (old ++ f ∷ []) s ≡ true) is (finer_here old f);
+    stay = finer_stays old f;
+    planned = λ sets contains now. record {
+      among = subst (AllByRecursion (Contains sets)) (sym (map-append (λ (g : Folded H). g.set.items) old (f ∷ [])))
+          (all_push (Contains sets) (sets_of old) f.set.items now.among (subst (Contains sets) (sym is) contains));
+      none = λ aggregations. record {
+        each = all_push _ old f (now.none aggregations).each (rw empty (covers_none aggregations f.set.items));
+      };
+    };
+  })
+
+  pub none_planned : (sets : List (List ℕ)) (sources : List (Folded H)) → sources ≡ [] → ArePlanned sets sources
+  none_planned sets sources e = rw e (record { among = tt; none = λ aggregations. record { each = tt } })
+
+  -- the sets before a place that have so many columns have a source
+  pub record Sourced (sets : List (List ℕ)) (columns i : ℕ) (sources : List (Folded H)) : Type 0 where
+    pub planned : ArePlanned sets sources
+    pub finer : AllByRecursion (λ (set : List ℕ). columns ≤ length set → has_finer sources set ≡ true) (take i sets)
+
+  pub sourced_none : (sets : List (List ℕ)) (columns : ℕ) (sources : List (Folded H)) → ArePlanned sets sources → Sourced sets columns 0 sources
+  sourced_none sets columns sources planned = record { planned = planned; finer = tt }
+
+  sourced_push : (sets : List (List ℕ)) (columns i : ℕ) (set : List ℕ) (sources new : List (Folded H)) → i < length sets → set ≡ get_or sets i set → ArePlanned sets new →
+      ((other : List ℕ) → has_finer sources other ≡ true → has_finer new other ≡ true) → (columns ≤ length set → has_finer new set ≡ true) → Sourced sets columns i sources →
+      Sourced sets columns (i + 1) new
+  sourced_push sets columns i set sources new h is planned stay here now = record {
+    planned = planned;
+    finer = subst (AllByRecursion (λ (s : List ℕ). columns ≤ length s → has_finer new s ≡ true)) (sym (take_more sets i set h ∙ ap (λ x. take i sets ++ x ∷ []) (sym is)))
+        (all_push _ (take i sets) set (all_through _ _ (λ s f few. stay s (f few)) (take i sets) now.finer) here);
+  }
+
+  pub sourced_more : (sets its : List (List ℕ)) (columns i : ℕ) (s set : List ℕ) (sources new : List (Folded H)) → its ≡ sets → i < length its → s ≡ get_or its i s → set ≡ s →
+      AddsSource set sources new → Sourced sets columns i sources → Sourced sets columns (i + 1) new
+  sourced_more sets its columns i s set sources new same h is e adds now =
+      let within : i < length sets = subst (λ l. i < length l) same h in
+      let at : s ≡ get_or sets i s = subst (λ (l : List (List ℕ)). s ≡ get_or l i s) same is in
+      let added : AddsSource s sources new = subst (λ x. AddsSource x sources new) e adds in
+      sourced_push sets columns i s sources new within at (added.planned sets (i, within, sym at) now.planned) added.stay (λ few. added.finer) now
+
+  pub sourced_fewer : (sets its : List (List ℕ)) (columns i count : ℕ) (s : List ℕ) (sources : List (Folded H)) → its ≡ sets → i < length its → s ≡ get_or its i s →
+      count ≡ length s → count < columns → Sourced sets columns i sources → Sourced sets columns (i + 1) sources
+  sourced_fewer sets its columns i count s sources same h is e less now =
+      sourced_push sets columns i s sources sources (subst (λ l. i < length l) same h) (subst (λ (l : List (List ℕ)). s ≡ get_or l i s) same is) now.planned (λ other f. f)
+      (λ few. absurd (omega (arith, e, less, few))) now
+
+  pub sourced_all : (sets : List (List ℕ)) (columns i : ℕ) (sources : List (Folded H)) → length sets ≤ i → Sourced sets columns i sources →
+      AllByRecursion (λ (set : List ℕ). columns ≤ length set → has_finer sources set ≡ true) sets
+  sourced_all sets columns i sources h now = subst (AllByRecursion (λ (s : List ℕ). columns ≤ length s → has_finer sources s ≡ true)) (take_all i sets h) now.finer
+
+  pub are_sources : (sets : List (List ℕ)) (sources : List (Folded H)) → ArePlanned sets sources →
+      AllByRecursion (λ (set : List ℕ). 0 ≤ length set → has_finer sources set ≡ true) sets → AreSources sets sources
+  are_sources sets sources planned finer = record { planned = planned; finer = all_through _ _ (λ s f. f (omega arith)) sets finer }

@@ -1,0 +1,68 @@
+-- Rows folded piece by piece into the groups of the sources of a plan.
+use Rattle.std.specs.Prelude.{◌≡◌, ℕ, List, ◌++◌}
+use Rattle.std.specs.List.{AllByRecursion, Contains}
+use Rattle.cells.specs.Values.{Entry}
+use Rattle.groups.specs.Accumulators.{aggregations_of}
+use Rattle.groups.specs.Folding.{CanFoldSet, Covers, Group}
+use Rattle.groups.specs.Groups.{kept}
+use Rattle.groups.specs.Partials.{MayFold, rows_of}
+use Rattle.groups.specs.Pools.{HaveFiner, IsPool, sets_of}
+use Rattle.groups.specs.declared.folding.Folding.{Folding}
+use Rattle.groups.specs.declared.pool.Folded.{Folded}
+use Rattle.groups.specs.declared.visiting.KeptRows.{KeptRows}
+use Rattle.query.specs.Plans.{PlanTree}
+
+module _ {H : Type 0} where
+  -- ---- one set
+
+  -- the rows of the piece for which WHERE is true
+  abbrev pub kept_of : KeptRows H → List Entry
+  kept_of rows = kept rows.plan.now.condition (rows_of rows.piece.now)
+
+  -- what is kept of some rows went into the groups, and the piece's can be folded behind them
+  pub record MayFoldBehind (rows : KeptRows H) (set : List ℕ) (groups : List (Group H)) : Type 0 where
+    pub taken : List Entry
+    pub covers : Covers rows.aggregations.now set (kept rows.plan.now.condition taken) groups
+    pub can : CanFoldSet rows.plan.now.condition rows.aggregations.now set (taken ++ rows_of rows.piece.now)
+
+  abbrev pub MayGoOn : KeptRows H → Folded H → Type 0
+  MayGoOn rows source = MayFoldBehind rows source.set.items source.bag
+
+  -- the rows went behind whatever rows went into the source's groups
+  pub record GoesOn (rows : KeptRows H) (old new : Folded H) : Type 0 where
+    pub set_stays : new.set.items ≡ old.set.items
+    pub serves : (befores : List Entry) → Covers rows.aggregations.now old.set.items befores old.bag →
+        Covers rows.aggregations.now old.set.items (befores ++ kept_of rows) new.bag
+
+  -- ---- each source
+
+  pub record MayAllGoOn (rows : KeptRows H) (sources : List (Folded H)) : Type 0 where
+    pub each : AllByRecursion (MayGoOn rows) sources
+
+  pub record AllGoOn (rows : KeptRows H) (old new : List (Folded H)) : Type 0 where
+    pub sets_stay : sets_of new ≡ sets_of old
+    pub serves : (befores : List Entry) → IsPool rows.aggregations.now befores old → IsPool rows.aggregations.now (befores ++ kept_of rows) new
+
+  -- ---- a plan
+
+  -- the rows went into the groups of sources from which those of each set of the plan can be made
+  pub record Folds (plan : PlanTree) (rows : List Entry) (folding : Folding H) : Type 0 where
+    pub planned : folding.plan.now ≡ plan
+    pub aggregations : folding.aggregations.items ≡ aggregations_of plan.items
+    pub finer : HaveFiner folding.sources.items plan.sets
+    pub among : AllByRecursion (Contains plan.sets) (sets_of folding.sources.items)
+    pub covers : IsPool (aggregations_of plan.items) rows folding.sources.items
+
+  -- what is kept of some rows went in, and they may be folded together with these
+  pub record MayTakeMore (folding : Folding H) (rows : List Entry) : Type 0 where
+    pub plan : PlanTree
+    pub taken : List Entry
+    pub folds : Folds plan (kept plan.condition taken) folding
+    pub may : MayFold plan (taken ++ rows)
+
+  -- what is kept of some rows that may be folded went in
+  pub record MayEnd (folding : Folding H) : Type 0 where
+    pub plan : PlanTree
+    pub taken : List Entry
+    pub folds : Folds plan (kept plan.condition taken) folding
+    pub may : MayFold plan taken
