@@ -2,3 +2,6 @@ pub mod Draws
 pub mod Law
 pub mod Limits
 pub mod Seats
+pub mod Shares
+pub mod Tasks
+pub mod Works

@@ -1,7 +1,7 @@
 use Rattle.std.proofs.Common.{◌≡◌, [], ◌∷◌, ◌++◌, map, ap, ◌∙◌}
 use Rattle.std.proofs.lemmas.List.Sorted.{IsPermutation-middle}
 use Rattle.crew.specs.Seats.{number_of}
-use Rattle.crew.proofs.tests.closed.Goals as goal
+use Rattle.crew.proofs.tests.deals.closed.Goals as goal
 
 pub close-requires-clause-all : goal.close-requires-clause-all
 close-requires-clause-all c =

@@ -1,6 +1,6 @@
 use Rattle.std.proofs.Common.{◌≡◌}
 use Rattle.crew.specs.Seats.{IsSeatOf}
-use Rattle.crew.proofs.tests.draw_all.Given as goal
+use Rattle.crew.proofs.tests.deals.draw_all.Given as goal
 
 abbrev pub invariant-loop : goal.invariant-loop
 invariant-loop l = record {

@@ -1,0 +1,12 @@
+-- Places shared out among workers.
+use Rattle.std.specs.Prelude.{ℕ, List, IsPermutation}
+use Rattle.std.specs.List.{AllByRecursion, AllZip, concat, range_with_len}
+use Rattle.crew.specs.Tasks.{IsShare}
+
+-- The places below the number were shared out: there are shares that together are all of them, each once, and each
+-- result is given for the share in its place
+pub record AreShared {Given : Type 0} (gives : List ℕ → Given → Type 0) (count : ℕ) (given : List Given) : Type 0 where
+  pub shares : List (List ℕ)
+  pub are_shares : AllByRecursion (IsShare count) shares
+  pub whole : IsPermutation (concat shares) (range_with_len 0 count)
+  pub given_for : AllZip gives shares given

@@ -1,0 +1,36 @@
+//! Gates, by which tests hold and watch a run.
+
+/// What a run tells of its steps, from any of its threads, which share the gate. A gate may wait before
+/// it returns, and so holds the thread that called it there; what a run writes does not depend on its
+/// gate. Each method does nothing unless an implementation says otherwise.
+pub trait Gate: Sync {
+    /// The work on the piece of this number, counted from 0, is about to begin. Called by the worker that drew
+    /// the piece, before it reads it.
+    fn entered(&self, _piece: u64) {}
+
+    /// The work on the piece of this number is done, or was given up for want of memory. Called by the worker
+    /// that entered it.
+    fn left(&self, _piece: u64) {}
+
+    /// The edition of this number, counted from 1, is the last published one now. Called after each
+    /// publish that is accepted, by the thread of the keeper.
+    fn published(&self, _edition: u64) {}
+
+    /// The viewer of this number, counted from 0, is about to report on the edition that it took. Called by the
+    /// viewer's thread.
+    fn viewing(&self, _viewer: u64, _edition: u64) {}
+
+    /// The part at this place of a list of parts, counted from 0, is about to be read. Called by the worker that
+    /// drew the place.
+    fn reading(&self, _place: u64) {}
+
+    /// A half of a list of parts, the one that begins at this place, is about to be merged. Called by the thread
+    /// that merges it.
+    fn merging(&self, _place: u64) {}
+}
+
+/// A gate that always stands open: it does nothing.
+#[derive(Clone, Copy, Debug, PartialEq, Eq, Drop)]
+pub struct Open;
+
+impl Gate for Open {}

@@ -1,0 +1,63 @@
+//! One worker at its seat.
+ghost use Rattle.std.specs.Prelude.{◌≡◌, [], true, IfOk, OnOk};
+ghost use Rattle.crew.specs.Seats.{IsSeatOf, drawn_by, is_finished};
+ghost use Rattle.crew.specs.Works.{IsWorked};
+
+use crate::deal::{Deal, Seat, draws_rise};
+use crate::task::Task;
+use std::alloc::{AllocError, Global};
+
+/// What a worker hands back: its seat, and what the task gave for the places that the seat drew.
+#[derive(Drop)]
+pub(crate) struct Worked<T> {
+    pub(crate) seat: Seat,
+    pub(crate) given: Result<T, AllocError>,
+}
+
+/// Works at all places that the seat draws, until none are left. Where there is no memory, the worker goes on drawing
+/// and works no more, so that its seat comes back soon, and finished.
+pub(crate) fn work<K: Task>(
+    alloc: Global,
+    deal: &Deal,
+    mut seat: Seat,
+    task: &K,
+) -> Worked<K::Given>
+    requires seat { IsSeatOf deal.now seat × (seat.seen ≡ []) }
+    requires task { K.count task.now ≡ deal.now.pieces }
+    ensures { IsWorked deal.now (K.gives task.now) seat.number result }
+{
+    let given = make(alloc, deal, &mut seat, task);
+    draw_on(deal, &mut seat);
+    Worked { seat, given }
+}
+
+// What the task gives for all places that the seat draws.
+fn make<K: Task>(
+    alloc: Global,
+    deal: &Deal,
+    seat: &mut Seat,
+    task: &K,
+) -> Result<K::Given, AllocError>
+    requires seat { IsSeatOf deal.now seat.old × (seat.old.seen ≡ []) }
+    requires task { K.count task.now ≡ deal.now.pieces }
+    ensures seat { IsSeatOf deal.now seat.new × (seat.new.number ≡ seat.old.number) }
+    ensures finished { OnOk result (is_finished seat.new ≡ true) }
+    ensures given { IfOk result (K.gives task.now (drawn_by seat.new)) }
+{
+    draws_rise();
+    let mut made = task.begin(alloc)?;
+    while let Some(place) = deal.next(seat) {
+        task.take(alloc, &mut made, place)?;
+    }
+    task.end(alloc, made)
+}
+
+// Draws until no places are left, and does nothing with them.
+fn draw_on(deal: &Deal, seat: &mut Seat)
+    requires { IsSeatOf deal.now seat.old }
+    ensures seat { IsSeatOf deal.now seat.new × (seat.new.number ≡ seat.old.number) }
+    ensures finished { is_finished seat.new ≡ true }
+    ensures stays { is_finished seat.old ≡ true → seat.new ≡ seat.old }
+{
+    while deal.next(seat).is_some() {}
+}
