@@ -1,5 +1,5 @@
 -- How two places of one prefix meet, and what they become.
-use Rattle.std.proofs.Common.{◌≡◌, ℕ, ◌+◌, ◌<◌, ◌≤◌, ◌^◌, Bool, true, false, Option, Some, None, Vec, List, [], ◌∷◌, ◌++◌, cond, length, set, take, get_or, suc, zero, refl, sym, ap, ◌∙◌, subst, arith, length-append, sum_by, inl, inr}
+use Rattle.std.proofs.Common.{◌≡◌, ℕ, ◌+◌, ◌<◌, ◌≤◌, Bool, true, false, Option, Some, None, Vec, List, [], ◌∷◌, ◌++◌, cond, length, set, take, get_or, suc, zero, refl, sym, ap, ◌∙◌, subst, arith, length-append, sum_by, inl, inr}
 use Rattle.std.specs.Bool.{⊤}
 use Rattle.std.specs.List.{AllByRecursion, flat_map}
 use Rattle.std.specs.Option.{MatchOption, option_map}
@@ -14,12 +14,12 @@ use Rattle.std.proofs.lemmas.List.{length-map}
 use Rattle.trie.specs.Digits.{digit, digit_count, digit_order, digits, first_digits, place_count}
 use Rattle.trie.specs.Entries.{entry_at, value_at}
 use Rattle.trie.specs.Holding.{ArePlaces, node_len, pairs_of, prefix_of}
-use Rattle.trie.specs.Merging.{AsksOf, blend_entries, blended, BranchesMeet, BucketsMeet, CanBlend, HasEntries, IsMerged, laid, laid_pair, LeafMeets, Meet, MergeEach, Merges, turned, Turned}
+use Rattle.trie.specs.Merging.{AsksOf, blend_entries, blended, BranchesMeet, BucketsMeet, laid, laid_pair, LeafMeets, Meet, MergeEach, Merges, turned, Turned}
 use Rattle.trie.specs.Tree.{AreChildren, entries_in, IsNode, IsPlace, StartsWith, values}
 use Rattle.trie.specs.declared.node.Node.{Node}
 use Rattle.trie.specs.declared.node.Node.TheVariants.{Leaf, Bucket, Branch}
 use Rattle.trie.proofs.BucketsLemmas.{blended_none}
-use Rattle.trie.proofs.FoundLemmas.{entry_at-order, entry-with_pair, found-passes, found_alike, value_blended, value-entry}
+use Rattle.trie.proofs.FoundLemmas.{entry_at-order, entry-with_pair, found-passes, found_alike, value-entry}
 use Rattle.trie.proofs.DigitsLemmas.{get_or-digits, length-digits, starts_with-at, starts_with-front, starts_with-next}
 use Rattle.trie.proofs.EntriesLemmas.{with_pair-longer, with_pair-most}
 use Rattle.trie.proofs.ListsLemmas.{all-unmap, flat_map-around}
@@ -477,40 +477,3 @@ module _ {K V : Type 0} (hash : K → ℕ) (cmp : K → K → Ordering) where
             let last : k ≡ n = omega arith in
             rw (last, read_written zs n z None within) here
       ]
-
-  -- two whole tries
-  pub roots_meet : (Asks : V → V → Type 0) (first second : Option (Node K V)) (es fs : List (K × V)) →
-      entries_in first ≡ es → entries_in second ≡ fs → IsPlace hash cmp first [] → IsPlace hash cmp second [] →
-      length es + length fs < 2 ^ 64 → CanBlend (digit_order hash cmp) Asks es fs →
-      Meet hash cmp Asks 0 first second
-  roots_meet Asks first second es fs is also placed other room can = record {
-    prefix = [];
-    deep = refl;
-    first_placed = placed;
-    second_placed = other;
-    room = omega (arith, ap length is, ap length also, room);
-    can = λ key s x y fx fy. can.can key x y (rw is at fx) (rw also at fy);
-  }
-
-  pub roots_entries : (blend : V → V → V) (first second third : Option (Node K V)) (es fs : List (K × V)) →
-      entries_in first ≡ es → entries_in second ≡ fs → IsPlace hash cmp first [] → IsPlace hash cmp second [] →
-      Merges hash cmp blend 0 first second third → HasEntries (digit_order hash cmp) blend es fs (entries_in third)
-  roots_entries blend first second third es fs is also placed other merges =
-      let merged = merges.at [] refl placed other in
-      record { entries = λ key. rw (← is, ← also) (merged.entries key tt) }
-
-  pub roots_merged : (blend : V → V → V) (first second third : Option (Node K V)) (es fs : List (K × V)) →
-      entries_in first ≡ es → entries_in second ≡ fs → IsPlace hash cmp first [] → IsPlace hash cmp second [] →
-      Merges hash cmp blend 0 first second third → IsMerged (digit_order hash cmp) blend es fs (entries_in third)
-  roots_merged blend first second third es fs is also placed other merges =
-      let merged = merges.at [] refl placed other in
-      let whole = roots_entries blend first second third es fs is also placed other merges in
-      let order = digit_order hash cmp in
-      record {
-        values = λ key.
-            value-entry order (entries_in third) key ∙ ap (λ o. option_map (λ e. e.1) o) (whole.entries key)
-            ∙ value_blended blend (entry_at order es key) (entry_at order fs key)
-            ∙ rw (value-entry order es key, value-entry order fs key) refl;
-        first = omega (arith, merged.first_in, ap length is);
-        most = omega (arith, merged.most, ap length is, ap length also);
-      }
