@@ -1,7 +1,9 @@
 -- Pools of groups, and partial results set by set.
-use Rattle.std.specs.Prelude.{◌≡◌, ◌==◌, ℕ, ◌+◌, ◌<◌, ◌≤◌, Bool, true, false, List, [], ◌∷◌, ◌++◌, length, nat_eq, ◌&&◌, take, Some, refl, slice_index_or}
+use Rattle.std.specs.Prelude.{◌≡◌, ◌==◌, ℕ, ◌+◌, ◌<◌, ◌≤◌, Bool, true, false, List, [], ◌∷◌, ◌++◌, length, nat_eq, nat_lt, ◌&&◌, take, Some, refl, slice_index_or}
 use Rattle.std.specs.Cmp.Lexicographic.{pointwise}
-use Rattle.std.proofs.Common.{eqb-true, get_or, ap, ap₂, sym, ◌∙◌, subst}
+use Rattle.std.specs.List.{AllByRecursion}
+use Rattle.std.proofs.Common.{eqb-true, get_or, ap, ap₂, arith, sym, ◌∙◌, subst}
+use Rattle.std.proofs.lemmas.Bool.{ltb-false, ltb-true}
 use Rattle.std.proofs.lemmas.List.{map-append, take_all, take_more}
 use Rattle.std.proofs.lemmas.List.Quantifiers.{position-Some}
 use Rattle.cells.specs.Values.{Entry}
@@ -11,11 +13,11 @@ use Rattle.groups.specs.Folding.{Covers, Group, IsFolded}
 use Rattle.groups.specs.Groups.{place_in}
 use Rattle.groups.specs.Laying.{IsLaid}
 use Rattle.groups.specs.Partials.{StandsAt, StandsEach}
-use Rattle.groups.specs.Pools.{AreCounted, Grows, HaveFiner, IsPool, MayCoarsen, MayCoarsenAll, has_finer}
+use Rattle.groups.specs.Pools.{AreCounted, Grows, HaveFiner, HaveSetsAbove, HaveSetsOf, IsPool, MayCoarsen, MayCoarsenAll, has_finer, has_set}
 use Rattle.groups.specs.declared.aggregation.Aggregation.{Aggregation}
 use Rattle.groups.specs.declared.pool.Folded.{Folded}
 use Rattle.groups.proofs.LayingLemmas.{start_stands}
-use Rattle.groups.proofs.SourcesLemmas.{finer_stays}
+use Rattle.groups.proofs.SourcesLemmas.{finer_stays, set_here, set_stays}
 use Rattle.groups.proofs.TuplesLemmas.{all_at, all_push, all_through}
 
 -- ---- places of columns
@@ -66,12 +68,13 @@ module _ {H : Type 0} where
 -- ---- a pool that grows
 module _ {H : Type 0} where
   pub grows_not : (old new : List (Folded H)) → new ≡ old → Grows old new
-  grows_not old new e = rw e (record { covers = λ aggregations rows now. now; finer = λ set h. h })
+  grows_not old new e = rw e (record { covers = λ aggregations rows now. now; finer = λ set h. h; stay = λ set h. h })
 
   pub grows_more : (old mid new : List (Folded H)) → Grows old mid → Grows mid new → Grows old new
   grows_more old mid new first second = record {
     covers = λ aggregations rows now. second.covers aggregations rows (first.covers aggregations rows now);
     finer = λ set h. second.finer set (first.finer set h);
+    stay = λ set h. second.stay set (first.stay set h);
   }
 
   pub grows_by : (old new : List (Folded H)) (f : Folded H) → ((aggregations : List Aggregation) (rows : List Entry) → IsPool aggregations rows old → Covers aggregations f.set.items rows f.bag) →
@@ -79,12 +82,16 @@ module _ {H : Type 0} where
   grows_by old new f covers e = rw e (record {
     covers = λ aggregations rows now. pool_more aggregations rows old (old ++ f ∷ []) f now (covers aggregations rows now) refl;
     finer = finer_stays old f;
+    stay = set_stays old f;
   })
 
   pub grows_by_set : (old slice new : List (Folded H)) (set : List ℕ) (f : Folded H) → slice ≡ old → f.set.items ≡ set →
       ((aggregations : List Aggregation) (rows : List Entry) → IsPool aggregations rows slice → Covers aggregations set rows f.bag) → new ≡ old ++ f ∷ [] → Grows old new
   grows_by_set old slice new set f same is covers e = grows_by old new f (λ aggregations rows now.
       rw is (covers aggregations rows (rw same now))) e
+
+  pub set_pushed : (old new : List (Folded H)) (set : List ℕ) (f : Folded H) → f.set.items ≡ set → new ≡ old ++ f ∷ [] → has_set new set ≡ true
+  set_pushed old new set f is e = rw e (subst (λ s. has_set (old ++ f ∷ []) s ≡ true) is (set_here old f))
 
   pub grown_counted : (aggregations : List Aggregation) (old new : List (Folded H)) → Grows old new → AreCounted aggregations old → AreCounted aggregations new
   grown_counted aggregations old new grows counted = record { rows = counted.rows; covers = grows.covers aggregations counted.rows counted.covers; can = counted.can }
@@ -99,6 +106,58 @@ module _ {H : Type 0} where
       has_finer pool set ≡ true
   finer_at pool sets its i s set finer same h is e =
       rw (e, is, same) (all_at (λ (x : List ℕ). has_finer pool x ≡ true) sets i s finer (subst (λ l. i < length l) same h))
+
+-- ---- sets whose groups the pool has
+module _ {H : Type 0} (sets : List (List ℕ)) (columns : ℕ) where
+  -- those of so many columns before a place, in a pool that has grown
+  pub record AddsTo (i : ℕ) (old new : List (Folded H)) : Type 0 where
+    pub grows : Grows old new
+    pub there : HaveSetsOf columns new (take i sets)
+
+  pub adds_to_none : (old new : List (Folded H)) → new ≡ old → AddsTo 0 old new
+  adds_to_none old new e = record { grows = grows_not old new e; there = tt }
+
+  pub adds_to_more : (its : List (List ℕ)) (i : ℕ) (s : List ℕ) (old mid new : List (Folded H)) → its ≡ sets → i < length its → s ≡ get_or its i s → Grows mid new →
+      (length s ≡ columns → has_set new s ≡ true) → AddsTo i old mid → AddsTo (i + 1) old new
+  adds_to_more its i s old mid new same h is grows here now =
+      let within : i < length sets = subst (λ l. i < length l) same h in
+      let at : s ≡ get_or sets i s = subst (λ (l : List (List ℕ)). s ≡ get_or l i s) same is in
+      record {
+        grows = grows_more old mid new now.grows grows;
+        there = subst (HaveSetsOf columns new) (sym (take_more sets i s within ∙ ap (λ x. take i sets ++ x ∷ []) (sym at)))
+            (all_push _ (take i sets) s (all_through _ _ (λ x f many. grows.stay x (f many)) (take i sets) now.there) here);
+      }
+
+  pub adds_to_all : (i : ℕ) (old new : List (Folded H)) → length sets ≤ i → AddsTo i old new → HaveSetsOf columns new sets
+  adds_to_all i old new h now = subst (HaveSetsOf columns new) (take_all i sets h) now.there
+
+  -- those of more columns, in a pool that has grown
+  pub record GrownTo (old new : List (Folded H)) : Type 0 where
+    pub grows : Grows old new
+    pub there : HaveSetsAbove columns new sets
+
+  pub grown_none : (old new : List (Folded H)) → new ≡ old → AllByRecursion (λ (s : List ℕ). length s ≤ columns) sets → GrownTo old new
+  grown_none old new e few = record {
+    grows = grows_not old new e;
+    there = all_through _ _ (λ s less more. absurd (omega (arith, less, more))) sets few;
+  }
+
+module _ {H : Type 0} where
+  both_there : (columns less : ℕ) (mid new : List (Folded H)) (sets : List (List ℕ)) → columns ≡ less + 1 → Grows mid new → HaveSetsAbove columns mid sets →
+      HaveSetsOf columns new sets → HaveSetsAbove less new sets
+  both_there columns less mid new [] e grows above of = tt
+  both_there columns less mid new (s ∷ sets) e grows above of = (one (nat_lt columns (length s)) refl, both_there columns less mid new sets e grows above.1 of.1)
+    where
+      one : (b : Bool) → nat_lt columns (length s) ≡ b → less < length s → has_set new s ≡ true
+      one true f more = grows.stay s (above.0 (ltb-true _ _ f))
+      one false f more = let most : length s ≤ columns = ltb-false _ _ f in of.0 (omega (arith, e, more, most))
+
+  pub grown_more : (sets : List (List ℕ)) (columns less : ℕ) (old mid new : List (Folded H)) → columns ≡ less + 1 → GrownTo sets columns old mid → Grows mid new →
+      HaveSetsOf columns new sets → GrownTo sets less old new
+  grown_more sets columns less old mid new e now grows of = record {
+    grows = grows_more old mid new now.grows grows;
+    there = both_there columns less mid new sets e grows now.there of;
+  }
 
 module _ {H : Type 0} (hash : List Cell → ℕ) (aggregations : List Aggregation) (rows : List Entry) where
   stands_push : (sets : List (List ℕ)) (tries : List (List (Group H))) (s : List ℕ) (t : List (Group H)) →

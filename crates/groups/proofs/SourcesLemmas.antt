@@ -1,14 +1,16 @@
 -- Sets that have all columns of others.
-use Rattle.std.specs.Prelude.{◌≡◌, ◌==◌, ℕ, suc, ◌+◌, ◌<◌, ◌≤◌, Bool, true, false, List, [], ◌∷◌, ◌++◌, ◌||◌, length, nat_lt, position, refl, take, Option, Some, None}
+use Rattle.std.specs.Prelude.{◌≡◌, ◌==◌, ℕ, suc, ◌+◌, ◌<◌, ◌≤◌, Bool, true, false, List, [], ◌∷◌, ◌++◌, ◌||◌, length, nat_eq, nat_lt, position, refl, take, Option, Some, None}
+use Rattle.std.specs.Cmp.Lexicographic.{pointwise}
 use Rattle.std.specs.List.{AllByRecursion, Contains, list_all, list_any, position_or_len}
 use Rattle.std.specs.Option.{is_some}
 use Rattle.std.proofs.Common.{get_or, ap, sym, ◌∙◌, subst, arith}
 use Rattle.std.proofs.lemmas.Bool.{ltb-false}
+use Rattle.std.proofs.lemmas.Cmp.{nat_list_eq_equiv}
 use Rattle.std.proofs.lemmas.List.{map-append, take_all, take_more}
 use Rattle.std.proofs.lemmas.List.Folds.{list_all_at, list_any-append, list_any_none}
 use Rattle.std.proofs.lemmas.List.Sums.{fails_before_first}
 use Rattle.groups.specs.Groups.{place_in}
-use Rattle.groups.specs.Pools.{AddsSource, ArePlanned, AreSources, has_all, has_finer, sets_of}
+use Rattle.groups.specs.Pools.{AddsSource, ArePlanned, AreSources, has_all, has_finer, has_set, sets_of}
 use Rattle.groups.specs.declared.pool.Folded.{Folded}
 use Rattle.groups.proofs.FoldingLemmas.{covers_none}
 use Rattle.groups.proofs.TuplesLemmas.{all_push, all_through}
@@ -74,6 +76,15 @@ module _ {H : Type 0} where
   finer_here pool f =
       list_any-append (λ (g : Folded H). has_all g.set.items f.set.items) pool (f ∷ [])
       ∙ either_second (has_finer pool f.set.items) (has_finer (f ∷ []) f.set.items) (either_first _ false (has_itself f.set.items))
+
+  pub set_stays : (pool : List (Folded H)) (f : Folded H) (set : List ℕ) → has_set pool set ≡ true → has_set (pool ++ f ∷ []) set ≡ true
+  set_stays pool f set e =
+      list_any-append (λ (g : Folded H). pointwise nat_eq g.set.items set) pool (f ∷ []) ∙ either_first (has_set pool set) (has_set (f ∷ []) set) e
+
+  pub set_here : (pool : List (Folded H)) (f : Folded H) → has_set (pool ++ f ∷ []) f.set.items ≡ true
+  set_here pool f =
+      list_any-append (λ (g : Folded H). pointwise nat_eq g.set.items f.set.items) pool (f ∷ [])
+      ∙ either_second (has_set pool f.set.items) (has_set (f ∷ []) f.set.items) (either_first _ false (nat_list_eq_equiv.refl f.set.items))
 
   pub adds_nothing : (set : List ℕ) (old new : List (Folded H)) → has_finer old set ≡ true → new ≡ old → AddsSource set old new
   adds_nothing set old new e same = rw same (record { finer = e; stay = λ other h. h; planned = λ sets contains now. now })

@@ -3,6 +3,7 @@ use Rattle.std.specs.Prelude.{◌≡◌, ℕ, zero, suc, ◌+◌, ◌<◌, Bool,
 use Rattle.std.specs.List.{AllByRecursion}
 use Rattle.std.proofs.Common.{get_or, ap, sym, ◌∙◌, arith}
 use Rattle.std.proofs.lemmas.List.{get_or-map, get_or_read, length-map, take_more_same}
+use Rattle.cells.specs.CellOrder.{cell_eq, cell_eq-equiv}
 use Rattle.cells.specs.declared.cell.Cell.{Cell}
 use Rattle.cells.specs.declared.cell.Cell.TheVariants.{Null}
 use Rattle.groups.specs.Folding.{picked}
@@ -17,9 +18,21 @@ one_picked_more from places cells i x y place e h same p q l r s =
     (sym (get_or_read cells i x n p Null) ∙ s ∙ get_or_read from place y l r Null ∙ ap (λ k. get_or from k Null) q
     ∙ sym (get_or-map (λ k. get_or from k Null) places i 0 Null h))
 
+pub one_not_picked : (from : List Cell) (places : List ℕ) (cells : List Cell) (i : ℕ) (x y : Cell) (place : ℕ) → i < length cells → i < length places →
+    x ≡ get_or cells i x → place ≡ get_or places i 0 → place < length from → y ≡ get_or from place y → cell_eq x y ≡ false → cells ≡ picked places from → ⊥
+one_not_picked from places cells i x y place n h p q l r differs e =
+    let same : x ≡ y = get_or_read cells i x n p Null ∙ ap (λ (cs : List Cell). get_or cs i Null) e ∙ get_or-map (λ k. get_or from k Null) places i 0 Null h
+    ∙ sym (ap (λ k. get_or from k Null) q) ∙ sym (get_or_read from place y l r Null) in
+    let alike : cell_eq x y ≡ true = ap (λ c. cell_eq x c) (sym same) ∙ cell_eq-equiv.refl x in
+    cc
+
 pub was_true : (b : Bool) → false ≡ not b → b ≡ true
 was_true true e = refl
 was_true false e = cc
+
+pub was_false : (b : Bool) → true ≡ not b → b ≡ false
+was_false true e = cc
+was_false false e = refl
 
 -- ---- what holds of each element
 module _ {X : Type 0} (P : X → Type 0) where

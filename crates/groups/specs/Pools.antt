@@ -1,5 +1,6 @@
 -- Groups of several grouping sets over the same rows.
-use Rattle.std.specs.Prelude.{◌≡◌, ℕ, true, Bool, List, [], map}
+use Rattle.std.specs.Prelude.{◌≡◌, ℕ, ◌<◌, true, Bool, List, [], length, map, nat_eq}
+use Rattle.std.specs.Cmp.Lexicographic.{pointwise}
 use Rattle.std.specs.List.{AllByRecursion, Contains, list_all, list_any}
 use Rattle.std.specs.Option.{is_some}
 use Rattle.cells.specs.Values.{Entry}
@@ -21,9 +22,21 @@ module _ {H : Type 0} where
   abbrev pub has_finer : List (Folded H) → List ℕ → Bool
   has_finer pool set = list_any (λ f. has_all f.set.items set) pool
 
+  -- the pool has the groups of this very set
+  abbrev pub has_set : List (Folded H) → List ℕ → Bool
+  has_set pool set = list_any (λ f. pointwise nat_eq f.set.items set) pool
+
   -- of each set
   abbrev pub HaveFiner : List (Folded H) → List (List ℕ) → Type 0
   HaveFiner pool sets = AllByRecursion (λ set. has_finer pool set ≡ true) sets
+
+  -- those of each set of so many columns
+  abbrev pub HaveSetsOf : ℕ → List (Folded H) → List (List ℕ) → Type 0
+  HaveSetsOf columns pool sets = AllByRecursion (λ set. length set ≡ columns → has_set pool set ≡ true) sets
+
+  -- those of each set of more columns
+  abbrev pub HaveSetsAbove : ℕ → List (Folded H) → List (List ℕ) → Type 0
+  HaveSetsAbove columns pool sets = AllByRecursion (λ set. columns < length set → has_set pool set ≡ true) sets
 
   -- the rows went into the groups of each set of the pool
   pub record IsPool (aggregations : List Aggregation) (rows : List Entry) (pool : List (Folded H)) : Type 0 where
@@ -44,10 +57,11 @@ module _ {H : Type 0} where
     pub aggregations : List Aggregation
     pub counted : AreCounted aggregations pool
 
-  -- groups of more sets are there, over whatever rows went into the pool
+  -- groups of more sets are there beside those of the old ones, over whatever rows went into the pool
   pub record Grows (old new : List (Folded H)) : Type 0 where
     pub covers : (aggregations : List Aggregation) (rows : List Entry) → IsPool aggregations rows old → IsPool aggregations rows new
     pub finer : (set : List ℕ) → has_finer old set ≡ true → has_finer new set ≡ true
+    pub stay : (set : List ℕ) → has_set old set ≡ true → has_set new set ≡ true
 
   -- ---- sources
 

@@ -1,10 +1,10 @@
 //! Groups of several grouping sets over the same rows, the coarser ones made from the finer.
 ghost use Rattle.std.specs.Prelude.{◌≡◌, ◌<◌, List, true, IfOk, IfSome, length, position, slice_index_or};
-ghost use Rattle.std.specs.Option.{option_copied};
+ghost use Rattle.std.specs.Option.{is_some, option_copied};
 ghost use Rattle.cells.specs.Values.{Entry};
 ghost use Rattle.groups.specs.Coarsening.{ArePlaces};
 ghost use Rattle.groups.specs.Folding.{Covers};
-ghost use Rattle.groups.specs.Pools.{Grows, HaveFiner, IsPool, MayCoarsen, MayCoarsenAll, has_all, has_finer};
+ghost use Rattle.groups.specs.Pools.{Grows, HaveFiner, HaveSetsAbove, HaveSetsOf, IsPool, MayCoarsen, MayCoarsenAll, has_all, has_finer, has_set};
 ghost use Rattle.groups.specs.declared.aggregation.Aggregation.{Aggregation};
 ghost use Rattle.groups.specs.declared.pool.Folded.{Folded};
 
@@ -33,7 +33,8 @@ pub fn pool_of<H: KeyHash<Cell>>(
 ) -> Result<Vec<Folded<H>>, AllocError>
     requires can { MayCoarsenAll sources.items }
     requires finer { HaveFiner sources.items sets.now }
-    ensures { IfOk result (λ v. Grows sources.items v.items) }
+    ensures grows { IfOk result (λ v. Grows sources.items v.items) }
+    ensures there { IfOk result (λ v. HaveSetsAbove 0 v.items sets.now) }
 {
     let mut pool = sources;
     let mut columns = most_columns(sets);
@@ -46,8 +47,9 @@ pub fn pool_of<H: KeyHash<Cell>>(
 
 /// The groups of the set, if they are in the pool.
 pub fn groups_in<'a, H: KeyHash<Cell>>(pool: &'a [Folded<H>], set: &[usize]) -> Option<&'a Bag<H>>
-    ensures { (aggregations : List Aggregation) (rows : List Entry) → IsPool aggregations rows pool.now →
+    ensures covers { (aggregations : List Aggregation) (rows : List Entry) → IsPool aggregations rows pool.now →
         IfSome (option_copied result) (λ b. Covers aggregations set.now rows b) }
+    ensures there { is_some result ≡ has_set pool.now set.now }
 {
     for folded in pool {
         if folded.set.as_slice() == set {
@@ -81,7 +83,8 @@ fn add_sets<H: KeyHash<Cell>>(
 ) -> Result<(), AllocError>
     requires can { MayCoarsenAll pool.old.items }
     requires finer { HaveFiner pool.old.items sets.now }
-    ensures { IfOk result (λ _. Grows pool.old.items pool.new.items) }
+    ensures grows { IfOk result (λ _. Grows pool.old.items pool.new.items) }
+    ensures there { IfOk result (λ _. HaveSetsOf columns pool.new.items sets.now) }
 {
     for set in sets {
         if set.columns.len() == columns {
@@ -99,7 +102,8 @@ fn add_set<H: KeyHash<Cell>>(
 ) -> Result<(), AllocError>
     requires can { MayCoarsenAll pool.old.items }
     requires finer { has_finer pool.old.items set.now ≡ true }
-    ensures { IfOk result (λ _. Grows pool.old.items pool.new.items) }
+    ensures grows { IfOk result (λ _. Grows pool.old.items pool.new.items) }
+    ensures there { IfOk result (λ _. has_set pool.new.items set.now ≡ true) }
 {
     if groups_in(pool.as_slice(), set).is_some() {
         return Ok(());

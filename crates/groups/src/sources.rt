@@ -29,7 +29,9 @@ pub fn sources_of<H: KeyHash<Cell>>(
 }
 
 /// The most columns that one of the sets has.
-pub fn most_columns(sets: &[GroupSet]) -> usize {
+pub fn most_columns(sets: &[GroupSet]) -> usize
+    ensures { AllByRecursion (λ (set : List ℕ). length set ≤ result) sets.now }
+{
     let mut most = 0;
     for set in sets {
         if set.columns.len() > most {

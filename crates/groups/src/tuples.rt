@@ -1,5 +1,5 @@
 //! Tuples made of some of the cells of a row, or of a finer tuple.
-ghost use Rattle.std.specs.Prelude.{◌≡◌, IfOk, IsTrue, length};
+ghost use Rattle.std.specs.Prelude.{◌≡◌, ◌↔◌, IfOk, IsTrue, length};
 ghost use Rattle.groups.specs.Folding.{AreWithin, picked};
 
 use cells::{Cell, KeyHash, Tuple};
@@ -23,7 +23,7 @@ pub fn tuple_of(alloc: Global, cells: &[Cell], places: &[usize]) -> Result<Tuple
 /// Whether the tuple is that of the cells at the places. It takes no memory.
 pub fn is_tuple_of(tuple: &[Cell], cells: &[Cell], places: &[usize]) -> bool
     requires { AreWithin (length cells.now) places.now }
-    ensures { IsTrue result → tuple.now ≡ picked places.now cells.now }
+    ensures { IsTrue result ↔ (tuple.now ≡ picked places.now cells.now) }
 {
     if tuple.len() != places.len() {
         return false;

@@ -1,12 +1,15 @@
-use Rattle.groups.proofs.PoolLemmas.{grown_finer, grown_may, grows_more}
+use Rattle.std.proofs.Common.{arith}
+use Rattle.groups.proofs.PoolLemmas.{grown_finer, grown_may, grown_more}
 use Rattle.groups.proofs.pool.pool_of.Goals as goal
 
 pub add_sets-requires-clause-can : goal.add_sets-requires-clause-can
-add_sets-requires-clause-can g c = grown_may c.args.sources.items c.loop-columns.pool.items c.loop-columns.invariant c.requires.can
+add_sets-requires-clause-can g c = grown_may c.args.sources.items c.loop-columns.pool.items c.loop-columns.invariant.grows c.requires.can
 
 pub add_sets-requires-clause-finer : goal.add_sets-requires-clause-finer
-add_sets-requires-clause-finer g c = grown_finer c.args.sources.items c.loop-columns.pool.items c.args.sets.now c.loop-columns.invariant c.requires.finer
+add_sets-requires-clause-finer g c =
+    grown_finer c.args.sources.items c.loop-columns.pool.items c.args.sets.now c.loop-columns.invariant.grows c.requires.finer
 
 pub loop-columns-preserved : goal.loop-columns-preserved
 loop-columns-preserved g c =
-    grows_more c.args.sources.items c.loop-columns.pool.items c.add_sets.new.pool.items c.loop-columns.invariant c.in_ok-add_sets.ensures
+    grown_more c.args.sets.now c.loop-columns.columns _ c.args.sources.items c.loop-columns.pool.items c.add_sets.new.pool.items (omega arith)
+    c.loop-columns.invariant c.in_ok-add_sets.ensures.grows c.in_ok-add_sets.ensures.there
