@@ -1,5 +1,8 @@
+pub mod CrossingLemmas
+pub mod GatheringLemmas
 pub mod HistoryLemmas
 pub mod ListsLemmas
+pub mod PlacesLemmas
 pub mod RisingLemmas
 pub mod RuleLemmas
 pub mod SeatLemmas

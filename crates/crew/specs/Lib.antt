@@ -1,4 +1,5 @@
 pub mod Draws
+pub mod Gathering
 pub mod Law
 pub mod Limits
 pub mod Seats

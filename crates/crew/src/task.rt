@@ -11,7 +11,8 @@ use std::alloc::{AllocError, Global};
 /// A worker that is answered Err makes no more, and that is its result. Workers know no gate: a task that tests may hold
 /// or watch has one, and tells it of each place that it takes.
 pub trait Task: Sync {
-    /// What a worker makes while it draws. It stays in the worker's thread.
+    /// What a worker makes while it draws. It stays in the worker's thread, and is `Send` since a bound of what a thread
+    /// uses has to hold in any thread.
     type Made: Send + Drop;
 
     /// What a worker hands back.

@@ -2,18 +2,15 @@
 ghost use Rattle.std.specs.Prelude.{◌≡◌, ◌≤◌, ◌*◌, ◌%◌, ◌^◌, ⊤, ℕ, [], length, map, slice_index};
 ghost use Rattle.crew.specs.Limits.{piece_limit, seat_limit};
 
+use super::gates::{Hold, Watch};
 use crate::worker::{Worked, work};
 use crate::{Deal, Gate, Open, Task, share_out};
 use cells::Refused;
 use std::alloc::{AllocError, Global};
 use std::sync::Wait;
-use std::sync::atomic::AtomicU64;
 use std::sync::atomic::Ordering::SeqCst;
 use std::test::Fail;
-use std::thread::{self, Threads};
-
-/// More turns than any worker of these tests needs.
-const TURNS: u64 = 10_000_000;
+use std::thread::Threads;
 
 /// The squares of numbers.
 #[derive(Clone, Copy)]
@@ -153,64 +150,17 @@ fn sixty_four_workers_or_a_refusal(rt: HostRuntime) -> Result<(), Fail> {
     Ok(())
 }
 
-/// Holds place 0 until place 1 was entered, which only another worker does.
-#[derive(Drop)]
-struct Hold {
-    came: AtomicU64,
-    met: AtomicU64,
-}
-
-impl Gate for Hold {
-    fn entered(&self, place: u64) {
-        if place == 1 {
-            self.came.store(1, SeqCst);
-        }
-        if place == 0 {
-            for _ in 0..TURNS {
-                if self.came.load(SeqCst) == 1 {
-                    self.met.store(1, SeqCst);
-                    return;
-                }
-                thread::yield_now();
-            }
-        }
-    }
-}
-
 #[test]
 fn two_workers_run_at_the_same_time(rt: HostRuntime) -> Result<(), Fail> {
-    let hold = Hold {
-        came: AtomicU64::new(0),
-        met: AtomicU64::new(0),
-    };
+    let hold = Hold::new();
     assert_eq!(rt; visited(&rt, rt.alloc(), &hold, 4, 2, NOWHERE), Ok(4));
     assert_eq!(rt; hold.met.load(SeqCst), 1);
     Ok(())
 }
 
-/// Counts the calls.
-#[derive(Drop)]
-struct Watch {
-    entered: AtomicU64,
-    left: AtomicU64,
-}
-
-impl Gate for Watch {
-    fn entered(&self, _place: u64) {
-        self.entered.fetch_add(1, SeqCst);
-    }
-
-    fn left(&self, _place: u64) {
-        self.left.fetch_add(1, SeqCst);
-    }
-}
-
 #[test]
 fn one_place_without_memory(rt: HostRuntime) -> Result<(), Fail> {
-    let watch = Watch {
-        entered: AtomicU64::new(0),
-        left: AtomicU64::new(0),
-    };
+    let watch = Watch::new();
     assert_eq!(rt;
         visited(&rt, rt.alloc(), &watch, 5, 2, 2),
         Err(Refused::OutOfMemory)
@@ -234,10 +184,7 @@ fn alone<K: Task>(alloc: Global, count: u64, task: &K) -> Result<(bool, u64), Al
 
 #[test]
 fn a_worker_without_memory_draws_on(rt: HostRuntime) -> Result<(), Fail> {
-    let watch = Watch {
-        entered: AtomicU64::new(0),
-        left: AtomicU64::new(0),
-    };
+    let watch = Watch::new();
     let visits = Visits {
         count: 5,
         gate: &watch,

@@ -1,0 +1,145 @@
+//! The partial result of the pieces of a table, which workers gather.
+ghost use Rattle.std.specs.Prelude.{◌≡◌, ◌<◌, ◌≤◌, ◌⊎◌, ℕ, List, [], length, slice_index_or, IfErr, IfOk};
+ghost use Rattle.cells.specs.declared.refused.Refused.TheVariants as Refused;
+ghost use Rattle.crew.specs.Gathering.{kept_at, kept_in, rows_at, rows_in};
+ghost use Rattle.crew.specs.Limits.{piece_limit, seat_limit};
+ghost use Rattle.crew.specs.Shares.{AreShared};
+ghost use Rattle.crew.specs.Tasks.{IsShare};
+ghost use Rattle.groups.specs.Groups.{kept};
+ghost use Rattle.groups.specs.Partials.{MayFold, Stands};
+
+use crate::gate::Gate;
+use crate::sharing::share_out;
+use crate::task::Task;
+use cells::{Cell, KeyHash, Refused, Row, Tuple};
+use groups::{Folding, Partial, any_order};
+use query::Plan;
+use std::alloc::{AllocError, Global};
+use std::marker::Model;
+use std::sync::Wait;
+use std::thread::Threads;
+use trie::Piece;
+
+/// The partial result of the rows of all pieces, of which there are at most [`MAX_PIECES`](crate::MAX_PIECES), for
+/// which the plan's WHERE is true. The pieces' rows are of the table that the plan was checked for. As many workers as
+/// the smaller of `workers`, which is 1 to [`MAX_SEATS`](crate::MAX_SEATS), and the number of pieces draw pieces until
+/// none are left, each in a thread of its own; which worker takes which piece has no effect. The gate is told of each
+/// piece that a worker takes, before and after, also where memory was refused.
+///
+/// [`Refused::NoWorker`] where a thread could not be started; otherwise [`Refused::OutOfMemory`] where there was no
+/// memory, here or for a worker. All threads that were started are joined before this returns, however it ends.
+pub fn gather<H: KeyHash<Cell> + KeyHash<Tuple> + Send + Sync, G: Gate, R: Threads + Wait>(
+    rt: &R,
+    alloc: Global,
+    plan: &Plan,
+    pieces: &[Piece<Cell, Row, H>],
+    workers: u64,
+    gate: &G,
+) -> Result<Partial<H>, Refused>
+    requires rows { MayFold plan.now (rows_in pieces.now) }
+    requires pieces { length pieces.now ≤ piece_limit }
+    requires workers { (1 ≤ workers) × (workers ≤ seat_limit) }
+    ensures stands { IfOk result (λ partial. Stands H.KeyHash-2.hash_of plan.now (kept plan.now.condition (rows_in pieces.now)) partial) }
+    ensures refused { IfErr result (λ e. (e ≡ Refused.NoWorker) ⊎ (e ≡ Refused.OutOfMemory)) }
+{
+    let gathering = Gathering { plan, pieces, gate };
+    let partials = share_out(rt, alloc, pieces.len() as u64, workers, &gathering)?;
+    Ok(joined(alloc, &gathering, partials)?)
+}
+
+/// The work on all pieces: each worker folds those that it draws into one partial result.
+#[derive(Drop)]
+struct Gathering<'a, H: KeyHash<Cell>, G> {
+    plan: &'a Plan,
+    pieces: &'a [Piece<Cell, Row, H>],
+    gate: &'a G,
+}
+
+impl<'a, H: KeyHash<Cell>, G> Model for Gathering<'a, H, G> {
+    ghost use Rattle.std.specs.Coded.{codes};
+    ghost use Rattle.cells.specs.Codes.{coded_cell, coded_row};
+    ghost use Rattle.crew.specs.Gathering.{Planned, rows_in};
+    ghost use Rattle.groups.specs.Partials.{MayFold};
+    ghost use Rattle.query.specs.Codes.{coded_predicate};
+
+    ghost Value = { Planned };
+
+    ghost coded = { Prim.hlevel (codes, coded_cell, coded_row, coded_predicate) };
+
+    ghost view = { λ g. record { plan = g.plan.now; pieces = g.pieces.now } };
+
+    ghost invariant = { λ g. MayFold g.plan.now (rows_in g.pieces.now) };
+}
+
+impl<'a, H: KeyHash<Cell> + KeyHash<Tuple>, G> Gathering<'a, H, G> {
+    /// It does nothing: that the rows of all pieces may be folded is known of each value, and so may those of a share.
+    fn rows_may_fold(&self)
+        ensures all { MayFold self.now.plan (rows_in self.now.pieces) }
+        ensures share { (places : List ℕ) → IsShare (length self.now.pieces) places → MayFold self.now.plan (rows_at self.now.pieces places) }
+    {
+        any_order::<H>();
+        let _ = &self.plan;
+    }
+
+    /// The piece at the place.
+    fn piece(&self, place: u64) -> &Piece<Cell, Row, H>
+        requires { place < length self.now.pieces }
+        ensures { result.now ≡ slice_index_or self.now.pieces place [] }
+    {
+        let pieces = self.pieces;
+        &pieces[place as usize]
+    }
+}
+
+impl<'a, H: KeyHash<Cell> + KeyHash<Tuple> + Send + Sync, G: Gate> Task for Gathering<'a, H, G> {
+    ghost use Rattle.std.specs.Prelude.{length};
+    ghost use Rattle.crew.specs.Gathering.{kept_at};
+    ghost use Rattle.groups.specs.Folds.{Folds};
+    ghost use Rattle.groups.specs.Partials.{Stands};
+
+    type Made = Folding<'a, H>;
+
+    type Given = Partial<H>;
+
+    ghost count = { λ g. length g.pieces };
+
+    ghost makes = { λ g places made. Folds g.plan (kept_at g places) made };
+
+    ghost gives = { λ g places given. Stands H.KeyHash-2.hash_of g.plan (kept_at g places) given };
+
+    fn begin(&self, alloc: Global) -> Result<Folding<'a, H>, AllocError> {
+        Folding::new(alloc, self.plan)
+    }
+
+    fn take(&self, alloc: Global, made: &mut Folding<'a, H>, place: u64) -> Result<(), AllocError> {
+        self.rows_may_fold();
+        self.gate.entered(place);
+        let taken = made.take(alloc, self.piece(place));
+        self.gate.left(place);
+        taken
+    }
+
+    fn end(&self, alloc: Global, made: Folding<'a, H>) -> Result<Partial<H>, AllocError> {
+        self.rows_may_fold();
+        made.into_partial(alloc)
+    }
+}
+
+/// The partial result of all pieces, from those of the workers who shared them, which are joined in their order.
+fn joined<H: KeyHash<Cell> + KeyHash<Tuple>, G>(
+    alloc: Global,
+    gathering: &Gathering<'_, H, G>,
+    partials: Vec<Partial<H>>,
+) -> Result<Partial<H>, AllocError>
+    requires { AreShared (λ places. Stands H.KeyHash-2.hash_of gathering.now.plan (kept_at gathering.now places)) (length gathering.now.pieces) partials.items }
+    ensures { IfOk result (λ partial. Stands H.KeyHash-2.hash_of gathering.now.plan (kept_in gathering.now) partial) }
+{
+    // These do nothing: they are the laws by which shares may be joined, and are all rows in the end.
+    any_order::<H>();
+    gathering.rows_may_fold();
+    let mut partial = Partial::empty(alloc, gathering.plan)?;
+    for other in partials {
+        partial = partial.join(alloc, &other)?;
+    }
+    Ok(partial)
+}
