@@ -85,7 +85,7 @@ module _ (law : OneAnswer) where
 
 -- ---- the blocks of two lists of lines, one after the other
 
-reversed_onto : (x : List ℕ) (xs before : Lines) → reverse xs ++ x ∷ before ≡ reverse (x ∷ xs) ++ before
+pub reversed_onto : (x : List ℕ) (xs before : Lines) → reverse xs ++ x ∷ before ≡ reverse (x ∷ xs) ++ before
 reversed_onto x xs before = sym (rw (reverse_onto xs x []) (append_assoc (reverse xs) (x ∷ []) before))
 
 -- the block of the first line, and those of the rest

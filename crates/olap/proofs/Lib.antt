@@ -1,6 +1,7 @@
 pub mod BlocksLemmas
 pub mod CommandsLemmas
 pub mod CommandLineLemmas
+pub mod EndingsLemmas
 pub mod FoldersLemmas
 pub mod LinesLemmas
 pub mod ProgramLemmas

@@ -1,27 +1,30 @@
 -- How far a run has come.
-use Rattle.std.proofs.Common.{◌≡◌, ◌⊎◌, ℕ, ◌+◌, ◌<◌, ◌≤◌, Bool, true, false, cond, Option, Some, None, Result, Ok, Err, List, [], ◌∷◌, ◌++◌, inl, inr, length, map, reverse, refl, sym, ap, subst, append_assoc, Bor, arith}
+use Rattle.std.proofs.Common.{◌≡◌, ◌∙◌, ◌⊎◌, ℕ, ◌+◌, ◌<◌, ◌≤◌, Bool, true, false, cond, Option, Some, None, Result, Ok, Err, List, [], ◌∷◌, ◌++◌, inl, inr, length, map, reverse, refl, sym, ap, subst, append_assoc, Bor, arith}
 use Rattle.std.proofs.lemmas.List.{append-nil, length-map, map-append, reverse-append}
 use Rattle.std.proofs.lemmas.List.Splits.{length-slice_split}
 use Rattle.std.proofs.lemmas.List.Sums.{count_by-le-length}
 use Rattle.std.proofs.KnownBytes.{Appends-nil, Appends-trans}
 use Rattle.std.specs.Io.KnownBytes.{Appends}
 use Rattle.std.specs.List.{slice_split}
-use Rattle.std.specs.Prelude.{◌==◌, IfErr, IsErr, Vec}
+use Rattle.std.specs.Prelude.{◌==◌, IsErrOf, Vec}
 use Rattle.std.specs.Str.Lines.{lines, lines_of_parts}
 use Rattle.std.specs.declared.alloc.Global.{Global}
 use Rattle.board.specs.Editions.{Editions}
 use Rattle.cells.specs.declared.cell.Cell.{Cell}
 use Rattle.cells.specs.declared.refused.Refused.TheVariants.{Limit}
-use Rattle.olap.specs.Endings.{BeginsToWrite, Delivers, Writes}
+use Rattle.olap.specs.Deeds.{Deed, Reports, deed}
+use Rattle.olap.specs.Endings.{AsksForReport, BeginsToWrite, Delivers, EndsAt, Writes, for_memory, for_worker}
 use Rattle.olap.specs.Givens.{Givens, givens}
 use Rattle.olap.specs.Limits.{part_limit, script_limit}
 use Rattle.olap.specs.Output.{AreBlocks, IsOutput, IsTooMuch, deed_behind, edition, is_publish, line_first, no_line, of_lines, refusal, too_much}
-use Rattle.olap.specs.Stands.{Executes, Publishable, Stands}
+use Rattle.olap.specs.Stands.{Executes, Publishable, Stands, schema_of_desk}
 use Rattle.olap.specs.declared.ended.Ended.{Ended}
-use Rattle.olap.specs.declared.ended.Ended.TheVariants.{OutOfMemory, WriteFailed}
+use Rattle.olap.specs.declared.ended.Ended.TheVariants.{NoWorker, WriteFailed}
+use Rattle.olap.specs.declared.fault.Fault.{Fault}
 use Rattle.olap.specs.declared.fault.Fault.TheVariants.{Line}
-use Rattle.olap.proofs.BlocksLemmas.{some_blocks}
+use Rattle.olap.proofs.BlocksLemmas.{reversed_onto, some_blocks}
 use Rattle.olap.proofs.SaysLemmas.{EachAnswered}
+use Rattle.olap.proofs.StepsLemmas.{does_so}
 use Rattle.report.specs.Laws.{takes_beginning}
 use Rattle.report.specs.Taken.{TakesBeginning}
 
@@ -32,8 +35,10 @@ last_first yielded = reverse (map (λ line. line.now) yielded)
 pub last_first-more : (yielded : List (Bor (List ℕ))) (line : Bor (List ℕ)) → last_first (yielded ++ line ∷ []) ≡ line.now ∷ last_first yielded
 last_first-more yielded line = rw (map-append, reverse-append) refl
 
--- the lines before were run, and the rest is to be run: behind what was taken, any blocks of the rest are the script's
+-- the lines before were run, and the rest of the script is to be run: behind what was taken, any blocks of the rest are
+-- the script's
 pub record Reached (old new : Option (List ℕ)) (hash : Cell → ℕ) (givens : Givens) (before rest script : List (List ℕ)) (desk : Option Editions) (number : ℕ) : Type 0 where
+  pub parted : script ≡ reverse before ++ rest
   pub front : List ℕ
   pub taken : Appends old new front
   pub blocks : (bytes : List ℕ) → AreBlocks hash givens before rest bytes → AreBlocks hash givens [] script (front ++ bytes)
@@ -43,6 +48,7 @@ pub record Reached (old new : Option (List ℕ)) (hash : Cell → ℕ) (givens :
 
 pub reached_start : (told : Option (List ℕ)) (hash : Cell → ℕ) (givens : Givens) (script : List (List ℕ)) → length script ≤ script_limit + 1 → Reached told told hash givens [] script script None 0
 reached_start told hash givens script short = record {
+  parted = refl;
   front = [];
   taken = Appends-nil told;
   blocks = λ bytes are. are;
@@ -62,6 +68,7 @@ module _ (old new : Option (List ℕ)) (hash : Cell → ℕ) (givens : Givens) (
     -- one line more
     pub reached_more : (newer : Option (List ℕ)) → Appends new newer piece → Reached old newer hash givens (line ∷ before) rest script after (number + 1)
     reached_more newer appends = record {
+      parted = reached.parted ∙ ap (λ ls. reverse before ++ ls) is ∙ reversed_onto line before rest;
       front = reached.front ++ piece;
       taken = Appends-trans old new newer reached.front piece reached.taken appends;
       blocks = λ bytes are. subst (AreBlocks hash givens [] script) (sym (append_assoc reached.front piece bytes)) (next_piece bytes are);
@@ -79,6 +86,20 @@ module _ (old new : Option (List ℕ)) (hash : Cell → ℕ) (givens : Givens) (
           is_whole = next_piece bytes are;
           beginning = takes_beginning old new newer (reached.front ++ (piece ++ bytes)) piece bytes (record { front = reached.front; whole_is = refl; taken = reached.taken }) beginning;
         }
+
+  -- a line that ends the run for want of a worker asks for a report
+  pub asks_for_report : {T : Type 0} (line : List ℕ) (rest : List (List ℕ)) (e : Ended) (result : Result T Ended) → left ≡ line ∷ rest → EndsAt (deed givens.parts (schema_of_desk desk) line) e →
+      result ≡ Err e → IsErrOf result NoWorker → AsksForReport givens script
+  asks_for_report line rest e result is for_memory same late = absurd cc
+  asks_for_report line rest e result is (for_worker {table = table} {query = query} does) same late = record {
+    before = before;
+    line = line;
+    later = rest;
+    parted = reached.parted ∙ ap (λ ls. reverse before ++ ls) is;
+    table = table;
+    query = query;
+    reports = does_so givens before line desk (Ok (Reports table query)) reached.stands does;
+  }
 
   -- the pieces so far
   pub reached_so_far : EachAnswered → BeginsToWrite (AreBlocks hash givens [] script) old new
@@ -106,9 +127,9 @@ module _ {W : Type 0} (taken : W → Option (List ℕ)) (faults : W → ℕ) (ol
   delivers_whole x whole sound = record { output = whole; beginning = tt; fault = λ e. absurd cc; sound = sound }
 
   -- a line ended the run behind a beginning of the whole
-  pub delivers_early : {T : Type 0} (result : Result T Ended) → BeginsToWrite IsWhole (taken old) (taken new) → IsErr result → IfErr result (λ e. e ≡ OutOfMemory) → Delivers taken faults old new IsWhole result
-  delivers_early (Ok x) beginning failed ended = absurd cc
-  delivers_early (Err e) beginning failed ended = record { output = tt; beginning = beginning; fault = λ late. absurd cc; sound = tt }
+  pub delivers_early : {T : Type 0} (does : Result Deed Fault) (e : Ended) (result : Result T Ended) → BeginsToWrite IsWhole (taken old) (taken new) → EndsAt does e → result ≡ Err e → Delivers taken faults old new IsWhole result
+  delivers_early does e result beginning for_memory is = rw is (record { output = tt; beginning = beginning; fault = λ late. absurd cc; sound = tt })
+  delivers_early does e result beginning (for_worker asks) is = rw is (record { output = tt; beginning = beginning; fault = λ late. absurd cc; sound = tt })
 
   -- the writer failed behind a beginning of the whole
   pub delivers_late : BeginsToWrite IsWhole (taken old) (taken new) → faults old < faults new → Delivers {T = Unit {0}} taken faults old new IsWhole (Err WriteFailed)

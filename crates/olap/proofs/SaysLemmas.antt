@@ -1,7 +1,6 @@
 -- Over a table's rows each text says one thing.
 use Rattle.std.proofs.Common.{◌≡◌, ◌⊎◌, ℕ, false, true, Option, Some, None, Result, Ok, Err, List, inl, inr, refl, sym, ap, ◌∙◌}
 use Rattle.std.specs.Prelude.{IfOk, IsErr}
-use Rattle.std.specs.Result.{MatchResult}
 use Rattle.cells.specs.Refusals.{Reads}
 use Rattle.cells.specs.Values.{Entry, Table}
 use Rattle.cells.specs.declared.refused.Refused.{Refused}

@@ -1,5 +1,5 @@
 -- A statement that puts no row fits any table.
-use Rattle.std.proofs.Common.{◌≡◌, ℕ, List, [], ◌∷◌, Option, Some, None, Result, Ok, Err}
+use Rattle.std.proofs.Common.{◌≡◌, Option, Some, None, Result, Ok, Err}
 use Rattle.std.specs.Prelude.{IfOk}
 use Rattle.cells.specs.Values.{Table}
 use Rattle.cells.specs.declared.cell.Cell.{Cell}

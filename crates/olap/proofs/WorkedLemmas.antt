@@ -1,5 +1,5 @@
 -- The blocks of a worked script, line by line.
-use Rattle.std.proofs.Common.{◌≡◌, ℕ, List, [], ◌∷◌, ◌++◌, None, Ok, subst}
+use Rattle.std.proofs.Common.{◌≡◌, ℕ, List, [], ◌∷◌, None, Ok, subst}
 use Rattle.std.proofs.lemmas.List.{append-nil}
 use Rattle.cells.specs.Values.{Entry, Table}
 use Rattle.cells.specs.declared.cell.Cell.{Cell}

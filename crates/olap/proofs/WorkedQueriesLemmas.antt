@@ -1,5 +1,5 @@
 -- The queries of worked scripts, spelt rule by rule.
-use Rattle.std.proofs.Common.{List, [], ◌∷◌, None, arith, refl}
+use Rattle.std.proofs.Common.{[], ◌∷◌, None, arith, refl}
 use Rattle.std.specs.Prelude.{codes}
 use Rattle.cells.specs.Scanning.{mark_at, token_at, word_at}
 use Rattle.query.specs.Grammar.{column, count_rows, group_by, last, name, next, no_groups, no_where, one, query, rollup}

@@ -15,17 +15,22 @@ use crate::input::{Folder, Input, read_input};
 use crate::job::{HashChoice, Job, WordsFault};
 use crate::run::run_by;
 use crate::words::job_of;
-use report::{Open, Pour};
+use crew::Open;
+use report::Pour;
 use std::alloc::Global;
 use std::io::{BufWriter, Read, Write};
+use std::sync::Wait;
+use std::thread::Threads;
 
 /// Runs what the words after the program's name ask for, over the files that they name, and gives the
 /// program's status and the writer back. What a run writes goes to `out`, and so does help; why there
 /// is no run, or why it ended early, goes to `err`.
 ///
 /// At 0 the output of that run was written whole, or help was asked for; at 2 nothing was run, since
-/// the words are refused or a file can't be read; at 3 the run ended early.
-pub fn run_words<F: Folder, W: Write + Drop, E: Write>(
+/// the words are refused or a file can't be read; at 3 the run ended early. `rt` starts the threads of a
+/// report's workers.
+pub fn run_words<F: Folder, W: Write + Drop, E: Write, R: Threads + Wait>(
+    rt: &R,
     alloc: Global,
     given: &[String],
     folder: &F,
@@ -41,14 +46,15 @@ pub fn run_words<F: Folder, W: Write + Drop, E: Write>(
         → BeginsToWrite (AskToWrite (F.file folder.now) (map string_bytes given.now)) (writer_contents W.contents out) (writer_contents W.contents result.1) }
 {
     match job_of(alloc, given) {
-        Ok(job) => run_job(alloc, &job, folder, out, err),
+        Ok(job) => run_job(rt, alloc, &job, folder, out, err),
         Err(fault) => refuse(&fault, out, err),
     }
 }
 
 /// Runs a job over the files that it names, and gives the program's status and the writer back, as
 /// [`run_words`] does.
-fn run_job<F: Folder, W: Write + Drop, E: Write>(
+fn run_job<F: Folder, W: Write + Drop, E: Write, R: Threads + Wait>(
+    rt: &R,
     alloc: Global,
     job: &Job,
     folder: &F,
@@ -62,25 +68,26 @@ fn run_job<F: Folder, W: Write + Drop, E: Write>(
     ensures beginning { result.0 ≡ 3 → BeginsToWrite (IsOutputOfJob (F.file folder.now) job.now) (writer_contents W.contents out) (writer_contents W.contents result.1) }
 {
     match read_input(alloc, folder, job) {
-        Ok(input) => run_input(alloc, &job.how, job.hash, &input, out, err),
+        Ok(input) => run_input(rt, alloc, &job.how, job.hash, &input, out, err),
         Err(name) => (cannot_read(name, err), out),
     }
 }
 
 /// Runs the script that standard input holds, with the defaults and no parts, and gives the program's
 /// status and the writer back, as [`run_words`] does.
-pub fn run_standard_input<R: Read + Drop, W: Write + Drop, E: Write>(
+pub fn run_standard_input<I: Read + Drop, W: Write + Drop, E: Write, R: Threads + Wait>(
+    rt: &R,
     alloc: Global,
-    mut input: R,
+    mut input: I,
     out: BufWriter<W>,
     err: &mut E,
 ) -> (u8, BufWriter<W>)
     ensures status { (result.0 ≡ 0) ⊎ ((result.0 ≡ 2) ⊎ (result.0 ≡ 3)) }
-    ensures written { result.0 ≡ 0 → Writes (IsOutputOf (R.remaining input)) (writer_contents W.contents out) (writer_contents W.contents result.1) }
+    ensures written { result.0 ≡ 0 → Writes (IsOutputOf (I.remaining input)) (writer_contents W.contents out) (writer_contents W.contents result.1) }
     ensures flushed { result.0 ≡ 0 → writer_buffer result.1 ≡ [] }
     ensures nothing { result.0 ≡ 2 → Keeps (writer_contents W.contents out) (writer_contents W.contents result.1) }
     ensures beginning { result.0 ≡ 3
-        → BeginsToWrite (IsOutputOf (R.remaining input)) (writer_contents W.contents out) (writer_contents W.contents result.1) }
+        → BeginsToWrite (IsOutputOf (I.remaining input)) (writer_contents W.contents out) (writer_contents W.contents result.1) }
 {
     let mut script = Vec::new(alloc);
     let Ok(_) = input.read_to_end(&mut script) else {
@@ -89,6 +96,7 @@ pub fn run_standard_input<R: Read + Drop, W: Write + Drop, E: Write>(
     let parts = Vec::new(alloc);
     let input = Input { script, parts };
     run_input(
+        rt,
         alloc,
         &How::default(),
         HashChoice::default(),
@@ -101,7 +109,8 @@ pub fn run_standard_input<R: Read + Drop, W: Write + Drop, E: Write>(
 /// Runs the script over the parts, flushes what it wrote, and gives the program's status and the
 /// writer back: 0 where the output was written whole and none of it waits in the buffer, and 3 where a
 /// beginning of it was written, and why it ended is on `err`.
-pub fn run_input<W: Write + Drop, E: Write>(
+pub fn run_input<W: Write + Drop, E: Write, R: Threads + Wait>(
+    rt: &R,
     alloc: Global,
     how: &How,
     hash: HashChoice,
@@ -119,6 +128,7 @@ pub fn run_input<W: Write + Drop, E: Write>(
 {
     let mut pour = Pour::new(out);
     let ended = run_by(
+        rt,
         alloc,
         hash,
         input.script.as_slice(),

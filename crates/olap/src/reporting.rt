@@ -1,5 +1,5 @@
 //! The reports of a run: what a text asks is read, checked and answered over the last published edition.
-ghost use Rattle.std.specs.Prelude.{◌≡◌, IfErr, IfOk};
+ghost use Rattle.std.specs.Prelude.{◌≡◌, ◌⊎◌, IfErr, IfOk};
 ghost use Rattle.board.specs.Editions as editions;
 ghost use Rattle.query.specs.Plans.{IsPlanOf};
 ghost use Rattle.olap.specs.Says.{GivesPlan};
@@ -11,20 +11,24 @@ use crate::fault::Fault;
 use crate::step::Setup;
 use board::Keeper;
 use cells::{Cell, KeyHash, Refused, Schema, Tuple};
+use crew::Gate;
 use query::{Plan, check, read};
-use report::{Gate, answer};
+use report::answer;
 use std::alloc::Global;
+use std::sync::Wait;
+use std::thread::Threads;
 
 /// The block of a report of the last published edition: the answer of what the text asks, or its first
-/// fault.
-pub fn execute_report<H: KeyHash<Cell> + KeyHash<Tuple>, G: Gate>(
-    setup: &Setup<'_, G>,
+/// fault. [`Ended::NoWorker`] where the thread of a worker could not be started, otherwise
+/// [`Ended::OutOfMemory`] where a growth was refused.
+pub fn execute_report<H: KeyHash<Cell> + KeyHash<Tuple> + Send + Sync, G: Gate, R: Threads + Wait>(
+    setup: &Setup<'_, R, G>,
     keeper: &Keeper<H>,
     text: &str,
     number: u64,
 ) -> Result<Vec<u8>, Ended>
     ensures block { IfOk result (λ block. Answers keeper.now number text.now block.items) }
-    ensures ended { IfErr result (λ e. e ≡ Ended.OutOfMemory) }
+    ensures ended { IfErr result (λ e. (e ≡ Ended.NoWorker) ⊎ (e ≡ Ended.OutOfMemory)) }
 {
     match read_plan(setup.alloc, text, keeper.schema()) {
         Ok(plan) => {
@@ -47,30 +51,33 @@ fn read_plan(alloc: Global, text: &str, schema: &Schema) -> Result<Plan, Refused
 }
 
 /// The block of a plan's report of the last published edition.
-fn execute_plan<H: KeyHash<Cell> + KeyHash<Tuple>, G: Gate>(
-    setup: &Setup<'_, G>,
+fn execute_plan<H: KeyHash<Cell> + KeyHash<Tuple> + Send + Sync, G: Gate, R: Threads + Wait>(
+    setup: &Setup<'_, R, G>,
     keeper: &Keeper<H>,
     plan: &Plan,
     number: u64,
 ) -> Result<Vec<u8>, Ended>
     requires { IsPlanOf (editions.schema keeper.now) plan.now }
     ensures block { IfOk result (λ block. AnswersPlan keeper.now number plan.now block.items) }
-    ensures ended { IfErr result (λ e. e ≡ Ended.OutOfMemory) }
+    ensures ended { IfErr result (λ e. (e ≡ Ended.NoWorker) ⊎ (e ≡ Ended.OutOfMemory)) }
 {
     let how = setup.how;
     let Ok(snapshot) = keeper.snapshot() else {
         return Err(Ended::OutOfMemory);
     };
     let cutting = how.cutting();
-    let Ok(text) = answer(
+    let text = match answer(
+        setup.rt,
         setup.alloc,
         &snapshot,
         plan,
         how.workers(),
         &cutting,
         setup.gate,
-    ) else {
-        return Err(Ended::OutOfMemory);
+    ) {
+        Ok(text) => text,
+        Err(Refused::NoWorker) => return Err(Ended::NoWorker),
+        Err(_) => return Err(Ended::OutOfMemory),
     };
     report_block(setup.alloc, number, snapshot.edition(), text.as_slice())
 }

@@ -1,7 +1,7 @@
 //! Runs a script: one keeper, line after line, and a block of output for each line that has one.
-ghost use Rattle.std.specs.Prelude.{◌≡◌, ◌+◌, ◌<◌, ◌≤◌, ◌^◌, [], length};
+ghost use Rattle.std.specs.Prelude.{◌≡◌, ◌+◌, ◌<◌, ◌≤◌, ◌^◌, [], length, IsErrOf};
 ghost use Rattle.std.specs.Str.Lines.{lines};
-ghost use Rattle.olap.specs.Endings.{Delivers};
+ghost use Rattle.olap.specs.Endings.{AsksForReport, Delivers};
 ghost use Rattle.olap.specs.Givens.{givens};
 ghost use Rattle.olap.specs.Hows.{hash_of_choice};
 ghost use Rattle.olap.specs.Limits.{script_limit};
@@ -19,18 +19,27 @@ use crate::lines::lines_of;
 use crate::step::{Line, Setup, execute};
 use board::Keeper;
 use cells::{Cell, Fnv, KeyHash, Plain, Refused, Tuple};
+use crew::Gate;
 use query::each_text_has_an_answer;
-use report::{Gate, Out, write_whole};
+use report::{Out, write_whole};
 use std::alloc::Global;
+use std::sync::Wait;
+use std::thread::Threads;
 
 /// Runs a script. Where it answers Ok, the bytes that the writer took in the call are the script's output:
 /// each report is that of the rows that stood published at its line, whatever later lines change.
 ///
 /// Where it ends early, a beginning of its output was taken: [`Ended::OutOfMemory`] where a growth was
-/// refused, [`Ended::WriteFailed`] where the writer failed in the call. A script of more than
-/// 1,048,576 bytes and more than 64 parts are refused as a whole: the output is `line 0 refused 15`.
-/// The parts have no effect yet. `gate` is told of each publish and of each piece of a report.
-pub fn run<H: KeyHash<Cell> + KeyHash<Tuple>, O: Out, G: Gate>(
+/// refused, [`Ended::NoWorker`] where the thread of a report's worker could not be started, which a script
+/// that asks for no report does not meet, and [`Ended::WriteFailed`] where the writer failed in the call. A
+/// script of more than 1,048,576 bytes and more than 64 parts are refused as a whole: the output is
+/// `line 0 refused 15`. The parts have no effect yet.
+///
+/// `rt` starts a thread for each worker of a report, all of which are joined before the report's block is
+/// written. `gate` is told of each publish by the thread that calls, and of each piece of a report by the worker
+/// that drew it.
+pub fn run<H: KeyHash<Cell> + KeyHash<Tuple> + Send + Sync, O: Out, G: Gate, R: Threads + Wait>(
+    rt: &R,
     alloc: Global,
     script: &[u8],
     parts: &[Vec<u8>],
@@ -39,22 +48,25 @@ pub fn run<H: KeyHash<Cell> + KeyHash<Tuple>, O: Out, G: Gate>(
     out: &mut O,
 ) -> Result<(), Ended>
     requires { O.faults out.old + 1 < 2 ^ 64 }
-    ensures { Delivers O.taken O.faults out.old out.new (IsOutput H.KeyHash-1.hash_of (givens how.now.rows parts.now) script.now) result }
+    ensures delivered { Delivers O.taken O.faults out.old out.new (IsOutput H.KeyHash-1.hash_of (givens how.now.rows parts.now) script.now) result }
+    ensures worker { IsErrOf result Ended.NoWorker → AsksForReport (givens how.now.rows parts.now) (lines script.now) }
 {
     if script.len() > MAX_SCRIPT_BYTES || parts.len() > MAX_PARTS {
         return write_refusal(alloc, out);
     }
     let setup = Setup {
+        rt,
         alloc,
         how,
         parts,
         gate,
     };
-    run_lines::<H, O, G>(&setup, script, out)
+    run_lines::<H, O, G, R>(&setup, script, out)
 }
 
 /// [`run`] with the hash of this choice. Only the blocks of shapes depend on it.
-pub fn run_by<O: Out, G: Gate>(
+pub fn run_by<O: Out, G: Gate, R: Threads + Wait>(
+    rt: &R,
     alloc: Global,
     hash: HashChoice,
     script: &[u8],
@@ -64,32 +76,34 @@ pub fn run_by<O: Out, G: Gate>(
     out: &mut O,
 ) -> Result<(), Ended>
     requires { O.faults out.old + 1 < 2 ^ 64 }
-    ensures { Delivers O.taken O.faults out.old out.new (IsOutput (hash_of_choice hash) (givens how.now.rows parts.now) script.now) result }
+    ensures delivered { Delivers O.taken O.faults out.old out.new (IsOutput (hash_of_choice hash) (givens how.now.rows parts.now) script.now) result }
+    ensures worker { IsErrOf result Ended.NoWorker → AsksForReport (givens how.now.rows parts.now) (lines script.now) }
 {
     match hash {
-        HashChoice::Fnv => run::<Fnv, O, G>(alloc, script, parts, how, gate, out),
-        HashChoice::Plain => run::<Plain, O, G>(alloc, script, parts, how, gate, out),
+        HashChoice::Fnv => run::<Fnv, O, G, R>(rt, alloc, script, parts, how, gate, out),
+        HashChoice::Plain => run::<Plain, O, G, R>(rt, alloc, script, parts, how, gate, out),
     }
 }
 
 /// Runs the lines of a script that is not too long. The keeper is made by a line and is owned here,
 /// so that it ends in one place, on every way out.
-fn run_lines<H: KeyHash<Cell> + KeyHash<Tuple>, O: Out, G: Gate>(
-    setup: &Setup<'_, G>,
+fn run_lines<H: KeyHash<Cell> + KeyHash<Tuple> + Send + Sync, O: Out, G: Gate, R: Threads + Wait>(
+    setup: &Setup<'_, R, G>,
     script: &[u8],
     out: &mut O,
 ) -> Result<(), Ended>
     requires faults { O.faults out.old + 1 < 2 ^ 64 }
     requires short { length script.now ≤ script_limit }
-    ensures { Delivers O.taken O.faults out.old out.new (AreBlocks H.KeyHash-1.hash_of (givens setup.now.how.now.rows setup.now.parts.now) [] (lines script.now)) result }
+    ensures delivered { Delivers O.taken O.faults out.old out.new (AreBlocks H.KeyHash-1.hash_of (givens setup.now.how.now.rows setup.now.parts.now) [] (lines script.now)) result }
+    ensures worker { IsErrOf result Ended.NoWorker → AsksForReport (givens setup.now.how.now.rows setup.now.parts.now) (lines script.now) }
 {
     let mut desk: Option<Keeper<H>> = None;
     run_at(setup, script, &mut desk, out)
 }
 
 /// The same at a desk where there is no keeper yet.
-fn run_at<H: KeyHash<Cell> + KeyHash<Tuple>, O: Out, G: Gate>(
-    setup: &Setup<'_, G>,
+fn run_at<H: KeyHash<Cell> + KeyHash<Tuple> + Send + Sync, O: Out, G: Gate, R: Threads + Wait>(
+    setup: &Setup<'_, R, G>,
     script: &[u8],
     desk: &mut Option<Keeper<H>>,
     out: &mut O,
@@ -97,7 +111,8 @@ fn run_at<H: KeyHash<Cell> + KeyHash<Tuple>, O: Out, G: Gate>(
     requires faults { O.faults out.old + 1 < 2 ^ 64 }
     requires short { length script.now ≤ script_limit }
     requires fresh { IsFresh desk.old }
-    ensures { Delivers O.taken O.faults out.old out.new (AreBlocks H.KeyHash-1.hash_of (givens setup.now.how.now.rows setup.now.parts.now) [] (lines script.now)) result }
+    ensures delivered { Delivers O.taken O.faults out.old out.new (AreBlocks H.KeyHash-1.hash_of (givens setup.now.how.now.rows setup.now.parts.now) [] (lines script.now)) result }
+    ensures worker { IsErrOf result Ended.NoWorker → AsksForReport (givens setup.now.how.now.rows setup.now.parts.now) (lines script.now) }
 {
     // The law by which what was written is a beginning of an output, where a line ends the run; it does
     // nothing.
@@ -117,7 +132,8 @@ fn run_at<H: KeyHash<Cell> + KeyHash<Tuple>, O: Out, G: Gate>(
 #[tactic(auto, using(report::specs::Laws::takes_nothing))]
 fn write_refusal<O: Out>(alloc: Global, out: &mut O) -> Result<(), Ended>
     requires { O.faults out.old + 1 < 2 ^ 64 }
-    ensures { Delivers O.taken O.faults out.old out.new (λ bytes. bytes ≡ refusal 0 (AtLine Refused.Limit)) result }
+    ensures delivered { Delivers O.taken O.faults out.old out.new (λ bytes. bytes ≡ refusal 0 (AtLine Refused.Limit)) result }
+    ensures worker { IsErrOf result Ended.NoWorker → ⊥ }
 {
     let refusal = refusal_block(alloc, 0, Fault::Line(Refused::Limit))?;
     let Ok(()) = write_whole(out, refusal.as_slice()) else {

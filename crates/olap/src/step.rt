@@ -4,8 +4,10 @@ ghost use Rattle.std.specs.FinMap.{remove};
 ghost use Rattle.cells.specs.Fitting.{IsRowOf};
 ghost use Rattle.board.specs.Editions.{ChangesDraft, Publishes};
 ghost use Rattle.board.specs.Editions as editions;
+ghost use Rattle.olap.specs.Deeds.{deed};
+ghost use Rattle.olap.specs.Endings.{EndsAt};
 ghost use Rattle.olap.specs.Givens.{givens};
-ghost use Rattle.olap.specs.Stands.{Executes, Publishable, PutsRow};
+ghost use Rattle.olap.specs.Stands.{Executes, Publishable, PutsRow, schema_of_desk};
 
 use crate::block::{refusal_block, shape_block};
 use crate::ended::Ended;
@@ -15,13 +17,17 @@ use crate::reporting::execute_report;
 use crate::statement::{Statement, read_first, read_statement};
 use board::{Keeper, rows_have_the_shape_of_their_keys};
 use cells::{Cell, KeyHash, Row, Tuple};
-use report::Gate;
+use crew::Gate;
 use std::alloc::Global;
+use std::sync::Wait;
+use std::thread::Threads;
 
-/// What each line is run with: where memory comes from, how the run is made, the parts, which no command
-/// reads yet, and who is told of each publish and of a report's pieces.
+/// What each line is run with: where the threads of a report's workers come from, where memory comes from, how
+/// the run is made, the parts, which no command reads yet, and who is told of each publish and of a report's
+/// pieces.
 #[derive(Drop)]
-pub struct Setup<'a, G: Gate> {
+pub struct Setup<'a, R, G: Gate> {
+    pub rt: &'a R,
     pub alloc: Global,
     pub how: &'a How,
     pub parts: &'a [Vec<u8>],
@@ -35,15 +41,16 @@ pub struct Line<'a> {
     pub bytes: &'a [u8],
 }
 
-/// Does what a line says, and gives the line's block.
-pub fn execute<H: KeyHash<Cell> + KeyHash<Tuple>, G: Gate>(
-    setup: &Setup<'_, G>,
+/// Does what a line says, and gives the line's block. Any line may end the run with [`Ended::OutOfMemory`], and a
+/// report with [`Ended::NoWorker`], too.
+pub fn execute<H: KeyHash<Cell> + KeyHash<Tuple> + Send + Sync, G: Gate, R: Threads + Wait>(
+    setup: &Setup<'_, R, G>,
     desk: &mut Option<Keeper<H>>,
     line: Line<'_>,
 ) -> Result<Vec<u8>, Ended>
     requires publishable { Publishable desk.old }
     ensures step { IfOk result (λ block. Executes H.KeyHash-1.hash_of (givens setup.now.how.now.rows setup.now.parts.now) line.entry.bytes.now line.entry.number desk.old desk.new block.items) }
-    ensures ended { IfErr result (λ e. e ≡ Ended.OutOfMemory) }
+    ensures ended { IfErr result (EndsAt (deed (givens setup.now.how.now.rows setup.now.parts.now).parts (schema_of_desk desk.old) line.entry.bytes.now)) }
 {
     if let Some(keeper) = desk {
         return execute_kept(setup, keeper, line);
@@ -55,8 +62,8 @@ pub fn execute<H: KeyHash<Cell> + KeyHash<Tuple>, G: Gate>(
 
 /// The same before there is a table.
 #[tactic(auto, using(crate::proofs::StepsLemmas::executes_nothing, crate::proofs::StepsLemmas::executes_refused))]
-fn execute_first<H: KeyHash<Cell>, G: Gate>(
-    setup: &Setup<'_, G>,
+fn execute_first<H: KeyHash<Cell>, G: Gate, R>(
+    setup: &Setup<'_, R, G>,
     line: Line<'_>,
 ) -> Result<(Option<Keeper<H>>, Vec<u8>), Ended>
     ensures step { IfOk result (λ r. Executes H.hash_of (givens setup.now.how.now.rows setup.now.parts.now) line.entry.bytes.now line.entry.number None r.0 r.1.items) }
@@ -78,14 +85,14 @@ fn execute_first<H: KeyHash<Cell>, G: Gate>(
 
 /// The same once there is a table.
 #[tactic(auto, using(crate::proofs::StepsLemmas::executes_nothing, crate::proofs::StepsLemmas::executes_refused, crate::proofs::StepsLemmas::executes_report, crate::proofs::StepsLemmas::executes_put, crate::proofs::StepsLemmas::executes_overflow, crate::proofs::StepsLemmas::executes_publish, crate::proofs::StepsLemmas::executes_delete))]
-fn execute_kept<H: KeyHash<Cell> + KeyHash<Tuple>, G: Gate>(
-    setup: &Setup<'_, G>,
+fn execute_kept<H: KeyHash<Cell> + KeyHash<Tuple> + Send + Sync, G: Gate, R: Threads + Wait>(
+    setup: &Setup<'_, R, G>,
     keeper: &mut Keeper<H>,
     line: Line<'_>,
 ) -> Result<Vec<u8>, Ended>
     requires { editions.edition keeper.old + 1 < 2 ^ 64 }
     ensures step { IfOk result (λ block. Executes H.KeyHash-1.hash_of (givens setup.now.how.now.rows setup.now.parts.now) line.entry.bytes.now line.entry.number (Some keeper.old) (Some keeper.new) block.items) }
-    ensures ended { IfErr result (λ e. e ≡ Ended.OutOfMemory) }
+    ensures ended { IfErr result (EndsAt (deed (givens setup.now.how.now.rows setup.now.parts.now).parts (Some (editions.schema keeper.old)) line.entry.bytes.now)) }
 {
     let alloc = setup.alloc;
     match read_statement(alloc, keeper.schema(), setup.parts, line.bytes) {

@@ -1,4 +1,3 @@
-pub mod GatheringLemmas
 pub mod PiecesLemmas
 pub mod TableRowsLemmas
 pub mod WritingLemmas

@@ -1,9 +1,9 @@
 -- The rows of the pieces of a trie are those of its map.
-use Rattle.std.proofs.Common.{◌≡◌, List, [], ◌∷◌, ◌++◌, length, refl, sym, ap, ◌∙◌}
+use Rattle.std.proofs.Common.{◌≡◌, ◌≤◌, ℕ, List, [], ◌∷◌, ◌++◌, length, refl, sym, ap, ◌∙◌, arith}
 use Rattle.std.specs.FinMap.{get, len}
 use Rattle.std.specs.List.{AllByRecursion, flat_map}
 use Rattle.std.specs.List.Sorted.{IsPermutation}
-use Rattle.std.proofs.lemmas.List.{length-map, map-append}
+use Rattle.std.proofs.lemmas.List.{length-append, length-map, map-append}
 use Rattle.std.proofs.lemmas.List.Sorted.{IsPermutation-map}
 use Rattle.board.specs.Editions.{AreRowsOf, Rows}
 use Rattle.cells.specs.CellOrder.{cell_cmp, cell_cmp-total}
@@ -13,9 +13,11 @@ use Rattle.cells.specs.Tables.{keyed_rows, table}
 use Rattle.cells.specs.Updates.{AreLeft}
 use Rattle.cells.specs.Values.{Entry, Table}
 use Rattle.cells.specs.declared.cell.Cell.{Cell}
+use Rattle.crew.specs.Gathering.{PieceValue, rows_in}
 use Rattle.groups.specs.Partials.{rows_of}
+use Rattle.trie.specs.Cuts.{IsPart}
 use Rattle.trie.specs.Maps.{map_of}
-use Rattle.report.specs.Pieces.{HoldRows, rows_in}
+use Rattle.report.specs.Pieces.{HoldRows}
 use Rattle.report.proofs.TableRowsLemmas.{each_held, same_map_moves}
 
 rows_of_keyed : (rs : List Entry) → rows_of (keyed_rows rs) ≡ rs
@@ -27,9 +29,20 @@ once : (rs : List Entry) → AreLeft rs → len (table rs) ≡ length (keyed_row
 once rs left = len_left rs left ∙ sym (length-map rs (λ r. (r.key, r)))
 
 -- the rows of entries that stand in pieces
-rows_joined : (pieces : List (List (Cell × Entry))) → rows_of (flat_map (λ piece. piece) pieces) ≡ rows_in pieces
+rows_joined : (pieces : List PieceValue) → rows_of (flat_map (λ piece. piece) pieces) ≡ rows_in pieces
 rows_joined [] = refl
 rows_joined (piece ∷ pieces) = map-append (λ e. e.1) piece (flat_map (λ p. p) pieces) ∙ ap (λ rest. rows_of piece ++ rest) (rows_joined pieces)
+
+-- pieces that have entries are no more than their rows
+few_pieces : (hash : Cell → ℕ) (es : List (Cell × Entry)) (pieces : List PieceValue) → AllByRecursion (IsPart hash es) pieces → length pieces ≤ length (rows_in pieces)
+few_pieces hash es [] parts = omega arith
+few_pieces hash es (piece ∷ pieces) parts = omega (
+  arith,
+  parts.0.some,
+  few_pieces hash es pieces parts.1,
+  length-append (rows_of piece) (rows_in pieces),
+  length-map piece (λ (e : Cell × Entry). e.1),
+)
 
 -- what holds of the rows of entries
 all_rows : (P : Entry → Type 0) (es : List (Cell × Entry)) → AllByRecursion (λ e. P e.1) es → AllByRecursion P (rows_of es)
@@ -47,11 +60,12 @@ module _ (rows : Rows) (es : List (Cell × Entry)) (is : map_of cell_cmp es ≡ 
       (each_held cell_cmp-total (λ e. IsRowOf t e.1) es es_once (λ k r found. are.fit k r (ap (λ (m : Rows). get m k) (sym is) ∙ found)))
 
   -- pieces that are the entries, joined in order
-  pub hold_rows : (pieces : List (List (Cell × Entry))) → flat_map (λ piece. piece) pieces ≡ es → HoldRows rows pieces
-  hold_rows pieces joined =
+  pub hold_rows : (hash : Cell → ℕ) (pieces : List PieceValue) → AllByRecursion (IsPart hash es) pieces → flat_map (λ piece. piece) pieces ≡ es → HoldRows rows pieces
+  hold_rows hash pieces parts joined =
       let same : rows_of es ≡ rows_in pieces = ap rows_of (sym joined) ∙ rows_joined pieces in
       record {
         each = λ rs left alike. rw same at (entries_each rs left alike);
         fit = λ t are. rw same at (entries_fit t are);
         count = ap length (sym same) ∙ length-map es (λ e. e.1) ∙ sym es_once ∙ ap (λ (m : Rows). len m) is;
+        few = few_pieces hash es pieces parts;
       }

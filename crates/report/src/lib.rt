@@ -1,9 +1,8 @@
-//! Reports: the answer of a plan on a snapshot as a text, writers that may fail and are told of it, the one loop that
-//! writes, and the gates by which tests hold and watch a run.
+//! Reports: the answer of a plan on a snapshot as a text, writers that may fail and are told of it, and the one loop
+//! that writes.
 #![tactic(auto)]
 
 mod answering;
-mod gate;
 mod limits;
 mod out;
 mod pour;
@@ -11,7 +10,6 @@ mod printing;
 mod tape;
 
 pub use answering::answer;
-pub use gate::{Gate, Open};
 pub use limits::MAX_WORKERS;
 pub use out::{Out, OutFault, write_whole};
 pub use pour::Pour;

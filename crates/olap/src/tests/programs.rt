@@ -6,7 +6,9 @@ use crate::input::{Folder, Unread};
 use crate::program::{run_standard_input, run_words};
 use std::alloc::{AllocError, Global};
 use std::io::BufWriter;
+use std::sync::Wait;
 use std::test::Fail;
+use std::thread::Threads;
 
 const SCRIPT: &str = "table T (K INT KEY)\nput 1\npublish\nreport SELECT COUNT(*) FROM T\n";
 
@@ -63,11 +65,11 @@ const LINES: [Row; 6] = [
 ];
 
 /// Whether the words are run as the row says.
-fn is_run(alloc: Global, row: &Row) -> Result<bool, Fail> {
+fn is_run<R: Threads + Wait>(rt: &R, alloc: Global, row: &Row) -> Result<bool, Fail> {
     let given = words_of(alloc, row.0)?;
     let mut err = Vec::with_capacity(alloc, 256)?;
     let out = BufWriter::new(alloc, Vec::new(alloc))?;
-    let (status, out) = run_words(alloc, given.as_slice(), &Shelf { alloc }, out, &mut err);
+    let (status, out) = run_words(rt, alloc, given.as_slice(), &Shelf { alloc }, out, &mut err);
     if status != row.1 {
         return Ok(false);
     }
@@ -80,7 +82,7 @@ fn is_run(alloc: Global, row: &Row) -> Result<bool, Fail> {
 #[test]
 fn words_are_run(rt: HostRuntime) -> Result<(), Fail> {
     for row in &LINES {
-        assert!(rt; is_run(rt.alloc(), row)?, "{}", row.0);
+        assert!(rt; is_run(&rt, rt.alloc(), row)?, "{}", row.0);
     }
     Ok(())
 }
@@ -89,7 +91,7 @@ fn words_are_run(rt: HostRuntime) -> Result<(), Fail> {
 fn standard_input_is_run(rt: HostRuntime) -> Result<(), Fail> {
     let mut err = Vec::new(rt.alloc());
     let out = BufWriter::new(rt.alloc(), Vec::new(rt.alloc()))?;
-    let (status, out) = run_standard_input(rt.alloc(), SCRIPT.as_bytes(), out, &mut err);
+    let (status, out) = run_standard_input(&rt, rt.alloc(), SCRIPT.as_bytes(), out, &mut err);
     assert_eq!(rt; status, 0);
     assert_eq!(rt; out.get_ref().as_slice(), COUNTED.as_bytes());
     assert!(rt; err.is_empty());

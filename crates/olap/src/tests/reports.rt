@@ -22,8 +22,13 @@ const REPORTS: [Row; 3] = [
 
 #[test]
 fn reports_are_grouped_or_refused(rt: HostRuntime) -> Result<(), Fail> {
-    let alloc = rt.alloc();
-    assert_eq!(rt; first_wrong::<Fnv>(alloc, 9, REPORTS.as_slice())?, None);
-    assert_eq!(rt; first_wrong::<Plain>(alloc, 9, REPORTS.as_slice())?, None);
+    assert_eq!(rt;
+        first_wrong::<Fnv, _>(&rt, rt.alloc(), 9, REPORTS.as_slice())?,
+        None
+    );
+    assert_eq!(rt;
+        first_wrong::<Plain, _>(&rt, rt.alloc(), 9, REPORTS.as_slice())?,
+        None
+    );
     Ok(())
 }

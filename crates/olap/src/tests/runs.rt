@@ -4,8 +4,11 @@ use crate::ended::Ended;
 use crate::how::How;
 use crate::run::run;
 use cells::{Cell as Key, KeyHash, Tuple};
-use report::{Open, Pour};
+use crew::Open;
+use report::Pour;
 use std::alloc::Global;
+use std::sync::Wait;
+use std::thread::Threads;
 use trie::Cutting;
 
 /// A script and what it writes.
@@ -14,7 +17,8 @@ pub(super) type Row = (&'static [u8], &'static str);
 pub(super) const CUTTING: Cutting = Cutting { depth: 1, small: 0 };
 
 /// Whether a script writes this, with so many rows at most. Want of memory is an error.
-pub(super) fn writes<H: KeyHash<Key> + KeyHash<Tuple>>(
+pub(super) fn writes<H: KeyHash<Key> + KeyHash<Tuple> + Send + Sync, R: Threads + Wait>(
+    rt: &R,
     alloc: Global,
     script: &[u8],
     parts: &[Vec<u8>],
@@ -25,18 +29,19 @@ pub(super) fn writes<H: KeyHash<Key> + KeyHash<Tuple>>(
         return Ok(false);
     };
     let mut out = Pour::new(Vec::new(alloc));
-    run::<H, _, _>(alloc, script, parts, &how, &Open, &mut out)?;
+    run::<H, _, _, _>(rt, alloc, script, parts, &how, &Open, &mut out)?;
     Ok(out.into_inner().as_slice() == wanted.as_bytes())
 }
 
 /// The first place of the table whose script writes something else.
-pub(super) fn first_wrong<H: KeyHash<Key> + KeyHash<Tuple>>(
+pub(super) fn first_wrong<H: KeyHash<Key> + KeyHash<Tuple> + Send + Sync, R: Threads + Wait>(
+    rt: &R,
     alloc: Global,
     rows: u64,
     table: &[Row],
 ) -> Result<Option<usize>, Ended> {
     for (place, (script, wanted)) in table.iter().enumerate() {
-        if !writes::<H>(alloc, script, &[], rows, wanted)? {
+        if !writes::<H, R>(rt, alloc, script, &[], rows, wanted)? {
             return Ok(Some(place));
         }
     }

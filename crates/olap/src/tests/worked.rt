@@ -4,15 +4,18 @@ use crate::ended::Ended;
 use crate::how::How;
 use crate::run::run;
 use cells::{Cell as Key, Fnv, KeyHash, Plain, Tuple};
-use report::{Open, Pour};
+use crew::Open;
+use report::Pour;
 use std::alloc::Global;
+use std::sync::Wait;
 use std::test::Fail;
+use std::thread::Threads;
 use trie::Cutting;
 
 /// A script's lines before its report, the report's query, and what the script writes.
 type Report = (&'static [u8], &'static [u8], &'static str);
 
-const SALES: &[u8] = b"table SALES (ID INT KEY, REGION TEXT, ITEM TEXT, UNITS INT)
+pub(super) const SALES: &[u8] = b"table SALES (ID INT KEY, REGION TEXT, ITEM TEXT, UNITS INT)
 put 1,north,pen,10
 put 2,north,ink,
 put 3,,pen,5
@@ -49,7 +52,7 @@ put 1,,3,,5,,7,,9,,11,,13,,15,
 publish
 report ";
 
-const BY_REGION: &[u8] =
+pub(super) const BY_REGION: &[u8] =
     b"SELECT REGION, GROUPING(REGION), COUNT(*), COUNT(UNITS), SUM(UNITS) FROM SALES GROUP BY ROLLUP(REGION)";
 
 const REPORTS: [Report; 21] = [
@@ -157,7 +160,8 @@ const REPORTS: [Report; 21] = [
 ];
 
 /// Whether a script that ends in this report writes this.
-fn answers<H: KeyHash<Key> + KeyHash<Tuple>>(
+fn answers<H: KeyHash<Key> + KeyHash<Tuple> + Send + Sync, R: Threads + Wait>(
+    rt: &R,
     alloc: Global,
     depth: u8,
     report: &Report,
@@ -169,17 +173,18 @@ fn answers<H: KeyHash<Key> + KeyHash<Tuple>>(
     let mut script = Vec::from_slice(alloc, report.0)?;
     script.extend_from_slice(report.1)?;
     let mut out = Pour::new(Vec::new(alloc));
-    run::<H, _, _>(alloc, script.as_slice(), &[], &how, &Open, &mut out)?;
+    run::<H, _, _, _>(rt, alloc, script.as_slice(), &[], &how, &Open, &mut out)?;
     Ok(out.into_inner().as_slice() == report.2.as_bytes())
 }
 
 /// The first report of the table that is answered otherwise.
-fn first_other<H: KeyHash<Key> + KeyHash<Tuple>>(
+fn first_other<H: KeyHash<Key> + KeyHash<Tuple> + Send + Sync, R: Threads + Wait>(
+    rt: &R,
     alloc: Global,
     depth: u8,
 ) -> Result<Option<usize>, Ended> {
     for (place, report) in REPORTS.iter().enumerate() {
-        if !answers::<H>(alloc, depth, report)? {
+        if !answers::<H, R>(rt, alloc, depth, report)? {
             return Ok(Some(place));
         }
     }
@@ -188,10 +193,9 @@ fn first_other<H: KeyHash<Key> + KeyHash<Tuple>>(
 
 #[test]
 fn reports_have_these_bytes(rt: HostRuntime) -> Result<(), Fail> {
-    let alloc = rt.alloc();
     for depth in [0, 1, 16] {
-        assert_eq!(rt; first_other::<Fnv>(alloc, depth)?, None);
-        assert_eq!(rt; first_other::<Plain>(alloc, depth)?, None);
+        assert_eq!(rt; first_other::<Fnv, _>(&rt, rt.alloc(), depth)?, None);
+        assert_eq!(rt; first_other::<Plain, _>(&rt, rt.alloc(), depth)?, None);
     }
     Ok(())
 }
