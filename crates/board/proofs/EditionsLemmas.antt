@@ -4,7 +4,7 @@ use Rattle.std.specs.FinMap.{contains_key, empty, get, insert, len, len-empty, l
 use Rattle.cells.specs.CellOrder.{cell_cmp, cell_cmp-total}
 use Rattle.cells.specs.Values.{Entry}
 use Rattle.cells.specs.declared.cell.Cell.{Cell}
-use Rattle.board.specs.Editions.{Rows}
+use Rattle.cells.specs.Tables.{Rows}
 
 -- no rows keep any limit
 pub empty_within : (rows : Rows) (most : ℕ) → rows ≡ empty → len rows ≤ most

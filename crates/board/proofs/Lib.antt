@@ -1,3 +1,3 @@
 pub mod EditionsLemmas
-pub mod FittingLemmas
+pub mod OverLemmas
 pub mod ShapesLemmas

@@ -1,23 +1,11 @@
 -- What a keeper holds, and how its calls change it. These words name no list and no root.
-use Rattle.std.specs.Prelude.{◌≡◌, ℕ, ◌+◌, ◌≤◌, Some, refl}
+use Rattle.std.specs.Prelude.{◌≡◌, ℕ, ◌+◌, ◌≤◌, refl}
 use Rattle.std.specs.Coded.{Coded, code_by, coded×, coded_ℕ}
-use Rattle.std.specs.FinMap.{FinMap}
 use Rattle.std.specs.FinMap as map
-use Rattle.cells.specs.CellOrder.{cell_cmp}
 use Rattle.cells.specs.Codes.{coded_cell, coded_row, coded_table}
-use Rattle.cells.specs.Fitting.{IsRowOf}
-use Rattle.cells.specs.Values.{Entry, Table}
-use Rattle.cells.specs.declared.cell.Cell.{Cell}
+use Rattle.cells.specs.Tables.{AreRowsOf, Rows}
+use Rattle.cells.specs.Values.{Table}
 use Rattle.board.specs.Limits.{row_limit}
-
--- a row at each key that has one
-abbrev pub Rows : Type 0
-Rows = FinMap cell_cmp Entry
-
--- each row stands at its own key, and may stand in the table
-pub record AreRowsOf (table : Table) (rows : Rows) : Type 0 where
-  pub keyed : (key : Cell) (row : Entry) → map.get rows key ≡ Some row → row.key ≡ key
-  pub fit : (key : Cell) (row : Entry) → map.get rows key ≡ Some row → IsRowOf table row
 
 -- an edition: its number, its rows, and the schema of its table
 pub record Edition : Type 0 where

@@ -1,24 +1,28 @@
 //! The keeper, who alone changes the table.
 ghost use Rattle.std.specs.Prelude.{◌≡◌, ◌+◌, ◌<◌, ◌≤◌, ◌^◌, ◌⊎◌, ◌↔◌, IfOk, IfErr, IsErrOf, IsTrue, OnErr, OnOk};
 ghost use Rattle.std.specs.FinMap as map;
+ghost use Rattle.cells.specs.CellOrder.{cell_cmp};
 ghost use Rattle.cells.specs.Fitting.{IsRowOf};
+ghost use Rattle.cells.specs.Tables.{AreRowsOf, laid_over};
 ghost use Rattle.cells.specs.Values.{Entry};
-ghost use Rattle.board.specs.Editions.{AreRowsOf, Begins, ChangesDraft, Publishes, draft, edition, limit, published, schema};
+ghost use Rattle.trie.specs.Maps.{map_of};
+ghost use Rattle.board.specs.Editions.{Begins, ChangesDraft, Publishes, draft, edition, limit, published, schema};
 ghost use Rattle.board.specs.Limits.{place_limit, row_limit};
 
 use crate::root::Root;
 use crate::snapshot::Snapshot;
-use cells::{Cell, KeyHash, Refused, Row, Schema};
+use cells::{Cell, KeyHash, Refused, Row, Schema, later_puts_lie_over};
 use std::alloc::Global;
 use std::marker::Model;
 use std::sync::Arc;
+use trie::{Trie, entries_are_a_map};
 
 /// Holds a draft, which updates change, and the last published edition. A report never reads the
 /// draft: it takes a [`Snapshot`] of what was published.
 ///
 /// After a refusal the keeper is what it was. The only refusals are [`Refused::TooManyRows`] of
-/// [`put`](Keeper::put), and [`Refused::OutOfMemory`] where a growth, or one owner more, was
-/// really refused.
+/// [`put`](Keeper::put) and [`absorb`](Keeper::absorb), and [`Refused::OutOfMemory`] where a growth, or
+/// one owner more, was really refused.
 #[derive(Drop)]
 pub struct Keeper<H: KeyHash<Cell>> {
     draft: Root<H>,
@@ -80,6 +84,32 @@ impl<H: KeyHash<Cell>> Keeper<H> {
             return Ok(());
         }
         Err(Refused::TooManyRows)
+    }
+
+    /// Lays all rows of a trie over the draft, as many puts of them would: each takes the place of the row of
+    /// its key, where there is one. They have to be rows of the table, each under its key, as a part's are
+    /// when it is loaded.
+    ///
+    /// [`Refused::TooManyRows`] exactly where the draft would have more rows than the limit.
+    pub fn absorb(&mut self, rows: Trie<Cell, Row, H>) -> Result<(), Refused>
+        requires rows { AreRowsOf (schema self.old) (map_of cell_cmp rows) }
+        ensures draft { OnOk result (ChangesDraft self.old self.new (laid_over (map_of cell_cmp rows) (draft self.old))) }
+        ensures within { OnOk result (map.len (draft self.new) ≤ limit self.old) }
+        ensures full { IsErrOf result Refused.TooManyRows → limit self.old < map.len (laid_over (map_of cell_cmp rows) (draft self.old)) }
+        ensures refused { IfErr result (λ e. (e ≡ Refused.TooManyRows) ⊎ (e ≡ Refused.OutOfMemory)) }
+        ensures unchanged { OnErr result (self.new ≡ self.old) }
+    {
+        // The law by which rows laid over others are no fewer; it does nothing.
+        later_puts_lie_over();
+        if !is_within(&rows, self.limit) {
+            return Err(Refused::TooManyRows);
+        }
+        let draft = self.draft.with_rows(&rows)?;
+        if draft.len() > self.limit {
+            return Err(Refused::TooManyRows);
+        }
+        self.draft = draft;
+        Ok(())
     }
 
     /// Takes the row of the key out of the draft. A key that is not there changes nothing, and is
@@ -159,4 +189,13 @@ fn has_room<H: KeyHash<Cell>>(draft: &Root<H>, key: &Cell, limit: u64) -> bool
         Some(_) => true,
         None => draft.len() < limit,
     }
+}
+
+/// Whether the rows of a trie are no more than the limit.
+fn is_within<H: KeyHash<Cell>>(rows: &Trie<Cell, Row, H>, limit: u64) -> bool
+    ensures { IsTrue result ↔ (map.len (map_of cell_cmp rows.now) ≤ limit) }
+{
+    entries_are_a_map::<Cell, Row, H>();
+    rows.keys_rise();
+    rows.len() <= limit
 }

@@ -4,13 +4,14 @@ ghost use Rattle.std.specs.Option.{option_copied};
 ghost use Rattle.std.specs.FinMap as map;
 ghost use Rattle.std.specs.Map.{keys_of};
 ghost use Rattle.cells.specs.CellOrder.{cell_cmp};
+ghost use Rattle.cells.specs.Tables.{laid_over};
 ghost use Rattle.trie.specs.Maps.{RiseByHash, map_of};
 ghost use Rattle.trie.specs.Shapes.{shape_of};
 
-use cells::{Cell, KeyHash, Row};
+use cells::{Cell, KeyHash, Row, later_puts_lie_over};
 use std::alloc::{AllocError, Global};
 use std::marker::Model;
-use trie::{Shape, Ticks, Trie, entries_are_a_map, entries_still_rise};
+use trie::{Later, Shape, Ticks, Trie, entries_are_a_map, entries_still_rise};
 
 /// Rows by their keys, which never change once they are made: a trie of the rows. A change makes a new
 /// root, which shares the rows that stay and most of the nodes.
@@ -24,7 +25,8 @@ impl<H: KeyHash<Cell>> Model for Root<H> {
     ghost use Rattle.std.specs.Map.{keys_of};
     ghost use Rattle.cells.specs.CellOrder.{cell_cmp};
     ghost use Rattle.trie.specs.Maps.{RiseByHash, map_of};
-    ghost use Rattle.board.specs.Editions.{Rows, coded_rows};
+    ghost use Rattle.cells.specs.Tables.{Rows};
+    ghost use Rattle.board.specs.Editions.{coded_rows};
 
     ghost Value = { Rows };
 
@@ -36,8 +38,8 @@ impl<H: KeyHash<Cell>> Model for Root<H> {
     ghost invariant = { λ r. RiseByHash H.hash_of cell_cmp (keys_of r.rows) };
 }
 
-// The calls of `entries_are_a_map` and `entries_still_rise` do nothing: they are the trie's laws, by
-// which its entries are a finite map.
+// The calls of `entries_are_a_map`, `entries_still_rise` and `keys_rise` do nothing: they are the trie's laws,
+// by which its entries are a finite map. So does that of `later_puts_lie_over`, the law of rows laid over others.
 impl<H: KeyHash<Cell>> Root<H> {
     /// The rows that a trie holds.
     fn of(alloc: Global, rows: Trie<Cell, Row, H>) -> Root<H>
@@ -79,6 +81,21 @@ impl<H: KeyHash<Cell>> Root<H> {
         entries_still_rise::<Cell, Row, H>();
         let key = row.key().clone()?;
         let rows = self.rows.put(self.alloc, key, row, &mut Ticks::new())?;
+        Ok(Root::of(self.alloc, rows))
+    }
+
+    /// The rows with those of a trie laid over them, which are shared.
+    pub(crate) fn with_rows(&self, later: &Trie<Cell, Row, H>) -> Result<Root<H>, AllocError>
+        requires { map.len self.now + map.len (map_of cell_cmp later.now) < 2 ^ 64 }
+        ensures { IfOk result (λ root. root ≡ laid_over (map_of cell_cmp later.now) self.now) }
+    {
+        entries_are_a_map::<Cell, Row, H>();
+        later_puts_lie_over();
+        later.keys_rise();
+        let rows = self
+            .rows
+            .merge(self.alloc, later, &Later, &mut Ticks::new())?;
+        rows.keys_rise();
         Ok(Root::of(self.alloc, rows))
     }
 

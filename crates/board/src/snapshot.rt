@@ -1,7 +1,8 @@
 //! One published edition, for good.
 ghost use Rattle.std.specs.Prelude.{◌≡◌, ◌≤◌};
 ghost use Rattle.std.specs.FinMap.{len};
-ghost use Rattle.board.specs.Editions.{AreRowsOf, IsEdition};
+ghost use Rattle.cells.specs.Tables.{AreRowsOf};
+ghost use Rattle.board.specs.Editions.{IsEdition};
 ghost use Rattle.board.specs.Limits.{row_limit};
 
 use crate::root::Root;

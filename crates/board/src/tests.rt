@@ -3,7 +3,8 @@
 ghost use Rattle.std.specs.Prelude.{◌≡◌, ◌+◌, ◌<◌, ◌^◌, IfOk};
 ghost use Rattle.std.specs.FinMap as map;
 ghost use Rattle.cells.specs.Fitting.{IsRowOf};
-ghost use Rattle.board.specs.Editions.{AreRowsOf, draft, edition, published, schema};
+ghost use Rattle.cells.specs.Tables.{AreRowsOf};
+ghost use Rattle.board.specs.Editions.{draft, edition, published, schema};
 ghost use Rattle.board.specs.Limits.{place_limit, row_limit};
 
 use crate::{Keeper, MAX_PLACES, MAX_ROWS, Root, Snapshot};

@@ -3,7 +3,7 @@ use Rattle.std.proofs.Common.{arith, refl, ◌≡◌, ◌≢◌, ap, inl, inr, s
 use Rattle.std.proofs.lemmas.Bool.{cases_Bool}
 use Rattle.std.proofs.lemmas.Bool.Decides.{nat_tests}
 use Rattle.std.proofs.lemmas.Option.{unwrap_or-slice_get}
-use Rattle.std.specs.Prelude.{ℤ, pos, neg_ℤ, ℕ, zero, suc, ◌≤◌, Bool, true, false, List, [], ◌∷◌, ⊤, drop, length, nat_le, nat_lt, slice_index_or, Option, Some, None, option_map, option_and_then, unwrap_or}
+use Rattle.std.specs.Prelude.{ℤ, ℕ, zero, suc, ◌≤◌, Bool, true, false, List, [], ◌∷◌, ⊤, drop, length, nat_le, nat_lt, slice_index_or, Option, Some, None, option_map, option_and_then, unwrap_or}
 use Rattle.std.specs.Int.RustNames.{unsigned_abs}
 use Rattle.std.specs.List.{slice_get}
 use Rattle.std.specs.Str.Parse.{starts_with_minus}

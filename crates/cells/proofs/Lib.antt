@@ -8,6 +8,7 @@ pub mod LiteralsLemmas
 pub mod MarksLemmas
 pub mod NamesLemmas
 pub mod NumbersLemmas
+pub mod OverLemmas
 pub mod QuotesLemmas
 pub mod ReadingLemmas
 pub mod RecordsLemmas

@@ -8,6 +8,8 @@ pub mod Limits
 pub mod Literals
 pub mod Reading
 pub mod Records
+pub mod RowReading
+pub mod RowsFit
 pub mod Refusals
 pub mod SameKeys
 pub mod Scanning

@@ -1,5 +1,5 @@
 -- Updates of a table, and the rows that a list of updates leaves.
-use Rattle.std.specs.Prelude.{◌≡◌, Bool, not, false, List, [], ◌∷◌, ◌++◌, filter, if◌then◌else◌}
+use Rattle.std.specs.Prelude.{◌≡◌, Bool, not, false, List, [], ◌∷◌, ◌++◌, filter, map, if◌then◌else◌}
 use Rattle.std.specs.List.{list_any}
 use Rattle.cells.specs.CellOrder.{cell_eq}
 use Rattle.cells.specs.Values.{Entry}
@@ -9,6 +9,10 @@ use Rattle.cells.specs.declared.cell.Cell.{Cell}
 pub data Update : Type 0 where
   Put : (row : Entry) → Update
   Delete : (key : Cell) → Update
+
+-- each row is put, one after another
+abbrev pub puts : List Entry → List Update
+puts rs = map Put rs
 
 abbrev pub key_of : Update → Cell
 key_of (Put row) = row.key

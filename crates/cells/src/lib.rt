@@ -23,14 +23,14 @@ pub use integers::whole_number_of;
 pub use limits::{MAX_COLUMNS, MAX_TEXT_BYTES};
 pub use reading::{schema_is_the_one_spelt, tokens_are_those_spelt};
 pub use refused::Refused;
-pub use row::Row;
+pub use row::{Row, RowReader};
 pub use scan::{tokens, tokens_or};
 pub use schema::{Column, ColumnType, Schema, is_reserved};
 pub use text::Text;
 pub use token::{Mark, Token, TokenFault};
 pub use total::{Total, literal};
 pub use tuple::Tuple;
-pub use updates::{updates_leave_the_last_puts, updates_make_a_map};
+pub use updates::{later_puts_lie_over, updates_leave_the_last_puts, updates_make_a_map};
 
 #[cfg(test)]
 mod tests;

@@ -1,16 +1,17 @@
 //! The rows of a table, and how they are read.
-ghost use Rattle.std.specs.Prelude.{◌≡◌, IfOk, map};
+ghost use Rattle.std.specs.Prelude.{◌≡◌, ◌++◌, ◌∷◌, ◌⊎◌, ℕ, List, [], None, IfErr, IfOk, IsErrOf, OnOk, map};
 ghost use Rattle.cells.specs.Fitting.{IsRowOf};
-ghost use Rattle.cells.specs.Refusals.{Answers, AnswersBy};
-ghost use Rattle.cells.specs.Records.{cell_of, cells_of, row_of, text_cell};
+ghost use Rattle.cells.specs.Refusals.{Answers};
+ghost use Rattle.cells.specs.Records.{cell_of, row_of, text_cell};
+ghost use Rattle.cells.specs.RowReading.{HasRead};
 
 use crate::cell::Cell;
 use crate::integers::integer_of;
 use crate::limits::MAX_TEXT_BYTES;
 use crate::refused::Refused;
-use crate::schema::{Column, ColumnType, Schema};
+use crate::schema::{ColumnType, Schema};
 use crate::text::Text;
-use std::alloc::Global;
+use std::alloc::{AllocError, Global};
 use std::marker::Model;
 
 /// A row: a cell for each column, of the column's type or NULL, and no NULL at the key.
@@ -44,12 +45,11 @@ impl Row {
         ensures exact { Answers Refused.BadRecord (row_of schema.now (map (λ f. f.now) fields.now)) result }
         ensures fits { IfOk result (IsRowOf schema.now) }
     {
-        let cells = read_cells(alloc, schema.columns(), fields)?;
-        let key = schema.key();
-        if cells[key].is_null() {
-            return Err(Refused::BadRecord);
+        let mut row = RowReader::new(alloc, schema)?;
+        for field in fields {
+            row.read(field)?;
         }
-        Ok(Row { cells, key })
+        row.finish()
     }
 
     /// The cells, in the order of the columns. It takes no memory.
@@ -67,18 +67,83 @@ impl Row {
     }
 }
 
-/// The cells that the fields spell, one for each column.
-fn read_cells(alloc: Global, columns: &[Column], fields: &[&[u8]]) -> Result<Vec<Cell>, Refused>
-    ensures { AnswersBy (λ v. v.items) Refused.BadRecord (cells_of columns.now (map (λ f. f.now) fields.now)) result }
-{
-    if fields.len() != columns.len() {
-        return Err(Refused::BadRecord);
+impl Clone for Row {
+    ghost is_clone = { λ row copy. copy ≡ row };
+
+    fn clone(&self) -> Result<Row, AllocError> {
+        Ok(Row {
+            cells: self.cells.clone()?,
+            key: self.key,
+        })
     }
-    let mut cells = Vec::new(alloc);
-    for (column, field) in columns.iter().zip(fields) {
-        cells.push(read_cell(alloc, column.kind, field)?)?;
+}
+
+/// A row that is read field by field, so that the fields of a record need not be gathered first.
+#[derive(Drop)]
+pub struct RowReader<'a> {
+    alloc: Global,
+    schema: &'a Schema,
+    cells: Vec<Cell>,
+}
+
+impl<'a> Model for RowReader<'a> {
+    ghost use Rattle.cells.specs.RowReading.{RowStart};
+
+    ghost Value = { RowStart };
+
+    ghost view = { λ r. record { table = r.schema.now; cells = r.cells.items } };
+}
+
+impl<'a> RowReader<'a> {
+    /// A row of the schema's table, of which no field is read yet.
+    pub fn new(alloc: Global, schema: &'a Schema) -> Result<RowReader<'a>, AllocError>
+        ensures table { IfOk result (λ row. row.table ≡ schema.now) }
+        ensures nothing { IfOk result (HasRead []) }
+    {
+        let cells = Vec::with_capacity(alloc, schema.columns().len())?;
+        Ok(RowReader {
+            alloc,
+            schema,
+            cells,
+        })
     }
-    Ok(cells)
+
+    /// Reads the next field, as [`Row::read`] does.
+    ///
+    /// [`Refused::BadRecord`] where no row begins so, whatever fields follow; [`Refused::OutOfMemory`] where a
+    /// growth was refused.
+    pub fn read(&mut self, field: &[u8]) -> Result<(), Refused>
+        ensures table { self.new.table ≡ self.old.table }
+        ensures read { OnOk result ((fields : List (List ℕ)) → HasRead fields self.old → HasRead (fields ++ field.now ∷ []) self.new) }
+        ensures bad { IsErrOf result Refused.BadRecord → (fields more : List (List ℕ)) → HasRead fields self.old → row_of self.old.table (fields ++ field.now ∷ more) ≡ None }
+        ensures refused { IfErr result (λ e. (e ≡ Refused.BadRecord) ⊎ (e ≡ Refused.OutOfMemory)) }
+    {
+        let Some(column) = self.schema.columns().get(self.cells.len()) else {
+            return Err(Refused::BadRecord);
+        };
+        let cell = read_cell(self.alloc, column.kind, field)?;
+        self.cells.push(cell)?;
+        Ok(())
+    }
+
+    /// The row of the fields that were read. It takes no memory.
+    ///
+    /// [`Refused::BadRecord`] exactly where they spell no row: there are too few of them, or the key is NULL.
+    pub fn finish(self) -> Result<Row, Refused>
+        ensures exact { (fields : List (List ℕ)) → HasRead fields self.entry → Answers Refused.BadRecord (row_of self.entry.table fields) result }
+        ensures fits { (fields : List (List ℕ)) → HasRead fields self.entry → IfOk result (IsRowOf self.entry.table) }
+        ensures refused { IfErr result (λ e. e ≡ Refused.BadRecord) }
+    {
+        let RowReader { schema, cells, .. } = self;
+        let key = schema.key();
+        if cells.len() < schema.columns().len() {
+            return Err(Refused::BadRecord);
+        }
+        if cells[key].is_null() {
+            return Err(Refused::BadRecord);
+        }
+        Ok(Row { cells, key })
+    }
 }
 
 /// The cell that a field of a column spells.

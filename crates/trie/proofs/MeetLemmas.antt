@@ -32,12 +32,12 @@ use Rattle.trie.proofs.PlacesLemmas.{child_at, entry_at-below, value_at-below}
 use Rattle.trie.proofs.TreeLemmas.{entries-Bucket, IsNode-Bucket}
 use Rattle.trie.proofs.VariantsLemmas.{branch_in, bucket_in, leaf_in}
 
-read_written : {X : Type 0} (zs : List X) (n : ℕ) (z d : X) → n < length zs → get_or (set zs n z) n d ≡ z
+pub read_written : {X : Type 0} (zs : List X) (n : ℕ) (z d : X) → n < length zs → get_or (set zs n z) n d ≡ z
 read_written [] n z d lt = absurd (omega arith)
 read_written (y ∷ zs) zero z d lt = refl
 read_written (y ∷ zs) (suc n) z d lt = read_written zs n z d (omega arith)
 
-read_other : {X : Type 0} (zs : List X) (n k : ℕ) (z d : X) → (k ≡ n → ⊥) → get_or (set zs n z) k d ≡ get_or zs k d
+pub read_other : {X : Type 0} (zs : List X) (n k : ℕ) (z d : X) → (k ≡ n → ⊥) → get_or (set zs n z) k d ≡ get_or zs k d
 read_other [] n k z d other = refl
 read_other (y ∷ zs) zero zero z d other = absurd (other refl)
 read_other (y ∷ zs) zero (suc k) z d other = refl
@@ -45,7 +45,7 @@ read_other (y ∷ zs) (suc n) zero z d other = refl
 read_other (y ∷ zs) (suc n) (suc k) z d other = read_other zs n k z d (λ e. other (ap suc e))
 
 -- a prefix that digits begin with is their beginning
-starts_is : (prefix ds : List ℕ) → StartsWith prefix ds → prefix ≡ take (length prefix) ds
+pub starts_is : (prefix ds : List ℕ) → StartsWith prefix ds → prefix ≡ take (length prefix) ds
 starts_is [] ds s = refl
 starts_is (p ∷ prefix) [] s = absurd s
 starts_is (p ∷ prefix) (d ∷ ds) s = let rest = starts_is prefix ds s.1 in rw (s.0, ← rest) refl
@@ -93,7 +93,7 @@ most_each f d (x ∷ xs) (y ∷ ys) (z ∷ zs) e g each =
     omega (arith, length-append (f x) (flat_map f xs), length-append (f y) (flat_map f ys), length-append (f z) (flat_map f zs))
 
 -- children, place by place
-children_each : {X : Type 0} (P : X → List ℕ → Type 0) (prefix : List ℕ) (i : ℕ) (places : List (Option X)) →
+pub children_each : {X : Type 0} (P : X → List ℕ → Type 0) (prefix : List ℕ) (i : ℕ) (places : List (Option X)) →
     ((k : ℕ) → k < length places → (x : X) → get_or places k None ≡ Some x → P x (prefix ++ (i + k) ∷ [])) →
     AreChildren P prefix i places
 children_each P prefix i [] each = tt

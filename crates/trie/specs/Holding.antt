@@ -39,7 +39,7 @@ prefix_of at = first_digits at.hash at.depth
 abbrev pub held_in : {K V : Type 0} → Option (Arc (Node K V) Global) → List (K × V)
 held_in place = entries_in (node_of place)
 
--- the node in a place that is looked at, and the entries in it
+-- what is looked at, whoever owns it: a pair, or the node in a place, and the entries in it
 abbrev pub seen_in : {X : Type 0} → Option (Bor (Arc X Global)) → Option X
 seen_in None = None
 seen_in (Some node) = Some node.now.value

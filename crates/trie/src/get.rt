@@ -1,6 +1,5 @@
 //! Looking a key up.
 ghost use Rattle.std.specs.Prelude.{◌≡◌};
-ghost use Rattle.std.specs.Option.{option_copied};
 ghost use Rattle.trie.specs.Digits.{digit_order};
 ghost use Rattle.trie.specs.Entries.{entry_at};
 ghost use Rattle.trie.specs.Holding.{held_at, IsPlaced, seen_in};
@@ -9,23 +8,25 @@ use crate::bucket::find;
 use crate::digits::HashPrefix;
 use crate::node::{Node, Seen, step};
 use cells::KeyHash;
+use std::sync::Arc;
 
-/// The entry of the key below the prefix. It takes no memory.
+/// The entry of the key below the prefix, lent with its owner, so that it can be shared. It takes no
+/// memory.
 pub fn get_at<'a, K: Ord, V, H: KeyHash<K>>(
     place: Seen<'a, K, V>,
     key: &K,
     at: HashPrefix,
-) -> Option<&'a (K, V)>
+) -> Option<&'a Arc<(K, V)>>
     requires hashed { at.hash ≡ H.hash_of key.now }
     requires placed { IsPlaced H.hash_of K.cmp at (seen_in place) }
-    ensures { option_copied result ≡ entry_at (digit_order H.hash_of K.cmp) (held_at place.entry) key.now }
+    ensures { seen_in result ≡ entry_at (digit_order H.hash_of K.cmp) (held_at place.entry) key.now }
 {
     match place {
         None => None,
         Some(node) => match &**node {
             Node::Leaf(pair) => {
                 if key.cmp(&pair.0).is_eq() {
-                    Some(&**pair)
+                    Some(pair)
                 } else {
                     None
                 }

@@ -1,6 +1,6 @@
 //! Laying a pair of one map over another map, where a value of its key is blended with the pair's.
 ghost use Rattle.std.specs.Prelude.{◌≡◌, ◌+◌, ◌≤◌, IfOk};
-ghost use Rattle.std.specs.Option.{MatchOption, option_copied};
+ghost use Rattle.std.specs.Option.{MatchOption};
 ghost use Rattle.trie.specs.Digits.{digit_count};
 ghost use Rattle.trie.specs.Holding.{seen_in};
 ghost use Rattle.trie.specs.Merging.{AsksOf, blend_entries, CanLay, ClonesEqual, HasLaid, laid, turned, Turned};
@@ -15,17 +15,21 @@ use cells::KeyHash;
 use std::alloc::{AllocError, Global};
 use std::sync::Arc;
 
-/// The entry of a key that two maps have: the second's key, and the blend of both values.
+/// The entry of a key that two maps have: the second's key, and the blend of both values. Where the
+/// second's value stands, it is the second's entry, with one owner more.
 pub fn blended_pair<K: Clone + Drop, V: Drop, B: Blend<V>>(
     alloc: Global,
     blend: &B,
-    first: &(K, V),
-    second: &(K, V),
+    first: &Arc<(K, V)>,
+    second: &Arc<(K, V)>,
 ) -> Result<Arc<(K, V)>, AllocError>
     requires clones { ClonesEqual K.is_clone }
-    requires can { AsksOf (B.asks blend.now) first.now second.now }
-    ensures { IfOk result (λ p. p.value ≡ blend_entries (B.blend_of blend.now) first.now second.now) }
+    requires can { AsksOf (B.asks blend.now) first.now.value second.now.value }
+    ensures { IfOk result (λ p. p.value ≡ blend_entries (B.blend_of blend.now) first.now.value second.now.value) }
 {
+    if blend.second_stands(&first.1, &second.1) {
+        return Arc::try_clone(second);
+    }
     let key = second.0.clone()?;
     let value = blend.blend(alloc, &first.1, &second.1)?;
     Ok(Arc::new(alloc, (key, value))?)
@@ -37,20 +41,20 @@ fn pair_to_lay<K: Clone + Drop, V: Drop, B: Blend<V>>(
     alloc: Global,
     blend: &B,
     is_first: bool,
-    old: Option<&(K, V)>,
+    old: Option<&Arc<(K, V)>>,
     pair: &Arc<(K, V)>,
 ) -> Result<Arc<(K, V)>, AllocError>
     requires clones { ClonesEqual K.is_clone }
-    requires can { MatchOption (option_copied old) Unit (λ e. Turned is_first (AsksOf (B.asks blend.now)) e pair.now.value) }
-    ensures { IfOk result (λ p. p.value ≡ laid (turned is_first (blend_entries (B.blend_of blend.now))) (option_copied old.entry) pair.now.value) }
+    requires can { MatchOption (seen_in old) Unit (λ e. Turned is_first (AsksOf (B.asks blend.now)) e pair.now.value) }
+    ensures { IfOk result (λ p. p.value ≡ laid (turned is_first (blend_entries (B.blend_of blend.now))) (seen_in old.entry) pair.now.value) }
 {
     let Some(old) = old else {
         return Ok(Arc::try_clone(pair)?);
     };
     if is_first {
-        blended_pair(alloc, blend, &**pair, old)
+        blended_pair(alloc, blend, pair, old)
     } else {
-        blended_pair(alloc, blend, old, &**pair)
+        blended_pair(alloc, blend, old, pair)
     }
 }
 

@@ -9,6 +9,7 @@
 
 mod blend;
 mod bucket;
+mod build;
 mod cutting;
 mod digits;
 mod entries;

@@ -1,19 +1,17 @@
 //! Putting two maps together.
-ghost use Rattle.std.specs.Prelude.{◌≡◌, ◌+◌, ◌<◌, ◌≤◌, ◌^◌, IfOk, Some, length, sum_by};
+ghost use Rattle.std.specs.Prelude.{◌+◌, ◌≤◌, IfOk, length};
 ghost use Rattle.std.specs.Map.{keys_of};
-ghost use Rattle.std.specs.Option.{MatchOption};
 ghost use Rattle.trie.specs.Entries.{IsRising};
-ghost use Rattle.trie.specs.Holding.{held_at, node_len, pairs_of, seen_in};
+ghost use Rattle.trie.specs.Holding.{held_at, pairs_of, seen_in};
 ghost use Rattle.trie.specs.Merging.{CanBlend, ClonesEqual, CountsBoth, HasBucketOfBoth, IsBucketOfBoth, IsNextOrEnd, Meet, Merges};
-ghost use Rattle.trie.specs.Tree.{node_of, values};
-ghost use Rattle.trie.specs.declared.node.Node.TheVariants.{Branch};
+ghost use Rattle.trie.specs.Tree.{node_of};
 
 use crate::blend::Blend;
 use crate::digits::{HashPrefix, PLACES};
 use crate::lay::{blended_pair, lay_at};
 use crate::meeting::{Meeting, how_they_meet};
 use crate::node::{
-    Children, Node, Place, Seen, child_at, either_has, grown, make, room_for_both, shared, total,
+    Node, Place, Seen, branch_of, child_at, either_has, grown, make, room_for_both, shared,
 };
 use crate::ticks::Ticks;
 use cells::KeyHash;
@@ -54,7 +52,7 @@ fn next_of_both<'a, K: Ord + Clone + Drop, V: Drop, H: KeyHash<K>, B: Blend<V>>(
             Ok(Some((pair, older, second)))
         }
         Ordering::Equal => {
-            let pair = blended_pair(alloc, blend, &**old, &**new)?;
+            let pair = blended_pair(alloc, blend, old, new)?;
             Ok(Some((pair, older, newer)))
         }
         Ordering::Greater => {
@@ -87,25 +85,6 @@ fn merged_pairs<K: Ord + Clone + Drop, V: Drop, H: KeyHash<K>, B: Blend<V>>(
         more = newer;
     }
     Ok(pairs)
-}
-
-/// A branch of these children, of which there are two entries or more.
-fn branch_of<K: Drop, V: Drop>(
-    alloc: Global,
-    made: Children<K, V>,
-    ticks: &mut Ticks,
-) -> Result<Place<K, V>, AllocError>
-    requires fits { sum_by node_len (values made.children.items) < 2 ^ 64 }
-    ensures made { IfOk result (λ p. node_of p ≡ Some (Branch (sum_by node_len (values made.children.items)) made.bitmap made.children)) }
-    ensures counted { ticks.new ≤ ticks.old + 1 }
-    ensures grows { ticks.old ≤ ticks.new }
-{
-    let branch = Node::Branch {
-        len: total(&made.children),
-        bitmap: made.bitmap,
-        children: made.children,
-    };
-    Ok(Some(make(alloc, branch, ticks)?))
 }
 
 /// The bucket of two buckets.

@@ -8,6 +8,7 @@ ghost use Rattle.trie.specs.Digits.{digit, first_digits, place_count};
 ghost use Rattle.trie.specs.Holding.{ArePlaces, held_at, held_with, Holds, IsPlaced, IsWritten, len_in, node_len};
 ghost use Rattle.trie.specs.Holding.{prefix_of, seen_in, sole_node};
 ghost use Rattle.trie.specs.Tree.{entries_in, IsPlace, node_of, values};
+ghost use Rattle.trie.specs.declared.node.Node.TheVariants.{Branch};
 
 use crate::digits::{Bitmap, HashPrefix};
 use crate::ticks::Ticks;
@@ -290,6 +291,25 @@ pub fn total<K, V>(children: &[Arc<Node<K, V>>]) -> u64
     ensures { result ≡ sum_by node_len (values children.now) }
 {
     children.iter().map(node_len).sum()
+}
+
+/// A branch of these children, of which there are two entries or more.
+pub fn branch_of<K: Drop, V: Drop>(
+    alloc: Global,
+    made: Children<K, V>,
+    ticks: &mut Ticks,
+) -> Result<Place<K, V>, AllocError>
+    requires fits { sum_by node_len (values made.children.items) < 2 ^ 64 }
+    ensures made { IfOk result (λ p. node_of p ≡ Some (Branch (sum_by node_len (values made.children.items)) made.bitmap made.children)) }
+    ensures counted { ticks.new ≤ ticks.old + 1 }
+    ensures grows { ticks.old ≤ ticks.new }
+{
+    let branch = Node::Branch {
+        len: total(&made.children),
+        bitmap: made.bitmap,
+        children: made.children,
+    };
+    Ok(Some(make(alloc, branch, ticks)?))
 }
 
 /// The only node, where there is one entry.

@@ -5,7 +5,7 @@ ghost use Rattle.std.specs.Option.{option_copied};
 ghost use Rattle.trie.specs.Counts.{next_count};
 ghost use Rattle.trie.specs.Cuts.{cut};
 ghost use Rattle.trie.specs.Digits.{digit_count, digit_order};
-ghost use Rattle.trie.specs.Entries.{value_at, with_pair, without_key};
+ghost use Rattle.trie.specs.Entries.{value_at, with_pair, with_pairs, without_key};
 ghost use Rattle.trie.specs.Holding.{lent};
 ghost use Rattle.trie.specs.Maps.{RiseByHash};
 ghost use Rattle.trie.specs.Merging.{CanBlend, ClonesEqual, HasEntries, IsMerged};
@@ -13,6 +13,7 @@ ghost use Rattle.trie.specs.Shapes.{shape_of};
 ghost use Rattle.trie.specs.Walks.{MayTakeAll, TakesAll};
 
 use crate::blend::Blend;
+use crate::build::{place_of, with_hashes, with_owners};
 use crate::cutting::Cutting;
 use crate::digits::HashPrefix;
 use crate::entries::with_entries;
@@ -128,6 +129,28 @@ impl<K: Ord + Drop, V: Drop, H: KeyHash<K>> Trie<K, V, H> {
     {
         Ok(Trie {
             root: shared(seen(&self.root))?,
+            hash: PhantomData,
+        })
+    }
+
+    /// The map of these pairs as if they were put one after another into an empty map: of pairs of one
+    /// key the last stands. Each node is made once: one for each entry at most, and one for each prefix of
+    /// digits that two keys share. A put for each pair makes those above it anew each time.
+    pub fn from_pairs(
+        alloc: Global,
+        pairs: Vec<(K, V)>,
+        ticks: &mut Ticks,
+    ) -> Result<Self, AllocError>
+        ensures map { IfOk result (λ t. t ≡ with_pairs (digit_order H.hash_of K.cmp) pairs.items []) }
+        ensures once { IfOk result (λ t. ticks.new ≤ ticks.old + (length t + length (shape_of H.hash_of (keys_of t)))) }
+        ensures counted { ticks.new ≤ ticks.old + (digit_count + 1) * length pairs.items }
+        ensures grows { ticks.old ≤ ticks.new }
+    {
+        let owned = with_owners(alloc, pairs)?;
+        let hashed = with_hashes::<K, V, H>(alloc, owned.as_slice())?;
+        let root = place_of::<K, V, H>(alloc, hashed.as_slice(), 0, ticks)?;
+        Ok(Trie {
+            root,
             hash: PhantomData,
         })
     }

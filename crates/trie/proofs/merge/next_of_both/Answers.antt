@@ -14,8 +14,8 @@ returns-in_default-split_first-2 g c =
 
 pub blended_pair-requires-clause-can : goal.blended_pair-requires-clause-can
 blended_pair-requires-clause-can g c =
-    rw (c.deref-in-Equal.ensures, c.deref-in-Equal-2.ensures) (next_asked g.H.KeyHash.hash_of g.K.Ord.cmp (g.B.Blend.blend_of c.args.blend.now) g.met.K.Ord.total (g.B.Blend.asks c.args.blend.now) c.args.first.now c.args.second.now c.requires.first_rises c.requires.second_rises c.requires.can
-    c.in-Some.old.now c.in-Some.older.now c.in-Some.ensures.cases.0 c.in-Some-split_first-2.new.now c.in-Some-split_first-2.newer.now c.in-Some-split_first-2.ensures.cases.0 (search rules))
+    next_asked g.H.KeyHash.hash_of g.K.Ord.cmp (g.B.Blend.blend_of c.args.blend.now) g.met.K.Ord.total (g.B.Blend.asks c.args.blend.now) c.args.first.now c.args.second.now c.requires.first_rises c.requires.second_rises c.requires.can
+    c.in-Some.old.now c.in-Some.older.now c.in-Some.ensures.cases.0 c.in-Some-split_first-2.new.now c.in-Some-split_first-2.newer.now c.in-Some-split_first-2.ensures.cases.0 (search rules)
 
 pub returns-in_ok-pair-in-Less : goal.returns-in_ok-pair-in-Less
 returns-in_ok-pair-in-Less g c =
@@ -25,8 +25,7 @@ returns-in_ok-pair-in-Less g c =
 pub returns-in_ok-pair-in-Equal : goal.returns-in_ok-pair-in-Equal
 returns-in_ok-pair-in-Equal g c =
     next_equal g.H.KeyHash.hash_of g.K.Ord.cmp (g.B.Blend.blend_of c.args.blend.now) g.met.K.Ord.total (g.B.Blend.asks c.args.blend.now) c.args.first.now c.args.second.now c.requires.first_rises c.requires.second_rises c.requires.can
-    c.in-Some.old.now c.in-Some.older.now c.in-Some.ensures.cases.0 c.in-Some-split_first-2.new.now c.in-Some-split_first-2.newer.now c.in-Some-split_first-2.ensures.cases.0 (search rules) _
-    (rw (c.deref-in-Equal.ensures, c.deref-in-Equal-2.ensures) at c.in_ok-pair-in-Equal.ensures)
+    c.in-Some.old.now c.in-Some.older.now c.in-Some.ensures.cases.0 c.in-Some-split_first-2.new.now c.in-Some-split_first-2.newer.now c.in-Some-split_first-2.ensures.cases.0 (search rules) _ c.in_ok-pair-in-Equal.ensures
 
 pub returns-in_ok-pair-in-Greater : goal.returns-in_ok-pair-in-Greater
 returns-in_ok-pair-in-Greater g c =

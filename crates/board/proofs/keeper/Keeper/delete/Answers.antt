@@ -1,5 +1,5 @@
 use Rattle.board.proofs.EditionsLemmas.{remove_within}
-use Rattle.board.proofs.FittingLemmas.{rows_remove}
+use Rattle.cells.specs.RowsFit.{rows_remove}
 use Rattle.board.proofs.keeper.Keeper.delete.Goals as goal
 
 -- whatever key is taken out

@@ -2,7 +2,7 @@ use Rattle.std.proofs.Common.{◌≤◌, arith, rules}
 use Rattle.std.specs.FinMap.{len}
 use Rattle.board.specs.Limits.{row_limit}
 use Rattle.board.proofs.EditionsLemmas.{limit_stays}
-use Rattle.board.proofs.FittingLemmas.{rows_stay}
+use Rattle.cells.specs.RowsFit.{rows_stay}
 use Rattle.board.proofs.keeper.Keeper.publish.Goals as goal
 
 pub invariant_of-self : goal.invariant_of-self

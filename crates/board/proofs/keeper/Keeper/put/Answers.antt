@@ -1,6 +1,6 @@
 use Rattle.std.proofs.Common.{rules}
 use Rattle.board.proofs.EditionsLemmas.{limit_stays}
-use Rattle.board.proofs.FittingLemmas.{rows_stay}
+use Rattle.cells.specs.RowsFit.{rows_stay}
 use Rattle.board.proofs.keeper.Keeper.put.Goals as goal
 
 pub invariant_of-self : goal.invariant_of-self

@@ -1,6 +1,6 @@
 use Rattle.std.proofs.Common.{ap, sym, ◌∙◌}
 use Rattle.std.specs.FinMap.{get}
-use Rattle.board.specs.Editions.{Rows}
+use Rattle.cells.specs.Tables.{Rows}
 use Rattle.board.proofs.root.Root.get.Goals as goal
 
 pub returns : goal.returns

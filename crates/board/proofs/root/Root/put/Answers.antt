@@ -5,7 +5,7 @@ use Rattle.cells.specs.SameKeys.{exact_cells}
 use Rattle.trie.specs.Digits.{digit_order}
 use Rattle.trie.specs.Entries.{with_pair}
 use Rattle.trie.specs.Maps.{map_of}
-use Rattle.board.specs.Editions.{Rows}
+use Rattle.cells.specs.Tables.{Rows}
 use Rattle.board.proofs.root.Root.put.Goals as goal
 
 pub put-requires : goal.put-requires

@@ -3,7 +3,7 @@ use Rattle.std.specs.FinMap.{remove}
 use Rattle.cells.specs.CellOrder.{cell_cmp}
 use Rattle.cells.specs.SameKeys.{exact_cells}
 use Rattle.trie.specs.Maps.{map_of}
-use Rattle.board.specs.Editions.{Rows}
+use Rattle.cells.specs.Tables.{Rows}
 use Rattle.board.proofs.root.Root.remove.Goals as goal
 
 pub of-requires : goal.of-requires

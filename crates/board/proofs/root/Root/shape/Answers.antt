@@ -1,7 +1,7 @@
 use Rattle.std.proofs.Common.{ap, sym, rules, ◌∙◌}
 use Rattle.std.specs.FinMap.{keys}
 use Rattle.trie.specs.Shapes.{shape_of}
-use Rattle.board.specs.Editions.{Rows}
+use Rattle.cells.specs.Tables.{Rows}
 use Rattle.board.proofs.root.Root.shape.Goals as goal
 
 pub returns : goal.returns

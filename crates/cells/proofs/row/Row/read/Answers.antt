@@ -1,24 +1,13 @@
-use Rattle.std.proofs.Common.{rules, ◌≢◌}
-use Rattle.cells.proofs.FittingLemmas.{row_fits}
-use Rattle.cells.proofs.RecordsLemmas.{inside_cells, row_at, texts}
-use Rattle.cells.specs.declared.cell.Cell.TheVariants.{Null}
+use Rattle.std.proofs.Common.{◌<◌, Err, ap, length, rules}
+use Rattle.std.proofs.lemmas.Result.{err_from_is_err_and}
+use Rattle.cells.proofs.RecordsLemmas.{refused_field}
 use Rattle.cells.proofs.row.Row.read.Goals as goal
 
-pub index-requires : goal.index-requires
-index-requires c =
-    let spelt = rw c.columns.ensures at c.in_ok-cells.ensures in
-    let inside = inside_cells c.args.schema.now (texts c.args.fields.now) c.in_ok-cells.cells.items c.key-key.result spelt c.key-key.ensures.within in
-    search rules
-
-pub invariant_of-result : goal.invariant_of-result
-invariant_of-result c =
-    let spelt = rw c.columns.ensures at c.in_ok-cells.ensures in
-    inside_cells c.args.schema.now (texts c.args.fields.now) _ _ spelt c.key-key.ensures.within
-
-pub returns : goal.returns
-returns c =
-    let spelt = rw c.columns.ensures at c.in_ok-cells.ensures in
-    let inside = inside_cells c.args.schema.now (texts c.args.fields.now) _ _ spelt c.key-key.ensures.within in
-    let full : c.index.result.now ≢ Null = search rules in
-    let exact = row_at c.args.schema.now (texts c.args.fields.now) _ _ c.index.result.now spelt c.key-key.ensures.place inside c.index.ensures full in
-    record { exact = exact; fits = row_fits c.args.schema.now (texts c.args.fields.now) _ exact }
+pub returns-in_err-read-clause-exact : goal.returns-in_err-read-clause-exact
+returns-in_err-read-clause-exact c =
+    let p = err_from_is_err_and c.from_residual-in_err-read.result c.from_residual-in_err-read.ensures.1 in
+    let l = c.loop-field.invariant in
+    let inside : c.loop-field.field-index < length c.args.fields.now = search rules in
+    rw (p.1, p.2)
+    (refused_field c.args.schema.now c.args.fields.now c.loop-field.field-index _ c.loop-field.row c.in_err-read.field-0.0 l.table inside l.read c.in_err-read.ensures.refused
+    (λ is. c.in_err-read.ensures.bad (ap Err is)))

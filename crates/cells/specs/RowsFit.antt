@@ -1,12 +1,13 @@
--- Rows that stay rows of their table.
+-- Rows of a table stay rows of it, as updates change them.
 use Rattle.std.proofs.Common.{◌≡◌, Bool, true, false, cond, Option, Some, None, refl, sym, ap, subst, ◌∙◌}
+use Rattle.std.specs.Option.{option_or}
 use Rattle.std.specs.FinMap.{empty, get, get-empty, get-insert, get-remove, insert, remove}
 use Rattle.cells.specs.CellOrder.{cell_cmp, cell_cmp-total, cell_eq}
 use Rattle.cells.specs.Fitting.{IsRowOf}
 use Rattle.cells.specs.SameKeys.{same_cells}
 use Rattle.cells.specs.Values.{Entry, Table}
 use Rattle.cells.specs.declared.cell.Cell.{Cell}
-use Rattle.board.specs.Editions.{AreRowsOf, Rows}
+use Rattle.cells.specs.Tables.{AreRowsOf, Rows, laid_over}
 
 some_same : {A : Type 0} (x y : A) → Some x ≡ Some y → x ≡ y
 some_same x y e = cc
@@ -54,5 +55,19 @@ rows_remove t old new key is rows = record {
   look at found e =
       found_left (cell_eq at key) found (get old at) (sym (get-remove cell_cmp-total old key at) ∙ ap (λ (r : Rows). get r at) (sym is) ∙ e)
 
--- what the calls of a keeper make of rows of a table are rows of it
+-- what puts, deletes and copies make of rows of a table are rows of it
 pub ruleset rows_stay = (rows_none, rows_same, rows_put, rows_remove)
+
+of_either : (P : Entry → Type 0) (found : Entry) (x y : Option Entry) → option_or x y ≡ Some found → (x ≡ Some found → P found) → (y ≡ Some found → P found) → P found
+of_either P found None y e later earlier = earlier e
+of_either P found (Some x) y e later earlier = later e
+
+-- with others laid over them
+pub rows_over : (t : Table) (later old new : Rows) → ((q : Cell) → get (laid_over later old) q ≡ option_or (get later q) (get old q)) →
+    new ≡ laid_over later old → AreRowsOf t later → AreRowsOf t old → AreRowsOf t new
+rows_over t later old new stands is more rows = record {
+  keyed = λ key found e. of_either (λ r. r.key ≡ key) found (get later key) (get old key) (look key found e) (more.keyed key found) (rows.keyed key found);
+  fit = λ key found e. of_either (IsRowOf t) found (get later key) (get old key) (look key found e) (more.fit key found) (rows.fit key found);
+} where
+  look : (key : Cell) (found : Entry) → get new key ≡ Some found → option_or (get later key) (get old key) ≡ Some found
+  look key found e = sym (stands key) ∙ ap (λ (r : Rows). get r key) (sym is) ∙ e

@@ -1,0 +1,352 @@
+-- The nodes that are made of a list of pairs.
+use Rattle.std.proofs.Common.{◌≡◌, ◌==◌, ℕ, ◌+◌, ◌-◌, ◌^◌, ◌<◌, ◌≤◌, Bool, true, false, cond, Option, Some, None, Vec, List, [], ◌∷◌, ◌++◌, length, get_or, zero, suc, refl, sym, ap, ◌∙◌, subst, arith, length-append, set, sum_by, inl, inr}
+use Rattle.std.specs.Prelude.{◌&&◌, slice_get}
+use Rattle.std.specs.List.{AllByRecursion, filter, flat_map, fold, list_all}
+use Rattle.std.specs.Ordering.{eq_by_cmp, is_eq}
+use Rattle.std.specs.declared.alloc.Global.{Global}
+use Rattle.std.specs.declared.cmp.Ordering.{Ordering}
+use Rattle.std.specs.declared.cmp.Ordering.TheVariants.{Equal}
+use Rattle.std.specs.declared.sync.Arc.{Arc}
+use Rattle.std.proofs.lemmas.Bool.{and_from, cases_lt, eq-eqb, eqb-false, eqb-true, false_from_ne_true}
+use Rattle.std.proofs.lemmas.Cmp.{alike_right, tied_itself}
+use Rattle.std.proofs.lemmas.List.{length-map}
+use Rattle.trie.specs.Building.{AreBelow, AreHashed, AreMadeOf, HaveOnePrefix, IsMadeOf, is_like, pair_in, pairs_in, with_digit}
+use Rattle.trie.specs.Dense.{IsDense, places_in}
+use Rattle.trie.specs.Digits.{digit, digit_count, digit_order, digits, first_digits, place_count}
+use Rattle.trie.specs.Entries.{entry_at, with_pair, with_pairs}
+use Rattle.trie.specs.Holding.{ArePlaces, Holds, IsTrie, node_len, pairs_of}
+use Rattle.trie.specs.Tree.{entries_in, IsNode, IsPlace, StartsWith, values}
+use Rattle.trie.specs.declared.build.Hashed.{Hashed}
+use Rattle.trie.specs.declared.node.Node.{Node}
+use Rattle.trie.specs.declared.node.Node.TheVariants.{Leaf, Bucket, Branch}
+use Rattle.trie.proofs.DenseLemmas.{length-places_of}
+use Rattle.trie.proofs.DigitsLemmas.{get_or-digits, length-digits, starts_with-next}
+use Rattle.trie.proofs.EntriesLemmas.{with_pair-all}
+use Rattle.trie.proofs.FoundLemmas.{entry-with_pair}
+use Rattle.trie.proofs.ListsLemmas.{all-unmap, all-weaken}
+use Rattle.trie.proofs.MapRisingLemmas.{places_rise}
+use Rattle.trie.proofs.MapsLemmas.{digit_total, HaveHashes, is_Equal}
+use Rattle.trie.proofs.MeetLemmas.{children_each, read_other, read_written, starts_is}
+use Rattle.trie.proofs.NodesLemmas.{branch_holds, total_lens}
+use Rattle.trie.proofs.OrderLemmas.{order_agrees, with_pair-order}
+use Rattle.trie.proofs.PairsLemmas.{alike_pairs, last_stands, same_by_entries, with_pairs-all, with_pairs-most, with_pairs-some, with_pairs-sorted}
+use Rattle.trie.proofs.PlacesLemmas.{entry_at-below, places_below}
+use Rattle.trie.proofs.PutLemmas.{leaf_holds}
+use Rattle.trie.proofs.TreeLemmas.{entries-Bucket, IsNode-Bucket}
+
+module _ {X : Type 0} where
+  kept_more : (P : X → Type 0) (b : Bool) (x : X) (kept : List X) → P x → AllByRecursion P kept → AllByRecursion P (cond b (x ∷ kept) kept)
+  kept_more P true x kept here rest = (here, rest)
+  kept_more P false x kept here rest = rest
+
+  kept_all : (P : X → Type 0) (test : X → Bool) (xs : List X) → AllByRecursion P xs → AllByRecursion P (filter test xs)
+  kept_all P test [] all = tt
+  kept_all P test (x ∷ xs) all = kept_more P (test x) x (filter test xs) all.0 (kept_all P test xs all.1)
+
+  fewer_more : (b : Bool) (x : X) (kept xs : List X) → length kept ≤ length xs → length (cond b (x ∷ kept) kept) ≤ suc (length xs)
+  fewer_more true x kept xs fewer = omega (arith, fewer)
+  fewer_more false x kept xs fewer = omega (arith, fewer)
+
+  kept_fewer : (test : X → Bool) (xs : List X) → length (filter test xs) ≤ length xs
+  kept_fewer test [] = omega arith
+  kept_fewer test (x ∷ xs) = fewer_more (test x) x (filter test xs) xs (kept_fewer test xs)
+
+module _ {K V : Type 0} (hash : K → ℕ) where
+  one_below : (prefix : List ℕ) (d : ℕ) (one : Hashed K V) (part : List (Hashed K V)) (b : Bool) → (digit one.hash (length prefix) == d) ≡ b →
+      length prefix < digit_count → StartsWith prefix (digits (hash (pair_in one).0)) → one.hash ≡ hash (pair_in one).0 →
+      AreBelow hash (prefix ++ d ∷ []) (pairs_in part) → AreBelow hash (prefix ++ d ∷ []) (pairs_in (cond b (one ∷ part) part))
+  one_below prefix d one part true is low starts hashed rest =
+      let key = (pair_in one).0 in
+      let here : digit (hash key) (length prefix) ≡ d = rw (← hashed) (eqb-true _ _ is) in (
+        starts_with-next prefix d (digits (hash key)) starts (omega (arith, low, length-digits (hash key)))
+            (get_or-digits (hash key) (length prefix) low ∙ here),
+        rest,
+      )
+  one_below prefix d one part false is low starts hashed rest = rest
+
+  -- the pairs with a digit are below the prefix with it
+  below_part : (prefix : List ℕ) (d : ℕ) (list : List (Hashed K V)) → length prefix < digit_count → AreBelow hash prefix (pairs_in list) →
+      AreHashed hash list → AreBelow hash (prefix ++ d ∷ []) (pairs_in (with_digit (length prefix) d list))
+  below_part prefix d [] low below hashed = tt
+  below_part prefix d (one ∷ list) low below hashed =
+      one_below prefix d one (with_digit (length prefix) d list) (digit one.hash (length prefix) == d) refl low below.0 hashed.0
+      (below_part prefix d list low below.1 hashed.1)
+
+  -- a part of pairs of one prefix
+  pub part_below : (depth d : ℕ) (list part : List (Hashed K V)) → HaveOnePrefix hash depth list → depth < digit_count →
+      part ≡ with_digit depth d list → HaveOnePrefix hash (depth + 1) part
+  part_below depth d list part have low is = rw is (record {
+    prefix = have.prefix ++ d ∷ [];
+    deep = omega (arith, length-append have.prefix (d ∷ []), have.deep);
+    low = omega arith;
+    below = rw have.deep at (below_part have.prefix d list (rw have.deep low) have.below have.hashed);
+    hashed = kept_all (λ one. one.hash ≡ hash (pair_in one).0) (λ one. digit one.hash depth == d) list have.hashed;
+    fits = omega (arith, kept_fewer (λ one. digit one.hash depth == d) list, have.fits);
+  })
+
+both_true : (a b : Bool) → (a && b) ≡ true → (a ≡ true) × (b ≡ true)
+both_true true b e = (refl, e)
+both_true false b e = absurd (cc)
+
+-- keys whose hashes differ in a digit differ
+other_digit : {K : Type 0} (hash : K → ℕ) (cmp : K → K → Ordering) (h : HaveHashes hash cmp) (place d : ℕ) (q k : K) → digit (hash q) place ≡ d →
+    (digit (hash k) place == d) ≡ false → eq_by_cmp (digit_order hash cmp) q k ≡ false
+other_digit hash cmp h place d q k here there =
+    order_agrees hash cmp h.same_hash q k
+    ∙ false_from_ne_true (is_eq (cmp q k)) (λ same.
+    let one_hash : hash q ≡ hash k = h.same_hash q k (is_Equal _ same) in
+    eqb-false _ d there (ap (λ n. digit n place) (sym one_hash) ∙ here))
+
+module _ {K V : Type 0} (hash : K → ℕ) (cmp : K → K → Ordering) (h : HaveHashes hash cmp) where
+  found_more : (place d : ℕ) (q : K) → digit (hash q) place ≡ d → (one : Hashed K V) → one.hash ≡ hash (pair_in one).0 →
+      (part list : List (Hashed K V)) (es fs : List (K × V)) (b : Bool) → (digit one.hash place == d) ≡ b →
+      entry_at (digit_order hash cmp) es q ≡ entry_at (digit_order hash cmp) fs q →
+      ((es fs : List (K × V)) → entry_at (digit_order hash cmp) es q ≡ entry_at (digit_order hash cmp) fs q →
+      entry_at (digit_order hash cmp) (with_pairs (digit_order hash cmp) (pairs_in part) es) q
+      ≡ entry_at (digit_order hash cmp) (with_pairs (digit_order hash cmp) (pairs_in list) fs) q) →
+      entry_at (digit_order hash cmp) (with_pairs (digit_order hash cmp) (pairs_in (cond b (one ∷ part) part)) es) q
+      ≡ entry_at (digit_order hash cmp) (with_pairs (digit_order hash cmp) (pairs_in list) (with_pair (digit_order hash cmp) (pair_in one).0 (pair_in one).1 fs)) q
+  found_more place d q here one hashed part list es fs true is same rest =
+      rest _ _
+      (entry-with_pair (digit_order hash cmp) (digit_total hash cmp h) es (pair_in one).0 (pair_in one).1 q
+      ∙ ap (λ o. cond (eq_by_cmp (digit_order hash cmp) q (pair_in one).0) (Some (pair_in one)) o) same
+      ∙ sym (entry-with_pair (digit_order hash cmp) (digit_total hash cmp h) fs (pair_in one).0 (pair_in one).1 q))
+  found_more place d q here one hashed part list es fs false is same rest =
+      let apart : eq_by_cmp (digit_order hash cmp) q (pair_in one).0 ≡ false =
+      other_digit hash cmp h place d q (pair_in one).0 here (rw hashed at is) in
+      rest _ _ (same ∙ sym (entry-with_pair (digit_order hash cmp) (digit_total hash cmp h) fs (pair_in one).0 (pair_in one).1 q ∙ rw apart refl))
+
+  -- a key is found among the pairs of its digit as among all
+  found_part : (place d : ℕ) (q : K) → digit (hash q) place ≡ d → (list : List (Hashed K V)) → AreHashed hash list →
+      (es fs : List (K × V)) → entry_at (digit_order hash cmp) es q ≡ entry_at (digit_order hash cmp) fs q →
+      entry_at (digit_order hash cmp) (with_pairs (digit_order hash cmp) (pairs_in (with_digit place d list)) es) q
+      ≡ entry_at (digit_order hash cmp) (with_pairs (digit_order hash cmp) (pairs_in list) fs) q
+  found_part place d q here [] hashed es fs same = same
+  found_part place d q here (one ∷ list) hashed es fs same =
+      found_more place d q here one hashed.0 (with_digit place d list) list es fs (digit one.hash place == d) refl same
+      (λ es fs alike. found_part place d q here list hashed.1 es fs alike)
+
+  -- a branch of which each place has the pairs with its digit
+  module _ (depth : ℕ) (list : List (Hashed K V)) (hashed : AreHashed hash list) (low : depth < digit_count)
+      (places : List (Option (Node K V))) (wide : length places ≡ place_count) (each : AreMadeOf hash cmp depth place_count list places)
+      (prefix : List ℕ) (deep : length prefix ≡ depth) (below : AreBelow hash prefix (pairs_in list)) where
+    child : (k : ℕ) → k < place_count →
+        Holds hash cmp (prefix ++ k ∷ []) (with_pairs (digit_order hash cmp) (pairs_in (with_digit depth k list)) []) (get_or places k None)
+    child k lt =
+        (each k lt).at (prefix ++ k ∷ []) (omega (arith, length-append prefix (k ∷ []), deep))
+        (rw deep at (below_part hash prefix k list (rw deep low) below hashed))
+
+    pub made_places : ArePlaces hash cmp prefix places
+    made_places = record {
+      short = omega (arith, deep, low);
+      wide = wide;
+      children = children_each (IsNode hash cmp) prefix 0 places (λ k lt x x_is.
+          let here : 0 + k ≡ k = omega arith in
+          rw here (rw x_is at (child k (rw wide at lt)).placed));
+    }
+
+    alike : (q : K) → StartsWith prefix (digits (hash q)) →
+        entry_at (digit_order hash cmp) (flat_map entries_in places) q
+        ≡ entry_at (digit_order hash cmp) (with_pairs (digit_order hash cmp) (pairs_in list) []) q
+    alike q starts =
+        let k = digit (hash q) depth in
+        let prefix_is : prefix ≡ first_digits (hash q) depth = rw (← deep) (starts_is prefix (digits (hash q)) starts) in
+        sym (entry_at-below hash cmp (hash q) depth (omega arith) places (rw prefix_is at made_places) q refl (get_or places k None) refl)
+        ∙ ap (λ es. entry_at (digit_order hash cmp) es q) (child k (omega arith)).entries_are
+        ∙ found_part depth k q refl list hashed [] [] refl
+
+    pub made_whole : flat_map entries_in places ≡ with_pairs (digit_order hash cmp) (pairs_in list) []
+    made_whole =
+        let total = digit_total hash cmp h in
+        same_by_entries (digit_order hash cmp) total (λ k. StartsWith prefix (digits (hash k))) _ _
+        (places_rise hash cmp prefix 0 places made_places.children)
+        (with_pairs-sorted (digit_order hash cmp) total (pairs_in list) [] tt)
+        (places_below hash cmp prefix 0 places made_places.children)
+        (with_pairs-all (digit_order hash cmp) (λ e. StartsWith prefix (digits (hash e.0))) (pairs_in list) [] below tt)
+        alike
+
+  -- the number of entries of such a branch can be held
+  pub branch_fits : (depth : ℕ) (list : List (Hashed K V)) → HaveOnePrefix hash depth list → depth < digit_count →
+      (bitmap : ℕ) (children : List (Arc (Node K V) Global)) → IsDense bitmap (length children) →
+      AreMadeOf hash cmp depth place_count list (places_in bitmap children) → sum_by node_len (values children) < 2 ^ 64
+  branch_fits depth list have low bitmap children dense each =
+      let wide = length-places_of bitmap (values children) in
+      let are = made_places depth list have.hashed low (places_in bitmap children) wide each have.prefix have.deep have.below in
+      let whole = made_whole depth list have.hashed low (places_in bitmap children) wide each have.prefix have.deep have.below in
+      let most = with_pairs-most (digit_order hash cmp) (pairs_in list) [] in
+      omega (arith, total_lens hash cmp have.prefix bitmap children dense are.children, ap length whole, most, length-map list pair_in, have.fits)
+
+  pub branch_made : (depth : ℕ) (list : List (Hashed K V)) → AreHashed hash list → depth < digit_count →
+      2 ≤ length (with_pairs (digit_order hash cmp) (pairs_in list) []) →
+      (bitmap : ℕ) (children : Vec (Arc (Node K V) Global) Global) → IsDense bitmap (length children.items) →
+      AreMadeOf hash cmp depth place_count list (places_in bitmap children.items) → (place : Option (Node K V)) →
+      place ≡ Some (Branch (sum_by node_len (values children.items)) bitmap children) → IsMadeOf hash cmp depth (pairs_in list) place
+  branch_made depth list hashed low many bitmap children dense each place is = rw is (record {
+    at = λ prefix deep below.
+        let places = places_in bitmap children.items in
+        let wide = length-places_of bitmap (values children.items) in
+        let are = made_places depth list hashed low places wide each prefix deep below in
+        let whole = made_whole depth list hashed low places wide each prefix deep below in
+        let total = total_lens hash cmp prefix bitmap children.items dense are.children in
+        rw whole at (branch_holds hash cmp prefix bitmap children dense are _ total (omega (arith, total, ap length whole, many)) _ refl);
+  })
+
+  -- pairs of one whole hash are in the keys' own order
+  whole_hash_order : (prefix : List ℕ) → length prefix ≡ digit_count → (ps es : List (K × V)) → AreBelow hash prefix ps →
+      AreBelow hash prefix es → with_pairs (digit_order hash cmp) ps es ≡ with_pairs cmp ps es
+  whole_hash_order prefix full [] es below also = refl
+  whole_hash_order prefix full (p ∷ ps) es below also =
+      let prefix_is : prefix ≡ first_digits (hash p.0) digit_count = rw (← full) (starts_is prefix (digits (hash p.0)) below.0) in
+      let here = with_pair-order hash cmp p.0 p.1 (hash p.0) refl es (rw prefix_is at also) in
+      rw here (whole_hash_order prefix full ps (with_pair cmp p.0 p.1 es) below.1
+      (with_pair-all cmp p.0 p.1 (λ e. StartsWith prefix (digits (hash e.0))) below.0 es also))
+
+  pub bucket_made : (depth : ℕ) → depth ≡ digit_count → (ps : List (K × V)) → 2 ≤ length (with_pairs (digit_order hash cmp) ps []) →
+      (pairs : Vec (Arc (K × V) Global) Global) → pairs_of pairs.items ≡ with_pairs cmp ps [] → (place : Option (Node K V)) →
+      place ≡ Some (Bucket pairs) → IsMadeOf hash cmp depth ps place
+  bucket_made depth whole ps many pairs are place is = rw is (record {
+    at = λ prefix deep below.
+        let full : length prefix ≡ digit_count = deep ∙ whole in
+        let agree = whole_hash_order prefix full ps [] below tt in
+        let P : K × V → Type 0 = λ e. StartsWith prefix (digits (hash e.0)) in
+        record {
+          placed = subst (λ (F : List ℕ → Type 0). F prefix) (sym (IsNode-Bucket hash cmp pairs)) (
+            full,
+            omega (arith, many, ap length agree, ap length are, length-map pairs.items (λ p. p.value)),
+            rw are (with_pairs-sorted cmp h.total ps [] tt),
+            all-unmap (λ p. p.value) P pairs.items (rw are (with_pairs-all cmp P ps [] below tt)),
+          );
+          entries_are = entries-Bucket pairs ∙ are ∙ sym agree;
+        };
+  })
+
+  -- the last of a list
+  last_of : (P : K × V → Type 0) (list : List (Hashed K V)) (i : ℕ) (last : Hashed K V) → Some last ≡ slice_get list i →
+      AllByRecursion P (pairs_in list) → P (pair_in last)
+  last_of P [] i last is all = absurd (cc)
+  last_of P (one ∷ list) zero last is all =
+      let same : last ≡ one = cc in rw same all.0
+  last_of P (one ∷ list) (suc i) last is all = last_of P list i last is all.1
+
+  last_hash : (list : List (Hashed K V)) (i : ℕ) (last : Hashed K V) → Some last ≡ slice_get list i →
+      AreHashed hash list → last.hash ≡ hash (pair_in last).0
+  last_hash [] i last is all = absurd (cc)
+  last_hash (one ∷ list) zero last is all =
+      let same : last ≡ one = cc in rw same all.0
+  last_hash (one ∷ list) (suc i) last is all = last_hash list i last is all.1
+
+  last_folded : (one : Hashed K V) (list : List (Hashed K V)) (last : Hashed K V) → Some last ≡ slice_get (one ∷ list) (length list) →
+      fold (λ _ p. p) (pair_in one) (pairs_in list) ≡ pair_in last
+  last_folded one [] last is = let same : last ≡ one = cc in rw same refl
+  last_folded one (next ∷ list) last is = last_folded next list last is
+
+  -- all pairs have the key of one
+  abbrev HaveKey : Hashed K V → List (Hashed K V) → Type 0
+  HaveKey last list = AllByRecursion (λ p. digit_order hash cmp p.0 (pair_in last).0 ≡ Equal) (pairs_in list)
+
+  have_key : (last : Hashed K V) (list : List (Hashed K V)) → list_all (λ one. is_like cmp one last) list ≡ true → HaveKey last list
+  have_key last [] e = tt
+  have_key last (one ∷ list) e =
+      let here = both_true (is_like cmp one last) (list_all (λ one. is_like cmp one last) list) e in
+      let equal = (both_true (one.hash == last.hash) (is_eq (cmp (pair_in one).0 (pair_in last).0)) here.0).1 in
+      (is_Equal _ (order_agrees hash cmp h.same_hash (pair_in one).0 (pair_in last).0 ∙ equal), have_key last list here.1)
+
+  like_all : (last : Hashed K V) → last.hash ≡ hash (pair_in last).0 → (list : List (Hashed K V)) → AreHashed hash list →
+      HaveKey last list → list_all (λ one. is_like cmp one last) list ≡ true
+  like_all last is [] hashed have = refl
+  like_all last is (one ∷ list) hashed have =
+      let equal : is_eq (cmp (pair_in one).0 (pair_in last).0) ≡ true =
+      sym (order_agrees hash cmp h.same_hash (pair_in one).0 (pair_in last).0) ∙ ap is_eq have.0 in
+      let one_hash : one.hash ≡ last.hash = hashed.0 ∙ h.same_hash (pair_in one).0 (pair_in last).0 (is_Equal _ equal) ∙ sym is in
+      and_from _ _ (and_from _ _ (eq-eqb one.hash last.hash one_hash) equal) (like_all last is list hashed.1 have.1)
+
+  -- of pairs of one key the last makes a leaf
+  pub leaf_made : (depth : ℕ) (list : List (Hashed K V)) (last : Hashed K V) → Some last ≡ slice_get list (length list - 1) →
+      list_all (λ one. is_like cmp one last) list ≡ true → (pair : Arc (K × V) Global) → pair.value ≡ pair_in last →
+      (place : Option (Node K V)) → place ≡ Some (Leaf pair) → IsMadeOf hash cmp depth (pairs_in list) place
+  leaf_made depth [] last is like pair pair_is place place_is = absurd (cc)
+  leaf_made depth (one ∷ list) last is like pair pair_is place place_is = rw place_is (record {
+    at = λ prefix deep below.
+        let have = have_key last (one ∷ list) like in
+        let end : length (one ∷ list) - 1 ≡ length list = omega arith in
+        let here : Some last ≡ slice_get (one ∷ list) (length list) = rw end at is in
+        let only = last_stands (digit_order hash cmp) (digit_total hash cmp h) (pair_in last) (pairs_in list) (pair_in one) have.0 have.1
+        (pair_in last) (last_folded one list last here) in
+        let starts = last_of (λ p. StartsWith prefix (digits (hash p.0))) (one ∷ list) (length list) last here below in
+        let prefix_is : prefix ≡ first_digits (hash pair.value.0) depth =
+        rw (pair_is, ← deep) (starts_is prefix (digits (hash (pair_in last).0)) starts) in
+        rw (only, ← pair_is, prefix_is) (leaf_holds hash cmp pair (hash pair.value.0) depth refl);
+  })
+
+  -- pairs of more keys make more entries
+  pub more_keys : (list : List (Hashed K V)) (last : Hashed K V) → Some last ≡ slice_get list (length list - 1) → AreHashed hash list →
+      list_all (λ one. is_like cmp one last) list ≡ false → 2 ≤ length (with_pairs (digit_order hash cmp) (pairs_in list) [])
+  more_keys [] last is hashed other = absurd (cc)
+  more_keys (one ∷ list) last is hashed other = by_entries _ refl
+    where
+      end : length (one ∷ list) - 1 ≡ length list
+      end = omega arith
+
+      here : Some last ≡ slice_get (one ∷ list) (length list)
+      here = rw end at is
+
+      by_entries : (es : List (K × V)) → with_pairs (digit_order hash cmp) (pairs_in (one ∷ list)) [] ≡ es → 2 ≤ length es
+      by_entries [] made =
+          let some = with_pairs-some (digit_order hash cmp) (pairs_in (one ∷ list)) [] (omega arith) in
+          absurd (omega (arith, some, ap length made))
+      by_entries (e ∷ f ∷ es) made = omega arith
+      by_entries (e ∷ []) made =
+          let total = digit_total hash cmp h in
+          let all = (alike_pairs (digit_order hash cmp) total e (pairs_in (one ∷ list)) [] (rw made (tied_itself total e.0, tt))).0 in
+          let same : digit_order hash cmp (pair_in last).0 e.0 ≡ Equal =
+          last_of (λ p. digit_order hash cmp p.0 e.0 ≡ Equal) (one ∷ list) (length list) last here all in
+          let have = all-weaken (λ p. digit_order hash cmp p.0 e.0 ≡ Equal) (λ p. digit_order hash cmp p.0 (pair_in last).0 ≡ Equal)
+          (λ p equal. alike_right total (pair_in last).0 e.0 p.0 same ∙ equal) (pairs_in (one ∷ list)) all in
+          let never = like_all last (last_hash (one ∷ list) (length list) last here hashed) (one ∷ list) hashed have in
+          absurd (cc)
+
+module _ {K V : Type 0} (hash : K → ℕ) (cmp : K → K → Ordering) where
+  -- one place more
+  pub made_more : (depth n : ℕ) (list : List (Hashed K V)) (places : List (Option (Node K V))) (place : Option (Node K V)) → n < length places →
+      AreMadeOf hash cmp depth n list places → IsMadeOf hash cmp (depth + 1) (pairs_in (with_digit depth n list)) place →
+      AreMadeOf hash cmp depth (n + 1) list (set places n place)
+  made_more depth n list places place within each here k lt =
+      elim (cases_lt k n) [
+        | inl before ↦
+            let other : k ≡ n → ⊥ = λ (e : k ≡ n). absurd (omega arith) in
+            rw (read_other places n k place None other) (each k before)
+        | inr after ↦
+            let last : k ≡ n = omega arith in
+            rw (last, read_written places n place None within) here
+      ]
+
+  all_below : (ps : List (K × V)) → AreBelow hash [] ps
+  all_below [] = tt
+  all_below (p ∷ ps) = (tt, all_below ps)
+
+  -- all pairs are below the empty prefix
+  pub root_prefix : (list : List (Hashed K V)) → AreHashed hash list → length list < 2 ^ 64 → HaveOnePrefix hash 0 list
+  root_prefix list hashed fits = record {
+    prefix = [];
+    deep = refl;
+    low = omega arith;
+    below = all_below (pairs_in list);
+    hashed = hashed;
+    fits = fits;
+  }
+
+  pub root_entries : (ps : List (K × V)) (place : Option (Node K V)) → IsMadeOf hash cmp 0 ps place →
+      entries_in place ≡ with_pairs (digit_order hash cmp) ps []
+  root_entries ps place made = (made.at [] refl (all_below ps)).entries_are
+
+  pub root_placed : (ps : List (K × V)) (place : Option (Node K V)) → IsMadeOf hash cmp 0 ps place → IsPlace hash cmp place []
+  root_placed ps place made = (made.at [] refl (all_below ps)).placed
+
+  pub root_trie : (ps : List (K × V)) (place : Option (Node K V)) → IsMadeOf hash cmp 0 ps place → length ps < 2 ^ 64 →
+      IsTrie hash cmp place
+  root_trie ps place made fits =
+      let most = with_pairs-most (digit_order hash cmp) ps [] in
+      record {
+        placed = root_placed ps place made;
+        fits = omega (arith, ap length (root_entries ps place made), most, fits);
+      }

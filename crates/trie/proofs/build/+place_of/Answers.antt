@@ -1,0 +1,113 @@
+use Rattle.std.proofs.Common.{◌≡◌, ◌+◌, ◌<◌, ap, sym, Some, arith, rules}
+use Rattle.std.proofs.lemmas.Result.{IfOk-weaker}
+use Rattle.trie.specs.Building.{HaveOnePrefix, pairs_in}
+use Rattle.trie.specs.Dense.{places_in}
+use Rattle.trie.specs.Digits.{digit_count, place_count}
+use Rattle.trie.specs.Tree.{node_of, values}
+use Rattle.trie.proofs.BuildLemmas.{branch_fits, branch_made, bucket_made, leaf_made, made_more, more_keys, part_below}
+use Rattle.trie.proofs.DenseLemmas.{length-places_of}
+use Rattle.trie.proofs.MapsLemmas.{hashes}
+use Rattle.trie.proofs.OnceLemmas.{once_all, once_more, once_one}
+use Rattle.trie.proofs.SpreadLemmas.{counted_end, counted_more, part_is}
+use Rattle.trie.proofs.build.+place_of.Goals as goal
+
+pub returns-then-have_key_of-clause-made : goal.returns-then-have_key_of-clause-made
+returns-then-have_key_of-clause-made g t c =
+    let laws = hashes g.met.K.Ord.total g.met.K.Ord.matches_eq g.met.H.KeyHash.respects_eq in
+    leaf_made g.H.KeyHash.hash_of g.K.Ord.cmp laws c.args.depth c.args.pairs.now c.in-Some.last.now c.in-Some.ensures.value
+    (sym c.if-have_key_of.ensures) c.in_ok-try_clone.field-0 c.in_ok-try_clone.ensures _ (ap Some c.in_ok-make.ensures.made)
+
+pub returns-then-depth-eq-DIGITS-clause-made : goal.returns-then-depth-eq-DIGITS-clause-made
+returns-then-depth-eq-DIGITS-clause-made g t c =
+    let laws = hashes g.met.K.Ord.total g.met.K.Ord.matches_eq g.met.H.KeyHash.respects_eq in
+    let whole : c.args.depth ≡ digit_count = search rules in
+    let many = more_keys g.H.KeyHash.hash_of g.K.Ord.cmp laws c.args.pairs.now c.in-Some.last.now c.in-Some.ensures.value
+    c.requires.hashed (sym c.if-have_key_of.ensures) in
+    bucket_made g.H.KeyHash.hash_of g.K.Ord.cmp laws c.args.depth whole (pairs_in c.args.pairs.now) many
+    c.in_ok-bucket_of.field-0 c.in_ok-bucket_of.ensures _ (ap Some c.in_ok-make-2.ensures.made)
+
+pub place_of-requires : goal.place_of-requires
+place_of-requires g t c κs within =
+    let lt : c.loop-digit.digit < place_count = search rules in
+    let low : c.args.depth < digit_count = omega (arith, c.requires.low) in
+    let is = part_is c.args.depth c.args.pairs.now c.in_ok-parts.parts.items c.in_ok-parts.ensures c.loop-digit.digit lt
+    c.index.result.now c.index.ensures c.as_slice-part.result.now c.as_slice-part.ensures.value in
+    let have : HaveOnePrefix g.H.KeyHash.hash_of (c.args.depth + 1) c.as_slice-part.result.now =
+    part_below g.H.KeyHash.hash_of c.args.depth c.loop-digit.digit c.args.pairs.now _ c.requires low is in
+    search rules
+
+pub returns-in_err-child-clause-counted : goal.returns-in_err-child-clause-counted
+returns-in_err-child-clause-counted g t c =
+    let lt : c.loop-digit.digit < place_count = search rules in
+    let is = part_is c.args.depth c.args.pairs.now c.in_ok-parts.parts.items c.in_ok-parts.ensures c.loop-digit.digit lt
+    c.index.result.now c.index.ensures c.as_slice-part.result.now c.as_slice-part.ensures.value in
+    counted_end c.args.depth c.args.pairs.now c.in_ok-parts.parts.items c.in_ok-parts.ensures c.loop-digit.digit lt _ is _ _ _
+    c.loop-digit.invariant.counted c.place_of.ensures.counted
+
+pub returns-in_err-made-2-clause-counted : goal.returns-in_err-made-2-clause-counted
+returns-in_err-made-2-clause-counted g t c =
+    let lt : c.loop-digit.digit < place_count = search rules in
+    let is = part_is c.args.depth c.args.pairs.now c.in_ok-parts.parts.items c.in_ok-parts.ensures c.loop-digit.digit lt
+    c.index.result.now c.index.ensures c.as_slice-part.result.now c.as_slice-part.ensures.value in
+    counted_end c.args.depth c.args.pairs.now c.in_ok-parts.parts.items c.in_ok-parts.ensures c.loop-digit.digit lt _ is _ _ _
+    c.loop-digit.invariant.counted c.place_of.ensures.counted
+
+pub loop-digit-preserved : goal.loop-digit-preserved
+loop-digit-preserved g t c =
+    let lt : c.loop-digit.digit < place_count = search rules in
+    let is = part_is c.args.depth c.args.pairs.now c.in_ok-parts.parts.items c.in_ok-parts.ensures c.loop-digit.digit lt
+    c.index.result.now c.index.ensures c.as_slice-part.result.now c.as_slice-part.ensures.value in
+    let wide = length-places_of c.loop-digit.made.bitmap (values c.loop-digit.made.children.items) in
+    let written = c.in_ok-made-2.ensures.written in
+    record {
+      made =
+          rw written.places_are
+          (made_more g.H.KeyHash.hash_of g.K.Ord.cmp c.args.depth c.loop-digit.digit c.args.pairs.now
+          (places_in c.loop-digit.made.bitmap c.loop-digit.made.children.items) (node_of c.in_ok-child.child) (omega (arith, wide, lt))
+          c.loop-digit.invariant.made (rw is at c.in_ok-child.ensures.made));
+      dense = written.dense;
+      before = c.in_ok-made-2.ensures.before;
+      once = rw written.places_are
+          (once_more g.H.KeyHash.hash_of g.K.Ord.cmp c.args.depth c.loop-digit.digit
+          (places_in c.loop-digit.made.bitmap c.loop-digit.made.children.items) (node_of c.in_ok-child.child) _ _ _ (omega (arith, wide, lt))
+          c.loop-digit.invariant.once c.in_ok-child.ensures.once);
+      counted = counted_more c.args.depth c.args.pairs.now c.in_ok-parts.parts.items c.in_ok-parts.ensures c.loop-digit.digit lt _ is _ _ _
+          c.loop-digit.invariant.counted c.place_of.ensures.counted;
+    }
+
+pub branch_of-requires : goal.branch_of-requires
+branch_of-requires g t c =
+    let laws = hashes g.met.K.Ord.total g.met.K.Ord.matches_eq g.met.H.KeyHash.respects_eq in
+    let all : c.loop-digit.digit ≡ place_count = omega arith in
+    let low : c.args.depth < digit_count = omega (arith, c.requires.low) in
+    record {
+      fits = branch_fits g.H.KeyHash.hash_of g.K.Ord.cmp laws c.args.depth c.args.pairs.now c.requires low c.loop-digit.made.bitmap
+          c.loop-digit.made.children.items c.loop-digit.invariant.dense (rw all at c.loop-digit.invariant.made);
+    }
+
+pub returns-clause-made : goal.returns-clause-made
+returns-clause-made g t c =
+    let laws = hashes g.met.K.Ord.total g.met.K.Ord.matches_eq g.met.H.KeyHash.respects_eq in
+    let all : c.loop-digit.digit ≡ place_count = omega arith in
+    let low : c.args.depth < digit_count = omega (arith, c.requires.low) in
+    let many = more_keys g.H.KeyHash.hash_of g.K.Ord.cmp laws c.args.pairs.now c.in-Some.last.now c.in-Some.ensures.value
+    c.requires.hashed (sym c.if-have_key_of.ensures) in
+    IfOk-weaker c.branch_of.result _ _
+    (λ p made. branch_made g.H.KeyHash.hash_of g.K.Ord.cmp laws c.args.depth c.args.pairs.now c.requires.hashed low many
+    c.loop-digit.made.bitmap c.loop-digit.made.children c.loop-digit.invariant.dense (rw all at c.loop-digit.invariant.made) (node_of p) made)
+    c.branch_of.ensures.made
+
+pub returns-then-have_key_of-clause-once : goal.returns-then-have_key_of-clause-once
+returns-then-have_key_of-clause-once g t c =
+    once_one g.H.KeyHash.hash_of g.K.Ord.cmp c.args.depth _ _ _ c.in_ok-make.ensures.counted
+
+pub returns-then-depth-eq-DIGITS-clause-once : goal.returns-then-depth-eq-DIGITS-clause-once
+returns-then-depth-eq-DIGITS-clause-once g t c =
+    once_one g.H.KeyHash.hash_of g.K.Ord.cmp c.args.depth _ _ _ c.in_ok-make-2.ensures.counted
+
+pub returns-clause-once : goal.returns-clause-once
+returns-clause-once g t c =
+    let all : c.loop-digit.digit ≡ place_count = omega arith in
+    IfOk-weaker c.branch_of.result _ _
+    (λ p made. once_all g.H.KeyHash.hash_of g.K.Ord.cmp c.args.depth c.loop-digit.made.bitmap c.loop-digit.made.children (node_of p) _
+    c.loop-digit.digit _ _ _ all c.loop-digit.invariant.once c.branch_of.ensures.counted made) c.branch_of.ensures.made
