@@ -1,4 +1,9 @@
 pub mod FieldsLemmas
+pub mod HalvesLemmas
+pub mod ListedLemmas
+pub mod OrderLemmas
+pub mod PartLemmas
+pub mod PutsLemmas
 pub mod ReaderLemmas
 pub mod RecordsLemmas
 pub mod StatesLemmas

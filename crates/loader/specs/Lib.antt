@@ -1,1 +1,6 @@
+pub mod Halves
+pub mod Limits
+pub mod Listed
+pub mod Loads
+pub mod Parts
 pub mod Records

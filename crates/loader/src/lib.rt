@@ -1,8 +1,17 @@
-//! Records of CSV texts, and the row that a record spells: what `put` lines and parts are read by.
+//! CSV texts as rows of a table: the record of a `put` line, and whole parts, which workers read side by side.
 #![tactic(auto)]
 
+mod fault;
+mod halves;
+mod header;
+mod limits;
+mod loading;
+mod part;
 mod records;
 
+pub use fault::PartFault;
+pub use limits::MAX_LISTED_BYTES;
+pub use loading::load;
 pub use records::{Records, read_record};
 
 #[cfg(test)]

@@ -2,11 +2,12 @@
 ghost use Rattle.std.specs.Prelude.{◌≡◌, ◌∷◌, [], IfOk, OnErr, map, option_map};
 ghost use Rattle.std.specs.Bool.{MatchBool};
 ghost use Rattle.cells.specs.Fitting.{IsRowOf};
+ghost use Rattle.cells.specs.Records.{row_of};
 ghost use Rattle.cells.specs.Refusals.{Answers};
 ghost use Rattle.csv.specs.Records.{fields_of};
 ghost use Rattle.loader.specs.Records.{records_of, row_of_text, sole};
 
-use cells::{Refused, Row, Schema};
+use cells::{Refused, Row, RowReader, Schema};
 use csv::{ByteRecord, Reader, ReaderBuilder};
 use std::alloc::{AllocError, Global};
 use std::marker::Model;
@@ -80,11 +81,24 @@ pub fn read_record(alloc: Global, text: &[u8], schema: &Schema) -> Result<Row, R
     ensures exact { Answers Refused.BadRecord (row_of_text schema.now text.now) result }
     ensures fits { IfOk result (IsRowOf schema.now) }
 {
-    let Some(row) = sole_record(alloc, text)? else {
+    let Some(record) = sole_record(alloc, text)? else {
         return Err(Refused::BadRecord);
     };
-    let fields = fields(alloc, &row)?;
-    Row::read(alloc, fields.as_slice(), schema)
+    read_row(alloc, &record, schema)
+}
+
+/// Reads the row that the record's fields spell in the schema, with no list of them in between.
+///
+/// [`Refused::BadRecord`] exactly where they spell no row, [`Refused::OutOfMemory`] where a growth was refused.
+pub(crate) fn read_row(alloc: Global, record: &ByteRecord, schema: &Schema) -> Result<Row, Refused>
+    ensures exact { Answers Refused.BadRecord (row_of schema.now (fields_of record.now)) result }
+    ensures fits { IfOk result (IsRowOf schema.now) }
+{
+    let mut row = RowReader::new(alloc, schema)?;
+    for field in record {
+        row.read(field)?;
+    }
+    row.finish()
 }
 
 /// The record of a text, where it has exactly one.
@@ -104,7 +118,7 @@ fn sole_record(alloc: Global, text: &[u8]) -> Result<Option<ByteRecord>, AllocEr
 }
 
 /// The fields of a record.
-fn fields<'a>(alloc: Global, row: &'a ByteRecord) -> Result<Vec<&'a [u8]>, AllocError>
+pub(crate) fn fields<'a>(alloc: Global, row: &'a ByteRecord) -> Result<Vec<&'a [u8]>, AllocError>
     ensures { IfOk result (λ v. map (λ f. f.now) v.items ≡ fields_of row.entry.now) }
 {
     let mut fields = Vec::new(alloc);

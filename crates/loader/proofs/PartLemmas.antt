@@ -1,0 +1,130 @@
+-- The rows of a part, one record after another.
+use Rattle.std.proofs.Common.{◌≡◌, ℕ, zero, suc, ◌+◌, ◌≤◌, ◌<◌, Bool, true, false, cond, Option, Some, None, List, [], ◌∷◌, ◌++◌, length, refl, ap, sym, ◌∙◌, arith, append_assoc}
+use Rattle.std.proofs.lemmas.List.{append-nil, length-append, map-append}
+use Rattle.std.specs.FinMap.{empty}
+use Rattle.std.specs.List.{AllByRecursion}
+use Rattle.std.specs.Prelude.{Result, Ok, Err, if◌then◌else◌}
+use Rattle.csv.specs.Machine.{Read, next_record}
+use Rattle.csv.specs.Reading.{default_config, is_bom, records_from, records_next, strip_bom}
+use Rattle.csv.specs.declared.parser.State.{State}
+use Rattle.csv.specs.declared.parser.State.TheVariants as st
+use Rattle.cells.specs.CellOrder.{cell_cmp}
+use Rattle.cells.specs.Fitting.{IsRowOf}
+use Rattle.cells.specs.Records.{row_of}
+use Rattle.cells.specs.Tables.{keyed_rows}
+use Rattle.cells.specs.Values.{Entry, Table}
+use Rattle.cells.specs.declared.cell.Cell.{Cell}
+use Rattle.trie.specs.Maps.{map_of}
+use Rattle.loader.specs.Loads.{Held, IsRead, Reads}
+use Rattle.loader.specs.Parts.{and_rows, is_header, rows_behind_header, rows_from}
+use Rattle.loader.specs.Records.{records_of}
+use Rattle.loader.proofs.PutsLemmas.{LaysRows, holds_all, inserted}
+
+-- rows that were read, before those of the records that are left
+abbrev pub behind : List Entry → Result (List Entry) ℕ → Result (List Entry) ℕ
+behind rs (Ok more) = Ok (rs ++ more)
+behind rs (Err number) = Err number
+
+-- what is said of all records is said of those left, behind the rows that were read, each beside its key, of which there are
+-- fewer than the number of the next record
+pub record Reached (t : Table) (said : Result (List Entry) ℕ) (number : ℕ) (left : List (List (List ℕ))) (pairs : List (Cell × Entry)) : Type 0 where
+  pub rs : List Entry
+  pub keyed : pairs ≡ keyed_rows rs
+  pub fit : AllByRecursion (IsRowOf t) rs
+  pub is : said ≡ behind rs (rows_from t number left)
+  pub few : length pairs < number
+
+behind_none : (o : Result (List Entry) ℕ) → o ≡ behind [] o
+behind_none (Ok rs) = refl
+behind_none (Err number) = refl
+
+-- no record was read
+pub reached_first : (t : Table) (records : List (List (List ℕ))) (pairs : List (Cell × Entry)) → pairs ≡ [] → Reached t (rows_from t 1 records) 1 records pairs
+reached_first t records pairs none = record { rs = []; keyed = none; fit = tt; is = behind_none (rows_from t 1 records); few = omega (arith, ap length none) }
+
+all_more : (t : Table) (rs : List Entry) (row : Entry) → AllByRecursion (IsRowOf t) rs → IsRowOf t row → AllByRecursion (IsRowOf t) (rs ++ row ∷ [])
+all_more t [] row fit more = (more, tt)
+all_more t (r ∷ rs) row fit more = (fit.0, all_more t rs row fit.1 more)
+
+-- a record's row goes to those that were read
+row_behind : (rs : List Entry) (row : Entry) (number : ℕ) (o : Result (List Entry) ℕ) → behind rs (and_rows number (Some row) o) ≡ behind (rs ++ row ∷ []) o
+row_behind rs row number (Ok more) = ap Ok (sym (append_assoc rs (row ∷ []) more))
+row_behind rs row number (Err other) = refl
+
+-- one record was read, which spells a row
+pub reached_more : (t : Table) (said : Result (List Entry) ℕ) (number : ℕ) (old new : List (List (List ℕ))) (fields : List (List ℕ)) (row : Entry) (pairs all : List (Cell × Entry)) →
+    Reached t said number old pairs → old ≡ fields ∷ new → row_of t fields ≡ Some row → IsRowOf t row → all ≡ pairs ++ (row.key, row) ∷ [] → Reached t said (number + 1) new all
+reached_more t said number old new fields row pairs all reached took spelt fits more = record {
+  rs = reached.rs ++ row ∷ [];
+  keyed = more ∙ ap (λ ps. ps ++ (row.key, row) ∷ []) reached.keyed ∙ sym (map-append (λ (r : Entry). (r.key, r)) reached.rs (row ∷ []));
+  fit = all_more t reached.rs row reached.fit fits;
+  is = reached.is ∙ ap (λ left. behind reached.rs (rows_from t number left)) took
+      ∙ ap (λ o. behind reached.rs (and_rows number o (rows_from t (number + 1) new))) spelt
+      ∙ row_behind reached.rs row number (rows_from t (number + 1) new);
+  few = omega (arith, reached.few, ap length more, length-append pairs ((row.key, row) ∷ []));
+}
+
+-- all records were read, and their rows put
+pub reached_end : LaysRows → (t : Table) (said : Result (List Entry) ℕ) (number most : ℕ) (left : List (List (List ℕ))) (pairs : List (Cell × Entry)) (held : Held) →
+    Reached t said number left pairs → left ≡ [] → number + length left ≡ most + 1 → map_of cell_cmp held ≡ inserted empty pairs → length held ≤ length pairs → IsRead t said most held
+reached_end put t said number most left pairs held reached none counted is no_more = record {
+  rs = reached.rs;
+  is = reached.is ∙ ap (λ l. behind reached.rs (rows_from t number l)) none ∙ ap Ok (append-nil reached.rs);
+  holds = holds_all t put pairs reached.rs held reached.keyed reached.fit is;
+  few = omega (arith, ap length none, counted, reached.few, no_more);
+}
+
+-- one record was read, which spells no row
+pub reached_fault : (t : Table) (said : Result (List Entry) ℕ) (number : ℕ) (old new : List (List (List ℕ))) (fields : List (List ℕ)) (pairs : List (Cell × Entry)) →
+    Reached t said number old pairs → old ≡ fields ∷ new → row_of t fields ≡ None → said ≡ Err number
+reached_fault t said number old new fields pairs reached took bad =
+    reached.is ∙ ap (λ left. behind reached.rs (rows_from t number left)) took
+    ∙ ap (λ o. behind reached.rs (and_rows number o (rows_from t (number + 1) new))) bad
+
+-- ---- the header
+
+-- what is read behind the header is read from the whole part
+pub read_behind : (t : Table) (header : List (List ℕ)) (later all : List (List (List ℕ))) (most : ℕ) (content : Result Held ℕ) → all ≡ header ∷ later →
+    is_header t.columns header ≡ true → length later ≤ most → Reads t (rows_from t 1 later) (length later) content → Reads t (rows_behind_header t all) most content
+read_behind t header later all most (Ok held) took is few read = record {
+  rs = read.rs;
+  is = ap (rows_behind_header t) took ∙ ap (λ b. if b then rows_from t 1 later else Err 0) is ∙ read.is;
+  holds = read.holds;
+  few = omega (arith, few, read.few);
+}
+read_behind t header later all most (Err number) took is few read =
+    ap (rows_behind_header t) took ∙ ap (λ b. if b then rows_from t 1 later else Err 0) is ∙ read
+
+-- the first record is no header
+pub no_header : (t : Table) (first : List (List ℕ)) (later all : List (List (List ℕ))) → all ≡ first ∷ later → is_header t.columns first ≡ false → rows_behind_header t all ≡ Err 0
+no_header t first later all took no_other = ap (rows_behind_header t) took ∙ ap (λ b. if b then rows_from t 1 later else Err 0) no_other
+
+-- ---- how many records
+
+records_next_few : (f : State → List ℕ → List (List (List ℕ))) (most : ℕ) → ((s : State) (bytes : List ℕ) → length (f s bytes) ≤ most) → (o : Option Read) → length (records_next f o) ≤ most + 1
+records_next_few f most few None = omega arith
+records_next_few f most few (Some read) = let some = few read.1 read.2 in omega (arith, some)
+
+records_from_few : (turns : ℕ) (s : State) (bytes : List ℕ) → length (records_from default_config turns s bytes) ≤ turns
+unfolding records_from
+records_from_few zero s bytes = omega arith
+records_from_few (suc turns) s bytes =
+    let some = records_next_few (records_from default_config turns) turns (records_from_few turns) (next_record default_config s [] [] bytes) in omega (arith, some)
+
+either_short : (marked : Bool) (bytes rest : List ℕ) → length rest ≤ length bytes → length (if marked then rest else bytes) ≤ length bytes
+either_short true bytes rest short = short
+either_short false bytes rest short = omega arith
+
+strip_bom_short : (bytes : List ℕ) → length (strip_bom bytes) ≤ length bytes
+unfolding strip_bom
+strip_bom_short [] = omega arith
+strip_bom_short (a ∷ []) = omega arith
+strip_bom_short (a ∷ b ∷ []) = omega arith
+strip_bom_short (a ∷ b ∷ c ∷ rest) = either_short (is_bom a b c) (a ∷ b ∷ c ∷ rest) rest (omega arith)
+
+-- behind its first record a text has no more records than bytes
+pub few_behind : (bytes : List ℕ) (first : List (List ℕ)) (later : List (List (List ℕ))) → records_of bytes ≡ first ∷ later → length later ≤ length bytes
+few_behind bytes first later took =
+    let some = records_from_few (length (strip_bom bytes) + 1) st.StartRecord (strip_bom bytes) in
+    let short = strip_bom_short bytes in
+    omega (arith, some, short, ap length took)

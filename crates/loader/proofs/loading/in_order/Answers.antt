@@ -1,0 +1,20 @@
+use Rattle.std.proofs.Common.{◌≡◌, ◌++◌, ◌∙◌, [], ap, arith, map, rules, sym}
+use Rattle.std.proofs.lemmas.List.{append-nil, length-map, nil_from_length}
+use Rattle.std.proofs.lemmas.List.Sorted.{IsNonDecreasingBy-from_sort_by_key}
+use Rattle.std.specs.List.{flat_map}
+use Rattle.std.specs.Vec.Iter.{into_iter_items}
+use Rattle.loader.specs.Parts.{part_of}
+use Rattle.loader.proofs.OrderLemmas.{place_of, read_in_order}
+use Rattle.loader.proofs.loading.in_order.Goals as goal
+
+pub returns : goal.returns
+returns g c =
+    let made = c.in_ok-sort_by_key.ensures in
+    let all = c.loop-share.all.items in
+    let iterator = c.loop-share.share-iterator in
+    let none : into_iter_items iterator ≡ [] = nil_from_length (into_iter_items iterator) (omega (arith, iterator.rest.ok, c.in-None.ensures.steps.0)) in
+    let found : all ≡ flat_map (λ share. share.items) c.args.shares.items =
+    sym (ap (λ left. all ++ flat_map (λ share. share.items) left) none ∙ append-nil all) ∙ c.loop-share.invariant in
+    read_in_order c.args.schema.now (map part_of c.args.parts.now) _ c.args.shares.items all c.sort_by_key.new.self.items c.requires
+    (sym (length-map c.args.parts.now part_of)) found made.permutation
+    (IsNonDecreasingBy-from_sort_by_key place_of _ made.sorted (λ a r q k. search rules))

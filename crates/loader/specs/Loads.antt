@@ -1,0 +1,54 @@
+-- What tries hold, and what is read from a part and loaded from a list of parts.
+use Rattle.std.specs.Prelude.{◌≡◌, ◌≤◌, ⊤, ℕ, List, length, Result, Ok, Err}
+use Rattle.std.specs.List.{flat_map}
+use Rattle.cells.specs.CellOrder.{cell_cmp}
+use Rattle.cells.specs.Tables.{AreRowsOf, table}
+use Rattle.cells.specs.Updates.{puts, rows}
+use Rattle.cells.specs.Values.{Entry, Table}
+use Rattle.cells.specs.declared.cell.Cell.{Cell}
+use Rattle.trie.specs.Maps.{map_of}
+use Rattle.loader.specs.Parts.{FaultyRecord, rows_of_part}
+use Rattle.loader.specs.declared.fault.PartFault.{PartFault}
+use Rattle.loader.specs.declared.fault.PartFault.TheVariants.{Bad, OutOfMemory, NoWorker}
+
+-- a trie of rows, as contracts see it: each row beside its key
+abbrev pub Held : Type 0
+Held = List (Cell × Entry)
+
+-- the trie holds what these rows leave once they are put one after another, and each row that it holds may stand in the table
+pub record HoldsPuts (t : Table) (rs : List Entry) (held : Held) : Type 0 where
+  pub map : map_of cell_cmp held ≡ table (rows (puts rs))
+  pub fit : AreRowsOf t (map_of cell_cmp held)
+
+-- the rows of all lists, one list behind another
+abbrev pub joined : List (List Entry) → List Entry
+joined listed = flat_map (λ rs. rs) listed
+
+-- rows are said, and the trie holds them; it holds no more than this number
+pub record IsRead (t : Table) (said : Result (List Entry) ℕ) (most : ℕ) (held : Held) : Type 0 where
+  pub rs : List Entry
+  pub is : said ≡ Ok rs
+  pub holds : HoldsPuts t rs held
+  pub few : length held ≤ most
+
+-- the rows that are said, or the number of the faulty record that is said
+abbrev pub Reads : Table → Result (List Entry) ℕ → ℕ → Result Held ℕ → Type 0
+Reads t said most (Ok held) = IsRead t said most held
+Reads t said most (Err entry) = said ≡ Err entry
+
+-- a part's rows, of which there are no more than bytes, or the number of its first faulty record
+abbrev pub ReadsPart : Table → List ℕ → Result Held ℕ → Type 0
+ReadsPart t bytes content = Reads t (rows_of_part t bytes) (length bytes) content
+
+-- no fault is said, and the trie holds what the rows leave that are said
+pub record AreLoaded (said : Result (List Entry) FaultyRecord) (held : Held) : Type 0 where
+  pub rs : List Entry
+  pub is : said ≡ Ok rs
+  pub map : map_of cell_cmp held ≡ table (rows (puts rs))
+
+-- the rows that are said, or the fault that is said; nothing is said of memory and of threads
+abbrev pub Loads : Result (List Entry) FaultyRecord → Result Held PartFault → Type 0
+Loads said (Ok held) = AreLoaded said held
+Loads said (Err (Bad part entry)) = said ≡ Err (record { part = part; entry = entry })
+Loads said (Err OutOfMemory) = ⊤
+Loads said (Err NoWorker) = ⊤

@@ -1,0 +1,184 @@
+//! Lists of parts, which workers read side by side.
+ghost use Rattle.std.specs.Prelude.{◌≡◌, ◌<◌, ◌≤◌, ℕ, IfOk, List, length, map, slice_index_or, sum_by};
+ghost use Rattle.std.specs.Borrow.{Bor};
+ghost use Rattle.std.specs.List.{AllZip};
+ghost use Rattle.cells.specs.CellOrder.{cell_cmp};
+ghost use Rattle.crew.specs.Limits.{piece_limit, seat_limit};
+ghost use Rattle.crew.specs.Shares.{AreShared};
+ghost use Rattle.trie.specs.Maps.{map_of};
+ghost use Rattle.loader.specs.Limits.{listed_limit};
+ghost use Rattle.loader.specs.Listed.{AreRead, IsFound, Lists};
+ghost use Rattle.loader.specs.Loads.{Loads};
+ghost use Rattle.loader.specs.Parts.{part_len, part_of, rows_of_parts};
+ghost use Rattle.cells.specs.Tables.{AreRowsOf};
+
+use crate::fault::PartFault;
+use crate::halves::merge_list;
+use crate::part::{Content, read_part};
+use cells::{Cell, KeyHash, Refused, Row, Schema};
+use crew::{Gate, Task, share_out};
+use std::alloc::{AllocError, Global};
+use std::marker::PhantomData;
+use std::sync::Wait;
+use std::thread::Threads;
+use trie::Trie;
+
+/// Loads a list of parts: the rows of their records by their keys, as if all records were put one after another in
+/// listed order, so that of a key's rows the last one stands.
+///
+/// A part is a CSV text, with its number. Its first record is the header, the names of the schema's columns in their
+/// order and in whatever case; each record behind it spells a row. A part may be listed more than once. There are at most
+/// [`MAX_PIECES`](crew::MAX_PIECES) places in the list, with at most [`MAX_LISTED_BYTES`](crate::MAX_LISTED_BYTES) bytes
+/// together.
+///
+/// As many workers as the smaller of `workers`, which is 1 to [`MAX_SEATS`](crew::MAX_SEATS), and the number of places
+/// read the parts, each worker in a thread of its own; what is read depends neither on their number nor on which worker
+/// reads which part. The gate is told of each place before its part is read. Where no part has a fault and there are two
+/// places or more, the two halves of the list are then merged, each told to the gate before: one after another for one
+/// worker, and else one of them in a thread of its own at the same time. This waits for all threads that it starts, however
+/// it ends.
+///
+/// [`PartFault::NoWorker`] where a thread could not be started; otherwise [`PartFault::OutOfMemory`] where there was no
+/// memory, here or for a worker; otherwise [`PartFault::Bad`] where a part has a fault, with the first listed part of those
+/// that have one. All parts are read before the faults are looked at.
+pub fn load<H: KeyHash<Cell> + Send + Sync, G: Gate, R: Threads + Wait>(
+    rt: &R,
+    alloc: Global,
+    parts: &[(u64, &[u8])],
+    schema: &Schema,
+    workers: u64,
+    gate: &G,
+) -> Result<Trie<Cell, Row, H>, PartFault>
+    requires many { length parts.now ≤ piece_limit }
+    requires bytes { sum_by part_len (map part_of parts.now) ≤ listed_limit }
+    requires workers { (1 ≤ workers) × (workers ≤ seat_limit) }
+    ensures loaded { Loads (rows_of_parts schema.now (map part_of parts.now)) result }
+    ensures fits { IfOk result (λ trie. AreRowsOf schema.now (map_of cell_cmp trie)) }
+{
+    let reading = Reading::<H, G> {
+        parts,
+        schema,
+        gate,
+        hash: PhantomData,
+    };
+    let shares = match share_out(rt, alloc, parts.len() as u64, workers, &reading) {
+        Ok(shares) => shares,
+        Err(Refused::NoWorker) => return Err(PartFault::NoWorker),
+        Err(_) => return Err(PartFault::OutOfMemory),
+    };
+    let found = in_order(alloc, parts, schema, shares)?;
+    let tries = tries_of(alloc, parts, schema, found)?;
+    merge_list(rt, alloc, tries.as_slice(), workers, gate)
+}
+
+/// The work on a list of parts: each worker reads those whose places it draws.
+#[derive(Drop)]
+struct Reading<'a, H, G> {
+    parts: &'a [(u64, &'a [u8])],
+    schema: &'a Schema,
+    gate: &'a G,
+    hash: PhantomData<H>,
+}
+
+impl<'a, H, G> Reading<'a, H, G> {
+    /// The bytes of the part at the place.
+    fn bytes(&self, place: u64) -> &'a [u8]
+        requires { place < length self.now.parts.now }
+        ensures { (other : ℕ × Bor (List ℕ)) → result.now ≡ (slice_index_or self.now.parts.now place other).1.now }
+    {
+        let (_, bytes) = self.parts[place as usize];
+        bytes
+    }
+}
+
+/// What was found at a place of the list.
+#[derive(Drop)]
+struct Found<T> {
+    place: u64,
+    content: T,
+}
+
+impl<'a, H: KeyHash<Cell> + Send + Sync, G: Gate> Task for Reading<'a, H, G> {
+    ghost use Rattle.std.specs.Prelude.{length, map};
+    ghost use Rattle.std.specs.List.{AllZip};
+    ghost use Rattle.loader.specs.Listed.{IsFound};
+    ghost use Rattle.loader.specs.Parts.{part_of};
+
+    type Made = Vec<Found<Content<H>>>;
+
+    type Given = Vec<Found<Content<H>>>;
+
+    ghost count = { λ task. length task.parts.now };
+
+    ghost makes = { λ task places made. AllZip (IsFound task.schema.now (map part_of task.parts.now)) places made.items };
+
+    ghost gives = { λ task places given. AllZip (IsFound task.schema.now (map part_of task.parts.now)) places given.items };
+
+    fn begin(&self, alloc: Global) -> Result<Vec<Found<Content<H>>>, AllocError> {
+        Ok(Vec::new(alloc))
+    }
+
+    fn take(
+        &self,
+        alloc: Global,
+        made: &mut Vec<Found<Content<H>>>,
+        place: u64,
+    ) -> Result<(), AllocError> {
+        self.gate.reading(place);
+        // A fault is a result as any other, so that the parts of all places are read.
+        let content = read_part(alloc, self.bytes(place), self.schema)?;
+        Ok(made.push(Found { place, content })?)
+    }
+
+    fn end(
+        &self,
+        _alloc: Global,
+        made: Vec<Found<Content<H>>>,
+    ) -> Result<Vec<Found<Content<H>>>, AllocError> {
+        Ok(made)
+    }
+}
+
+/// What all workers found, in the order of the places.
+fn in_order<H: KeyHash<Cell>>(
+    alloc: Global,
+    parts: &[(u64, &[u8])],
+    schema: &Schema,
+    shares: Vec<Vec<Found<Content<H>>>>,
+) -> Result<Vec<Found<Content<H>>>, AllocError>
+    requires { AreShared (λ places given. AllZip (IsFound schema.now (map part_of parts.now)) places given.items) (length parts.now) shares.items }
+    ensures { IfOk result (λ all. AreRead schema.now (map part_of parts.now) all.items) }
+{
+    let mut all = Vec::new(alloc);
+    for mut share in shares {
+        all.append(&mut share)?;
+    }
+    all.sort_by_key(|found| found.place)?;
+    Ok(all)
+}
+
+/// The tries of all parts, or the first listed part that has a fault.
+fn tries_of<H: KeyHash<Cell>>(
+    alloc: Global,
+    parts: &[(u64, &[u8])],
+    schema: &Schema,
+    found: Vec<Found<Content<H>>>,
+) -> Result<Vec<Trie<Cell, Row, H>>, PartFault>
+    requires { AreRead schema.now (map part_of parts.now) found.items }
+    ensures { Lists schema.now (rows_of_parts schema.now (map part_of parts.now)) (sum_by part_len (map part_of parts.now)) result }
+{
+    let mut tries = Vec::with_capacity(alloc, parts.len())?;
+    for (part, found) in parts.iter().zip(found) {
+        let Found { content, .. } = found;
+        match content {
+            Ok(rows) => tries.push(rows)?,
+            Err(entry) => {
+                return Err(PartFault::Bad {
+                    part: part.0,
+                    entry,
+                });
+            }
+        }
+    }
+    Ok(tries)
+}
