@@ -7,7 +7,7 @@ use Rattle.std.specs.Prelude.{nat_lt}
 use Rattle.std.specs.Str.Lines.{lines}
 use Rattle.cells.specs.declared.cell.Cell.{Cell}
 use Rattle.cells.specs.declared.refused.Refused.TheVariants.{Limit}
-use Rattle.olap.specs.Deeds.{Declares, Deed, Nothing, Publishes, Reports, Shapes, Updates}
+use Rattle.olap.specs.Deeds.{Declares, Deed, Loads, Nothing, Publishes, Reports, Shapes, Updates}
 use Rattle.olap.specs.Givens.{Givens}
 use Rattle.olap.specs.Limits.{part_limit, script_limit}
 use Rattle.olap.specs.Output.{AreBlocks, InThree, IsAnswer, IsBlock, IsOutput, IsTooMuch, deed_behind, line_first, no_line, of_lines, refusal, too_much}
@@ -33,6 +33,7 @@ module _ (each : EachAnswered) (hash : Cell → ℕ) (givens : Givens) where
   some_answer : (before : Lines) (r : Result Deed Fault) → (bytes : List ℕ) × IsAnswer hash givens before r bytes
   some_answer before (Ok Nothing) = (_, refl)
   some_answer before (Ok (Declares t)) = (_, refl)
+  some_answer before (Ok (Loads t listing)) = (_, refl)
   some_answer before (Ok (Updates us)) = (_, refl)
   some_answer before (Ok Publishes) = (_, refl)
   some_answer before (Ok (Reports t query)) = some_report each _ _ t _ query
@@ -63,6 +64,7 @@ module _ (law : OneAnswer) where
   one_answer : (hash : Cell → ℕ) (givens : Givens) (before : Lines) (r : Result Deed Fault) (a b : List ℕ) → IsAnswer hash givens before r a → IsAnswer hash givens before r b → a ≡ b
   one_answer hash givens before (Ok Nothing) a b h k = h ∙ sym k
   one_answer hash givens before (Ok (Declares t)) a b h k = h ∙ sym k
+  one_answer hash givens before (Ok (Loads t listing)) a b h k = h ∙ sym k
   one_answer hash givens before (Ok (Updates us)) a b h k = h ∙ sym k
   one_answer hash givens before (Ok Publishes) a b h k = h ∙ sym k
   one_answer hash givens before (Ok (Reports t query)) a b h k = one_report law _ _ t _ query a b h k
@@ -121,6 +123,7 @@ in_three (x ∷ xs) hash givens before line later bytes are =
 pub answer_alike : (hash other : Cell → ℕ) (givens : Givens) (before : Lines) (r : Result Deed Fault) (bytes : List ℕ) → (r ≡ Ok Shapes → ⊥) → IsAnswer hash givens before r bytes → IsAnswer other givens before r bytes
 answer_alike hash other givens before (Ok Nothing) bytes unlike is = is
 answer_alike hash other givens before (Ok (Declares t)) bytes unlike is = is
+answer_alike hash other givens before (Ok (Loads t listing)) bytes unlike is = is
 answer_alike hash other givens before (Ok (Updates us)) bytes unlike is = is
 answer_alike hash other givens before (Ok Publishes) bytes unlike is = is
 answer_alike hash other givens before (Ok (Reports t query)) bytes unlike is = is

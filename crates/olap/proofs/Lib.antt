@@ -4,6 +4,7 @@ pub mod CommandLineLemmas
 pub mod EndingsLemmas
 pub mod FoldersLemmas
 pub mod LinesLemmas
+pub mod ListingsLemmas
 pub mod ProgramLemmas
 pub mod ProgressLemmas
 pub mod SaysLemmas

@@ -1,19 +1,19 @@
 -- How far a run has come.
-use Rattle.std.proofs.Common.{◌≡◌, ◌∙◌, ◌⊎◌, ℕ, ◌+◌, ◌<◌, ◌≤◌, Bool, true, false, cond, Option, Some, None, Result, Ok, Err, List, [], ◌∷◌, ◌++◌, inl, inr, length, map, reverse, refl, sym, ap, subst, append_assoc, Bor, arith}
-use Rattle.std.proofs.lemmas.List.{append-nil, length-map, map-append, reverse-append}
+use Rattle.std.proofs.Common.{◌≡◌, ◌∙◌, ◌⊎◌, ℕ, suc, ◌+◌, ◌-◌, ◌<◌, ◌≤◌, Bool, true, false, cond, Option, Some, None, Result, Ok, Err, List, [], ◌∷◌, ◌++◌, inl, inr, length, map, reverse, refl, sym, ap, subst, take, append_assoc, Bor, arith}
+use Rattle.std.proofs.lemmas.List.{append-nil, length-map, length-take, map-append, reverse-append}
 use Rattle.std.proofs.lemmas.List.Splits.{length-slice_split}
 use Rattle.std.proofs.lemmas.List.Sums.{count_by-le-length}
 use Rattle.std.proofs.KnownBytes.{Appends-nil, Appends-trans}
 use Rattle.std.specs.Io.KnownBytes.{Appends}
-use Rattle.std.specs.List.{slice_split}
-use Rattle.std.specs.Prelude.{◌==◌, IsErrOf, Vec}
-use Rattle.std.specs.Str.Lines.{lines, lines_of_parts}
+use Rattle.std.specs.List.{AllByRecursion, onto_first, slice_split}
+use Rattle.std.specs.Prelude.{◌==◌, IsErrOf, Vec, slice_index}
+use Rattle.std.specs.Str.Lines.{lines, lines_of_parts, strip_carriage_return}
 use Rattle.std.specs.declared.alloc.Global.{Global}
 use Rattle.board.specs.Editions.{Editions}
 use Rattle.cells.specs.declared.cell.Cell.{Cell}
 use Rattle.cells.specs.declared.refused.Refused.TheVariants.{Limit}
-use Rattle.olap.specs.Deeds.{Deed, Reports, deed}
-use Rattle.olap.specs.Endings.{AsksForReport, BeginsToWrite, Delivers, EndsAt, Writes, for_memory, for_worker}
+use Rattle.olap.specs.Deeds.{Deed, deed}
+use Rattle.olap.specs.Endings.{AsksForWorkers, BeginsToWrite, Delivers, EndsAt, HasWorkers, Writes, for_memory, for_worker}
 use Rattle.olap.specs.Givens.{Givens, givens}
 use Rattle.olap.specs.Limits.{part_limit, script_limit}
 use Rattle.olap.specs.Output.{AreBlocks, IsOutput, IsTooMuch, deed_behind, edition, is_publish, line_first, no_line, of_lines, refusal, too_much}
@@ -45,9 +45,10 @@ pub record Reached (old new : Option (List ℕ)) (hash : Cell → ℕ) (givens :
   pub stands : Stands givens before desk
   pub number_is : number ≡ length before
   pub short : length before + length rest ≤ script_limit + 1
+  pub narrow : AllByRecursion (λ line. length line ≤ script_limit) rest
 
-pub reached_start : (told : Option (List ℕ)) (hash : Cell → ℕ) (givens : Givens) (script : List (List ℕ)) → length script ≤ script_limit + 1 → Reached told told hash givens [] script script None 0
-reached_start told hash givens script short = record {
+pub reached_start : (told : Option (List ℕ)) (hash : Cell → ℕ) (givens : Givens) (script : List (List ℕ)) → length script ≤ script_limit + 1 → AllByRecursion (λ line. length line ≤ script_limit) script → Reached told told hash givens [] script script None 0
+reached_start told hash givens script short narrow = record {
   parted = refl;
   front = [];
   taken = Appends-nil told;
@@ -55,9 +56,14 @@ reached_start told hash givens script short = record {
   stands = refl;
   number_is = refl;
   short = omega arith;
+  narrow = narrow;
 }
 
 module _ (old new : Option (List ℕ)) (hash : Cell → ℕ) (givens : Givens) (before left script : List (List ℕ)) (desk : Option Editions) (number : ℕ) (reached : Reached old new hash givens before left script desk number) where
+  -- no line that is left is longer than a script may be
+  pub narrow_left : (line : List ℕ) (rest : List (List ℕ)) → left ≡ line ∷ rest → (length line ≤ script_limit) × AllByRecursion (λ l. length l ≤ script_limit) rest
+  narrow_left line rest is = subst (AllByRecursion (λ l. length l ≤ script_limit)) is reached.narrow
+
   module _ (line : List ℕ) (rest : List (List ℕ)) (after : Option Editions) (piece : List ℕ) (is : left ≡ line ∷ rest) (executes : Executes hash givens line (number + 1) desk after piece) where
     -- the piece comes next
     next_piece : (bytes : List ℕ) → AreBlocks hash givens (line ∷ before) rest bytes → AreBlocks hash givens [] script (reached.front ++ (piece ++ bytes))
@@ -75,6 +81,7 @@ module _ (old new : Option (List ℕ)) (hash : Cell → ℕ) (givens : Givens) (
       stands = executes.stands before reached.stands;
       number_is = omega (arith, reached.number_is);
       short = omega (arith, reached.short, ap length is);
+      narrow = (narrow_left line rest is).1;
     }
 
     -- a beginning of the next piece
@@ -87,18 +94,16 @@ module _ (old new : Option (List ℕ)) (hash : Cell → ℕ) (givens : Givens) (
           beginning = takes_beginning old new newer (reached.front ++ (piece ++ bytes)) piece bytes (record { front = reached.front; whole_is = refl; taken = reached.taken }) beginning;
         }
 
-  -- a line that ends the run for want of a worker asks for a report
-  pub asks_for_report : {T : Type 0} (line : List ℕ) (rest : List (List ℕ)) (e : Ended) (result : Result T Ended) → left ≡ line ∷ rest → EndsAt (deed givens.parts (schema_of_desk desk) line) e →
-      result ≡ Err e → IsErrOf result NoWorker → AsksForReport givens script
-  asks_for_report line rest e result is for_memory same late = absurd cc
-  asks_for_report line rest e result is (for_worker {table = table} {query = query} does) same late = record {
+  -- a line that ends the run for want of a worker has workers
+  pub asks_for_workers : {T : Type 0} (line : List ℕ) (rest : List (List ℕ)) (e : Ended) (result : Result T Ended) → left ≡ line ∷ rest → EndsAt (deed (schema_of_desk desk) line) e →
+      result ≡ Err e → IsErrOf result NoWorker → AsksForWorkers givens script
+  asks_for_workers line rest e result is for_memory same late = absurd cc
+  asks_for_workers line rest e result is (for_worker workers) same late = record {
     before = before;
     line = line;
     later = rest;
     parted = reached.parted ∙ ap (λ ls. reverse before ++ ls) is;
-    table = table;
-    query = query;
-    reports = does_so givens before line desk (Ok (Reports table query)) reached.stands does;
+    has = subst HasWorkers (sym (does_so givens before line desk (deed (schema_of_desk desk) line) reached.stands refl)) workers;
   }
 
   -- the pieces so far
@@ -177,6 +182,40 @@ length-lines_of_parts (x ∷ y ∷ more) = omega (arith, length-lines_of_parts (
 -- there are no more lines than bytes and one
 pub length-lines : (bs : List ℕ) → length (lines bs) ≤ length bs + 1
 length-lines bs = omega (arith, length-lines_of_parts (slice_split (λ b. b == 10) bs), length-slice_split (λ b. b == 10) bs, count_by-le-length (λ b. b == 10) bs)
+
+-- nor is a line longer than its script
+narrower : (n m : ℕ) (parts : List (List ℕ)) → n ≤ m → AllByRecursion (λ l. length l ≤ n) parts → AllByRecursion (λ l. length l ≤ m) parts
+narrower n m [] more narrow = tt
+narrower n m (l ∷ parts) more narrow = (omega (arith, more, narrow.0), narrower n m parts more narrow.1)
+
+narrow_onto : (x n : ℕ) (parts : List (List ℕ)) → AllByRecursion (λ l. length l ≤ n) parts → AllByRecursion (λ l. length l ≤ suc n) (onto_first x parts)
+narrow_onto x n [] narrow = (omega arith, tt)
+narrow_onto x n (l ∷ parts) narrow = (omega (arith, narrow.0), narrower n (suc n) parts (omega arith) narrow.1)
+
+narrow_more : (b : Bool) (x n : ℕ) (parts : List (List ℕ)) → AllByRecursion (λ l. length l ≤ n) parts → AllByRecursion (λ l. length l ≤ suc n) (cond b ([] ∷ parts) (onto_first x parts))
+narrow_more true x n parts narrow = (omega arith, narrower n (suc n) parts (omega arith) narrow)
+narrow_more false x n parts narrow = narrow_onto x n parts narrow
+
+narrow_parts : (p : ℕ → Bool) (xs : List ℕ) → AllByRecursion (λ l. length l ≤ length xs) (slice_split p xs)
+narrow_parts p [] = (omega arith, tt)
+narrow_parts p (x ∷ xs) = narrow_more (p x) x (length xs) (slice_split p xs) (narrow_parts p xs)
+
+stripped : (l : List ℕ) → length (strip_carriage_return l) ≤ length l
+stripped l = either (slice_index l (length l - 1) == 13) where
+  either : (b : Bool) → length (cond b (take (length l - 1) l) l) ≤ length l
+  either true = let taken = length-take (length l - 1) l in omega (arith, taken)
+  either false = omega arith
+
+narrow_of_parts : (n : ℕ) (parts : List (List ℕ)) → AllByRecursion (λ l. length l ≤ n) parts → AllByRecursion (λ l. length l ≤ n) (lines_of_parts parts)
+narrow_of_parts n [] narrow = tt
+narrow_of_parts n (x ∷ []) narrow = either (length x == 0) where
+  either : (b : Bool) → AllByRecursion (λ l. length l ≤ n) (cond b [] (x ∷ []))
+  either true = tt
+  either false = narrow
+narrow_of_parts n (x ∷ y ∷ more) narrow = (let less = stripped x in omega (arith, less, narrow.0), narrow_of_parts n (y ∷ more) narrow.1)
+
+pub narrow_lines : (bs : List ℕ) (n : ℕ) → length bs ≤ n → AllByRecursion (λ l. length l ≤ n) (lines bs)
+narrow_lines bs n few = narrow_of_parts n (slice_split (λ b. b == 10) bs) (narrower (length bs) n (slice_split (λ b. b == 10) bs) few (narrow_parts (λ b. b == 10) bs))
 
 -- ---- a script beyond a limit, and one within them
 

@@ -13,6 +13,7 @@ use Rattle.olap.specs.declared.statement.Statement.TheVariants as statement
 other_fits : (t : Table) (said : Result Deed Fault) (s : Statement) → ((row : _) → said ≡ Ok (deed_of_statement t (statement.Put row)) → ⊥) →
     said ≡ Ok (deed_of_statement t s) → IsStatementOf t s
 other_fits t said statement.Nothing other is = tt
+other_fits t said (statement.Load listing) other is = tt
 other_fits t said (statement.Put row) other is = absurd (other row is)
 other_fits t said (statement.Delete key) other is = tt
 other_fits t said statement.Publish other is = tt

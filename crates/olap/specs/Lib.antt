@@ -8,6 +8,7 @@ pub mod Hows
 pub mod Jobs
 pub mod Keys
 pub mod Limits
+pub mod Listings
 pub mod Output
 pub mod Programs
 pub mod Says

@@ -16,7 +16,7 @@ pub struct Limits {
     pub default: u64,
 }
 
-/// How many workers answer a report, each in a thread of its own.
+/// How many workers load parts and answer a report, each in a thread of its own.
 pub const WORKERS: Limits = Limits {
     least: 1,
     most: 64,

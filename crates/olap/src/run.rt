@@ -1,7 +1,7 @@
 //! Runs a script: one keeper, line after line, and a block of output for each line that has one.
 ghost use Rattle.std.specs.Prelude.{◌≡◌, ◌+◌, ◌<◌, ◌≤◌, ◌^◌, [], length, IsErrOf};
 ghost use Rattle.std.specs.Str.Lines.{lines};
-ghost use Rattle.olap.specs.Endings.{AsksForReport, Delivers};
+ghost use Rattle.olap.specs.Endings.{AsksForWorkers, Delivers};
 ghost use Rattle.olap.specs.Givens.{givens};
 ghost use Rattle.olap.specs.Hows.{hash_of_choice};
 ghost use Rattle.olap.specs.Limits.{script_limit};
@@ -30,14 +30,14 @@ use std::thread::Threads;
 /// each report is that of the rows that stood published at its line, whatever later lines change.
 ///
 /// Where it ends early, a beginning of its output was taken: [`Ended::OutOfMemory`] where a growth was
-/// refused, [`Ended::NoWorker`] where the thread of a report's worker could not be started, which a script
-/// that asks for no report does not meet, and [`Ended::WriteFailed`] where the writer failed in the call. A
+/// refused, [`Ended::NoWorker`] where the thread of a worker could not be started, which a script that asks for
+/// no report and loads no part does not meet, and [`Ended::WriteFailed`] where the writer failed in the call. A
 /// script of more than 1,048,576 bytes and more than 64 parts are refused as a whole: the output is
-/// `line 0 refused 15`. The parts have no effect yet.
+/// `line 0 refused 15`. The parts are numbered from 1, in their order, for the `load` lines of the script.
 ///
-/// `rt` starts a thread for each worker of a report, all of which are joined before the report's block is
-/// written. `gate` is told of each publish by the thread that calls, and of each piece of a report by the worker
-/// that drew it.
+/// `rt` starts a thread for each worker of a report or a load, all of which are joined before the line's block is
+/// written. `gate` is told of each publish by the thread that calls, of each piece of a report and of each listed
+/// part by the worker that drew it, and of each half of a list of parts by the thread that merges it.
 pub fn run<H: KeyHash<Cell> + KeyHash<Tuple> + Send + Sync, O: Out, G: Gate, R: Threads + Wait>(
     rt: &R,
     alloc: Global,
@@ -49,7 +49,7 @@ pub fn run<H: KeyHash<Cell> + KeyHash<Tuple> + Send + Sync, O: Out, G: Gate, R: 
 ) -> Result<(), Ended>
     requires { O.faults out.old + 1 < 2 ^ 64 }
     ensures delivered { Delivers O.taken O.faults out.old out.new (IsOutput H.KeyHash-1.hash_of (givens how.now.rows parts.now) script.now) result }
-    ensures worker { IsErrOf result Ended.NoWorker → AsksForReport (givens how.now.rows parts.now) (lines script.now) }
+    ensures worker { IsErrOf result Ended.NoWorker → AsksForWorkers (givens how.now.rows parts.now) (lines script.now) }
 {
     if script.len() > MAX_SCRIPT_BYTES || parts.len() > MAX_PARTS {
         return write_refusal(alloc, out);
@@ -77,7 +77,7 @@ pub fn run_by<O: Out, G: Gate, R: Threads + Wait>(
 ) -> Result<(), Ended>
     requires { O.faults out.old + 1 < 2 ^ 64 }
     ensures delivered { Delivers O.taken O.faults out.old out.new (IsOutput (hash_of_choice hash) (givens how.now.rows parts.now) script.now) result }
-    ensures worker { IsErrOf result Ended.NoWorker → AsksForReport (givens how.now.rows parts.now) (lines script.now) }
+    ensures worker { IsErrOf result Ended.NoWorker → AsksForWorkers (givens how.now.rows parts.now) (lines script.now) }
 {
     match hash {
         HashChoice::Fnv => run::<Fnv, O, G, R>(rt, alloc, script, parts, how, gate, out),
@@ -95,7 +95,7 @@ fn run_lines<H: KeyHash<Cell> + KeyHash<Tuple> + Send + Sync, O: Out, G: Gate, R
     requires faults { O.faults out.old + 1 < 2 ^ 64 }
     requires short { length script.now ≤ script_limit }
     ensures delivered { Delivers O.taken O.faults out.old out.new (AreBlocks H.KeyHash-1.hash_of (givens setup.now.how.now.rows setup.now.parts.now) [] (lines script.now)) result }
-    ensures worker { IsErrOf result Ended.NoWorker → AsksForReport (givens setup.now.how.now.rows setup.now.parts.now) (lines script.now) }
+    ensures worker { IsErrOf result Ended.NoWorker → AsksForWorkers (givens setup.now.how.now.rows setup.now.parts.now) (lines script.now) }
 {
     let mut desk: Option<Keeper<H>> = None;
     run_at(setup, script, &mut desk, out)
@@ -112,7 +112,7 @@ fn run_at<H: KeyHash<Cell> + KeyHash<Tuple> + Send + Sync, O: Out, G: Gate, R: T
     requires short { length script.now ≤ script_limit }
     requires fresh { IsFresh desk.old }
     ensures delivered { Delivers O.taken O.faults out.old out.new (AreBlocks H.KeyHash-1.hash_of (givens setup.now.how.now.rows setup.now.parts.now) [] (lines script.now)) result }
-    ensures worker { IsErrOf result Ended.NoWorker → AsksForReport (givens setup.now.how.now.rows setup.now.parts.now) (lines script.now) }
+    ensures worker { IsErrOf result Ended.NoWorker → AsksForWorkers (givens setup.now.how.now.rows setup.now.parts.now) (lines script.now) }
 {
     // The law by which what was written is a beginning of an output, where a line ends the run; it does
     // nothing.

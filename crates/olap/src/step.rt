@@ -1,5 +1,5 @@
 //! The step of one line: what it says is done, and its block is made.
-ghost use Rattle.std.specs.Prelude.{◌≡◌, ◌+◌, ◌<◌, ◌^◌, [], IfErr, IfOk, None, OnOk, Some};
+ghost use Rattle.std.specs.Prelude.{◌≡◌, ◌+◌, ◌<◌, ◌≤◌, ◌^◌, [], length, IfErr, IfOk, None, OnOk, Some};
 ghost use Rattle.std.specs.FinMap.{remove};
 ghost use Rattle.cells.specs.Fitting.{IsRowOf};
 ghost use Rattle.board.specs.Editions.{ChangesDraft, Publishes};
@@ -7,24 +7,25 @@ ghost use Rattle.board.specs.Editions as editions;
 ghost use Rattle.olap.specs.Deeds.{deed};
 ghost use Rattle.olap.specs.Endings.{EndsAt};
 ghost use Rattle.olap.specs.Givens.{givens};
+ghost use Rattle.olap.specs.Limits.{script_limit};
 ghost use Rattle.olap.specs.Stands.{Executes, Publishable, PutsRow, schema_of_desk};
 
 use crate::block::{refusal_block, shape_block};
 use crate::ended::Ended;
 use crate::fault::Fault;
 use crate::how::How;
+use crate::loading::execute_load;
 use crate::reporting::execute_report;
 use crate::statement::{Statement, read_first, read_statement};
 use board::{Keeper, rows_have_the_shape_of_their_keys};
-use cells::{Cell, KeyHash, Row, Tuple};
+use cells::{Cell, KeyHash, Row, Tuple, later_puts_lie_over};
 use crew::Gate;
 use std::alloc::Global;
 use std::sync::Wait;
 use std::thread::Threads;
 
-/// What each line is run with: where the threads of a report's workers come from, where memory comes from, how
-/// the run is made, the parts, which no command reads yet, and who is told of each publish and of a report's
-/// pieces.
+/// What each line is run with: where the threads of workers come from, where memory comes from, how the run is
+/// made, the parts that may be loaded, and who is told of each publish, of a report's pieces and of a load's parts.
 #[derive(Drop)]
 pub struct Setup<'a, R, G: Gate> {
     pub rt: &'a R,
@@ -42,15 +43,16 @@ pub struct Line<'a> {
 }
 
 /// Does what a line says, and gives the line's block. Any line may end the run with [`Ended::OutOfMemory`], and a
-/// report with [`Ended::NoWorker`], too.
+/// report and a load with [`Ended::NoWorker`], too.
 pub fn execute<H: KeyHash<Cell> + KeyHash<Tuple> + Send + Sync, G: Gate, R: Threads + Wait>(
     setup: &Setup<'_, R, G>,
     desk: &mut Option<Keeper<H>>,
     line: Line<'_>,
 ) -> Result<Vec<u8>, Ended>
     requires publishable { Publishable desk.old }
+    requires short { length line.bytes.now ≤ script_limit }
     ensures step { IfOk result (λ block. Executes H.KeyHash-1.hash_of (givens setup.now.how.now.rows setup.now.parts.now) line.entry.bytes.now line.entry.number desk.old desk.new block.items) }
-    ensures ended { IfErr result (EndsAt (deed (givens setup.now.how.now.rows setup.now.parts.now).parts (schema_of_desk desk.old) line.entry.bytes.now)) }
+    ensures ended { IfErr result (EndsAt (deed (schema_of_desk desk.old) line.entry.bytes.now)) }
 {
     if let Some(keeper) = desk {
         return execute_kept(setup, keeper, line);
@@ -84,19 +86,25 @@ fn execute_first<H: KeyHash<Cell>, G: Gate, R>(
 }
 
 /// The same once there is a table.
-#[tactic(auto, using(crate::proofs::StepsLemmas::executes_nothing, crate::proofs::StepsLemmas::executes_refused, crate::proofs::StepsLemmas::executes_report, crate::proofs::StepsLemmas::executes_put, crate::proofs::StepsLemmas::executes_overflow, crate::proofs::StepsLemmas::executes_publish, crate::proofs::StepsLemmas::executes_delete))]
+#[tactic(auto, using(crate::proofs::StepsLemmas::executes_nothing, crate::proofs::StepsLemmas::executes_refused, crate::proofs::StepsLemmas::executes_report, crate::proofs::StepsLemmas::executes_publish, crate::proofs::StepsLemmas::executes_delete))]
 fn execute_kept<H: KeyHash<Cell> + KeyHash<Tuple> + Send + Sync, G: Gate, R: Threads + Wait>(
     setup: &Setup<'_, R, G>,
     keeper: &mut Keeper<H>,
     line: Line<'_>,
 ) -> Result<Vec<u8>, Ended>
-    requires { editions.edition keeper.old + 1 < 2 ^ 64 }
+    requires publishable { editions.edition keeper.old + 1 < 2 ^ 64 }
+    requires short { length line.bytes.now ≤ script_limit }
     ensures step { IfOk result (λ block. Executes H.KeyHash-1.hash_of (givens setup.now.how.now.rows setup.now.parts.now) line.entry.bytes.now line.entry.number (Some keeper.old) (Some keeper.new) block.items) }
-    ensures ended { IfErr result (EndsAt (deed (givens setup.now.how.now.rows setup.now.parts.now).parts (Some (editions.schema keeper.old)) line.entry.bytes.now)) }
+    ensures ended { IfErr result (EndsAt (deed (Some (editions.schema keeper.old)) line.entry.bytes.now)) }
 {
     let alloc = setup.alloc;
-    match read_statement(alloc, keeper.schema(), setup.parts, line.bytes) {
+    match read_statement(alloc, keeper.schema(), line.bytes) {
         Ok(Statement::Nothing) => Ok(Vec::new(alloc)),
+        Ok(Statement::Load(listing)) => {
+            // The law by which loaded rows are those of puts behind all that came before; it does nothing.
+            later_puts_lie_over();
+            execute_load(setup, keeper, listing, line.number)
+        }
         Ok(Statement::Put(row)) => put(alloc, keeper, row, line.number),
         Ok(Statement::Delete(key)) => delete(alloc, keeper, key),
         Ok(Statement::Publish) => publish(alloc, setup.gate, keeper),

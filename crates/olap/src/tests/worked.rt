@@ -16,12 +16,17 @@ use trie::Cutting;
 type Report = (&'static [u8], &'static [u8], &'static str);
 
 pub(super) const SALES: &[u8] = b"table SALES (ID INT KEY, REGION TEXT, ITEM TEXT, UNITS INT)
-put 1,north,pen,10
-put 2,north,ink,
-put 3,,pen,5
-put 4,south,pen,-2
+load 1
 publish
 report ";
+
+/// The part of the sales, which is number 1.
+pub(super) const SALES_PART: &[u8] = b"ID,REGION,ITEM,UNITS
+1,north,pen,10
+2,north,ink,
+3,,pen,5
+4,south,pen,-2
+";
 
 const NO_SALES: &[u8] = b"table SALES (ID INT KEY, REGION TEXT, ITEM TEXT, UNITS INT)
 report ";
@@ -59,7 +64,7 @@ const REPORTS: [Report; 21] = [
     (
         SALES,
         BY_REGION,
-        "line 7 edition 1\nREGION | GROUPING(REGION) | COUNT(*) | COUNT(UNITS) | SUM(UNITS)\nNULL | 0 | 1 | 1 | 5\n'north' | 0 | 2 | 1 | 10\n'south' | 0 | 1 | 1 | -2\nNULL | 1 | 4 | 3 | 13\n",
+        "line 4 edition 1\nREGION | GROUPING(REGION) | COUNT(*) | COUNT(UNITS) | SUM(UNITS)\nNULL | 0 | 1 | 1 | 5\n'north' | 0 | 2 | 1 | 10\n'south' | 0 | 1 | 1 | -2\nNULL | 1 | 4 | 3 | 13\n",
     ),
     (
         NO_SALES,
@@ -74,27 +79,27 @@ const REPORTS: [Report; 21] = [
     (
         SALES,
         b"SELECT MIN(UNITS), SUM(UNITS), COUNT(*) FROM SALES WHERE UNITS > 100",
-        "line 7 edition 1\nMIN(UNITS) | SUM(UNITS) | COUNT(*)\nNULL | NULL | 0\n",
+        "line 4 edition 1\nMIN(UNITS) | SUM(UNITS) | COUNT(*)\nNULL | NULL | 0\n",
     ),
     (
         SALES,
         b"SELECT COUNT(*) FROM SALES WHERE NOT (UNITS > 0)",
-        "line 7 edition 1\nCOUNT(*)\n1\n",
+        "line 4 edition 1\nCOUNT(*)\n1\n",
     ),
     (
         SALES,
         b"SELECT REGION, ITEM, COUNT(*) FROM SALES GROUP BY CUBE(REGION, ITEM)",
-        "line 7 edition 1\nREGION | ITEM | COUNT(*)\nNULL | 'pen' | 1\n'north' | 'ink' | 1\n'north' | 'pen' | 1\n'south' | 'pen' | 1\nNULL | NULL | 1\n'north' | NULL | 2\n'south' | NULL | 1\nNULL | 'ink' | 1\nNULL | 'pen' | 3\nNULL | NULL | 4\n",
+        "line 4 edition 1\nREGION | ITEM | COUNT(*)\nNULL | 'pen' | 1\n'north' | 'ink' | 1\n'north' | 'pen' | 1\n'south' | 'pen' | 1\nNULL | NULL | 1\n'north' | NULL | 2\n'south' | NULL | 1\nNULL | 'ink' | 1\nNULL | 'pen' | 3\nNULL | NULL | 4\n",
     ),
     (
         SALES,
         b"SELECT REGION, COUNT(*) FROM SALES GROUP BY GROUPING SETS ((REGION),(REGION),())",
-        "line 7 edition 1\nREGION | COUNT(*)\nNULL | 1\n'north' | 2\n'south' | 1\nNULL | 1\n'north' | 2\n'south' | 1\nNULL | 4\n",
+        "line 4 edition 1\nREGION | COUNT(*)\nNULL | 1\n'north' | 2\n'south' | 1\nNULL | 1\n'north' | 2\n'south' | 1\nNULL | 4\n",
     ),
     (
         SALES,
         b"SELECT REGION, ITEM, COUNT(*) FROM SALES GROUP BY REGION, ROLLUP(ITEM)",
-        "line 7 edition 1\nREGION | ITEM | COUNT(*)\nNULL | 'pen' | 1\n'north' | 'ink' | 1\n'north' | 'pen' | 1\n'south' | 'pen' | 1\nNULL | NULL | 1\n'north' | NULL | 2\n'south' | NULL | 1\n",
+        "line 4 edition 1\nREGION | ITEM | COUNT(*)\nNULL | 'pen' | 1\n'north' | 'ink' | 1\n'north' | 'pen' | 1\n'south' | 'pen' | 1\nNULL | NULL | 1\n'north' | NULL | 2\n'south' | NULL | 1\n",
     ),
     (
         GREAT,
@@ -104,29 +109,29 @@ const REPORTS: [Report; 21] = [
     (
         SALES,
         b"SELECT COUNT(DISTINCT ITEM), COUNT(ITEM) FROM SALES",
-        "line 7 edition 1\nCOUNT(DISTINCT ITEM) | COUNT(ITEM)\n2 | 4\n",
+        "line 4 edition 1\nCOUNT(DISTINCT ITEM) | COUNT(ITEM)\n2 | 4\n",
     ),
     (
         SALES,
         b"SELECT REGION, COUNT(DISTINCT ITEM), COUNT(DISTINCT REGION) FROM SALES GROUP BY ROLLUP(REGION)",
-        "line 7 edition 1\nREGION | COUNT(DISTINCT ITEM) | COUNT(DISTINCT REGION)\nNULL | 1 | 0\n'north' | 2 | 1\n'south' | 1 | 1\nNULL | 2 | 2\n",
+        "line 4 edition 1\nREGION | COUNT(DISTINCT ITEM) | COUNT(DISTINCT REGION)\nNULL | 1 | 0\n'north' | 2 | 1\n'south' | 1 | 1\nNULL | 2 | 2\n",
     ),
     (
         SALES,
         b"SELECT ITEM, COUNT(*) FROM SALES GROUP BY REGION",
-        "line 7 refused 12\n",
+        "line 4 refused 12\n",
     ),
     (
         SALES,
         b"SELECT ITEM, SUM(REGION) FROM SALES GROUP BY UNITS",
-        "line 7 refused 13\n",
+        "line 4 refused 13\n",
     ),
     (
         SALES,
         b"SELECT ITEM, SUM(REGION) FROM SALES GROUP BY X",
-        "line 7 refused 11\n",
+        "line 4 refused 11\n",
     ),
-    (SALES, b"SELECT COUNT(* FROM SALES", "line 7 refused 10\n"),
+    (SALES, b"SELECT COUNT(* FROM SALES", "line 4 refused 10\n"),
     (
         WIDE,
         b"SELECT COUNT(*) FROM W GROUP BY CUBE(A, B, C, D, E, F, G, H)",
@@ -155,7 +160,7 @@ const REPORTS: [Report; 21] = [
     (
         SALES,
         b"SELECT COUNT(*) FROM SALES GROUP BY UNITS, ITEM",
-        "line 7 edition 1\nCOUNT(*)\n1\n1\n1\n1\n",
+        "line 4 edition 1\nCOUNT(*)\n1\n1\n1\n1\n",
     ),
 ];
 
@@ -173,7 +178,8 @@ fn answers<H: KeyHash<Key> + KeyHash<Tuple> + Send + Sync, R: Threads + Wait>(
     let mut script = Vec::from_slice(alloc, report.0)?;
     script.extend_from_slice(report.1)?;
     let mut out = Pour::new(Vec::new(alloc));
-    run::<H, _, _, _>(rt, alloc, script.as_slice(), &[], &how, &Open, &mut out)?;
+    let parts = [Vec::from_slice(alloc, SALES_PART)?];
+    run::<H, _, _, _>(rt, alloc, script.as_slice(), &parts, &how, &Open, &mut out)?;
     Ok(out.into_inner().as_slice() == report.2.as_bytes())
 }
 

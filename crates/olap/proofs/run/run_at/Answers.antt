@@ -2,20 +2,27 @@ use Rattle.std.proofs.Common.{◌≡◌, ◌∙◌, Err, ap, arith, refl}
 use Rattle.std.specs.Str.Lines.{lines}
 use Rattle.std.proofs.lemmas.Result.{err_from_is_err_and}
 use Rattle.olap.specs.Givens.{givens}
-use Rattle.olap.proofs.ProgressLemmas.{asks_for_report, delivers_early, delivers_late, delivers_whole, last_first, last_first-more, length-lines, publishable, reached_beginning, reached_end, reached_more, reached_so_far, reached_start}
+use Rattle.olap.specs.Limits.{script_limit}
+use Rattle.olap.proofs.ProgressLemmas.{asks_for_workers, delivers_early, delivers_late, delivers_whole, last_first, last_first-more, length-lines, narrow_left, narrow_lines, publishable, reached_beginning, reached_end, reached_more, reached_so_far, reached_start}
 use Rattle.olap.proofs.run.run_at.Goals as goal
 
 pub loop-bytes-init : goal.loop-bytes-init
 loop-bytes-init g c =
     let all : c.into_iter-bytes-iterator.result ≡ lines c.args.script.now = c.into_iter-bytes-iterator.ensures.into_iter_gives ∙ c.lines_of-bytes-items.ensures in
     record {
-      reached = rw (all, c.requires.fresh) (reached_start _ _ _ _ (omega (arith, length-lines c.args.script.now, c.requires.short)));
+      reached = rw (all, c.requires.fresh)
+          (reached_start _ _ _ _ (omega (arith, length-lines c.args.script.now, c.requires.short)) (narrow_lines c.args.script.now script_limit c.requires.short));
       sound = refl;
     }
 
 pub execute-requires-clause-publishable : goal.execute-requires-clause-publishable
 execute-requires-clause-publishable g c =
     λ κs outlives. publishable (givens c.args.setup.now.how.now.rows c.args.setup.now.parts.now) (last_first c.loop-bytes.yielded) c.loop-bytes.desk c.loop-bytes.invariant.reached.stands (omega (arith, c.loop-bytes.invariant.reached.short))
+
+pub execute-requires-clause-short : goal.execute-requires-clause-short
+execute-requires-clause-short g c = λ κs outlives.
+    (narrow_left _ _ g.H.KeyHash-1.hash_of (givens c.args.setup.now.how.now.rows c.args.setup.now.parts.now) (last_first c.loop-bytes.yielded) c.loop-bytes.bytes-iterator (lines c.args.script.now) c.loop-bytes.desk c.loop-bytes.number
+    c.loop-bytes.invariant.reached c.in-Some.bytes.now c.next.new.self c.in-Some.ensures.steps).0
 
 pub returns-in_default-clause-delivered : goal.returns-in_default-clause-delivered
 returns-in_default-clause-delivered g c =
@@ -45,7 +52,7 @@ returns-in_err-block-clause-delivered g c =
 pub returns-in_err-block-clause-worker : goal.returns-in_err-block-clause-worker
 returns-in_err-block-clause-worker g c = λ late.
     let p = err_from_is_err_and c.from_residual.result c.from_residual.ensures.1 in
-    asks_for_report _ _ g.H.KeyHash-1.hash_of (givens c.args.setup.now.how.now.rows c.args.setup.now.parts.now) (last_first c.loop-bytes.yielded) c.loop-bytes.bytes-iterator (lines c.args.script.now) c.loop-bytes.desk c.loop-bytes.number
+    asks_for_workers _ _ g.H.KeyHash-1.hash_of (givens c.args.setup.now.how.now.rows c.args.setup.now.parts.now) (last_first c.loop-bytes.yielded) c.loop-bytes.bytes-iterator (lines c.args.script.now) c.loop-bytes.desk c.loop-bytes.number
     c.loop-bytes.invariant.reached c.in-Some.bytes.now c.next.new.self _ c.from_residual.result c.in-Some.ensures.steps c.in_err-block.ensures.ended (p.1 ∙ ap Err p.2) late
 
 pub returns-clause-delivered : goal.returns-clause-delivered
