@@ -5,7 +5,7 @@ use Rattle.std.specs.List.{AllByRecursion, flat_map}
 use Rattle.std.specs.List.Sorted.{IsPermutation}
 use Rattle.std.proofs.lemmas.List.{length-append, length-map, map-append}
 use Rattle.std.proofs.lemmas.List.Sorted.{IsPermutation-map}
-use Rattle.board.specs.Editions.{AreRowsOf, Rows}
+use Rattle.cells.specs.Tables.{AreRowsOf, Rows}
 use Rattle.cells.specs.CellOrder.{cell_cmp, cell_cmp-total}
 use Rattle.cells.specs.Fitting.{IsRowOf}
 use Rattle.cells.specs.Laws.{len_left}

@@ -3,7 +3,7 @@ use Rattle.std.specs.Prelude.{◌≡◌, ◌≤◌, List, length}
 use Rattle.std.specs.FinMap.{len}
 use Rattle.std.specs.List.{AllByRecursion}
 use Rattle.std.specs.List.Sorted.{IsPermutation}
-use Rattle.board.specs.Editions.{AreRowsOf, Rows}
+use Rattle.cells.specs.Tables.{AreRowsOf, Rows}
 use Rattle.cells.specs.Fitting.{IsRowOf}
 use Rattle.cells.specs.Tables.{table}
 use Rattle.cells.specs.Updates.{AreLeft}
