@@ -1,3 +1,4 @@
 pub mod PiecesLemmas
 pub mod TableRowsLemmas
+pub mod WaitingLemmas
 pub mod WritingLemmas

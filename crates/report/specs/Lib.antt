@@ -4,3 +4,4 @@ pub mod Pieces
 pub mod Reports
 pub mod Taken
 pub mod Tapes
+pub mod Waiting

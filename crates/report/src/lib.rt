@@ -3,17 +3,21 @@
 #![tactic(auto)]
 
 mod answering;
+mod backlog;
 mod limits;
 mod out;
 mod pour;
 mod printing;
+mod starting;
 mod tape;
 
 pub use answering::answer;
-pub use limits::MAX_WORKERS;
+pub use backlog::Backlog;
+pub use limits::{MAX_REPORTS, MAX_WORKERS};
 pub use out::{Out, OutFault, write_whole};
 pub use pour::Pour;
 pub use printing::text;
+pub use starting::Starter;
 pub use tape::Tape;
 
 #[cfg(test)]

@@ -1,0 +1,166 @@
+-- What waits, after each step, and what of it was written.
+use Rattle.std.proofs.Common.{◌≡◌, ℕ, List, [], ◌∷◌, ◌++◌, Option, Result, Ok, Err, refl, sym, ap, ◌∙◌, subst, append_assoc}
+use Rattle.std.proofs.lemmas.List.{append-nil}
+use Rattle.std.proofs.lemmas.Result.{on_err_weaker, on_ok_weaker}
+use Rattle.std.specs.Io.KnownBytes.{Appends}
+use Rattle.std.specs.Prelude.{IsErr, OnErr, OnOk}
+use Rattle.board.specs.Editions.{Edition}
+use Rattle.cells.specs.declared.refused.Refused.{Refused}
+use Rattle.query.specs.Plans.{PlanTree}
+use Rattle.report.specs.Laws.{takes_beginning, takes_last, takes_more, takes_start, takes_whole}
+use Rattle.report.specs.Taken.{TakesBeginning, TakesUpTo}
+use Rattle.report.specs.Waiting.{Awaits, Comes, GoesOn, HasAnswer, TakesFront, UnderWay, Waits, report_first, text_alone}
+
+pub always_on_err : {T E P : Type 0} (r : Result T E) → P → OnErr r P
+always_on_err (Ok x) p = tt
+always_on_err (Err e) p = p
+
+-- ---- two pieces
+
+module _ (a b : Option (List ℕ)) (first rest : List ℕ) where
+  -- a beginning of the first
+  pub begins_first : TakesBeginning a b first → TakesBeginning a b (first ++ rest)
+  begins_first p = takes_beginning a a b (first ++ rest) first rest (takes_start a (first ++ rest)) p
+
+  -- the first
+  pub takes_first : Appends a b first → TakesUpTo a b (first ++ rest) rest
+  takes_first p = takes_more a a b (first ++ rest) first rest (takes_start a (first ++ rest)) p
+
+-- the first, and a beginning of the other
+pub begins_second : (a b c : Option (List ℕ)) (first rest : List ℕ) → Appends a b first → TakesBeginning b c rest → TakesBeginning a c (first ++ rest)
+begins_second a b c first rest p q = takes_last a b c (first ++ rest) rest (takes_first a b first rest p) q
+
+-- what was taken of a text, with more behind it
+pub takes_with : (a b : Option (List ℕ)) (whole rest more : List ℕ) → TakesUpTo a b whole rest → TakesUpTo a b (whole ++ more) (rest ++ more)
+takes_with a b whole rest more t = record {
+  front = t.front;
+  whole_is = ap (λ text. text ++ more) t.whole_is ∙ append_assoc t.front rest more;
+  taken = t.taken;
+}
+
+-- ---- what waits
+
+-- a text comes behind all the rest
+comes_text : (after text : List ℕ) (reports : List UnderWay) (waiting : List ℕ) → Comes after reports waiting → Comes (after ++ text) reports (waiting ++ text)
+comes_text after text [] waiting text_alone = text_alone
+comes_text after text (report ∷ more) waiting (report_first answer rest has comes) =
+    let longer : report.before ++ (answer ++ (rest ++ text)) ≡ (report.before ++ (answer ++ rest)) ++ text =
+    sym (append_assoc report.before (answer ++ rest) text ∙ ap (λ t. report.before ++ t) (append_assoc answer rest text)) in
+    subst (Comes (after ++ text) (report ∷ more)) longer (report_first answer (rest ++ text) has (comes_text after text more rest comes))
+
+-- so does a report
+comes_report : (after answer : List ℕ) (edition : Edition) (plan : PlanTree) (reports : List UnderWay) (waiting : List ℕ) → HasAnswer edition plan answer → Comes after reports waiting →
+    Comes [] (reports ++ record { before = after; edition = edition; plan = plan } ∷ []) (waiting ++ answer)
+comes_report after answer edition plan [] waiting has text_alone =
+    subst (λ t. Comes [] (record { before = after; edition = edition; plan = plan } ∷ []) (after ++ t)) (append-nil answer) (report_first answer [] has text_alone)
+comes_report after answer edition plan (report ∷ more) waiting has (report_first first rest other comes) =
+    let whole : UnderWay = record { before = after; edition = edition; plan = plan } in
+    let longer : report.before ++ (first ++ (rest ++ answer)) ≡ (report.before ++ (first ++ rest)) ++ answer =
+    sym (append_assoc report.before (first ++ rest) answer ∙ ap (λ t. report.before ++ t) (append_assoc first rest answer)) in
+    subst (Comes [] (report ∷ (more ++ whole ∷ []))) longer (report_first first (rest ++ answer) other (comes_report after answer edition plan more rest has comes))
+
+pub awaits_text : (w v : Waits) (waiting text : List ℕ) → v.reports ≡ w.reports → v.after ≡ w.after ++ text → Awaits w waiting → Awaits v (waiting ++ text)
+awaits_text w v waiting text same more awaits = rw (same, more) (comes_text w.after text w.reports waiting awaits)
+
+pub awaits_report : (w v : Waits) (waiting answer : List ℕ) (edition : Edition) (plan : PlanTree) → v.reports ≡ w.reports ++ record { before = w.after; edition = edition; plan = plan } ∷ [] →
+    v.after ≡ [] → HasAnswer edition plan answer → Awaits w waiting → Awaits v (waiting ++ answer)
+awaits_report w v waiting answer edition plan is none has awaits = rw (is, none) (comes_report w.after answer edition plan w.reports waiting has awaits)
+
+-- where no report is under way, the text behind them is all
+only_text : (after : List ℕ) (reports : List UnderWay) (waiting : List ℕ) → reports ≡ [] → Comes after reports waiting → waiting ≡ after
+only_text after [] waiting none text_alone = refl
+only_text after (report ∷ more) waiting none (report_first answer rest has comes) = absurd cc
+
+pub awaits_only_text : (w : Waits) (waiting : List ℕ) → w.reports ≡ [] → Awaits w waiting → waiting ≡ w.after
+awaits_only_text w waiting none awaits = only_text w.after w.reports waiting none awaits
+
+pub awaits_nothing : (w : Waits) → w.reports ≡ [] → w.after ≡ [] → Awaits w []
+awaits_nothing w none empty = rw (none, empty) text_alone
+
+-- ---- steps
+
+module _ {T : Type 0} (a b c : Option (List ℕ)) where
+  -- what was written goes on
+  pub front_on : (w v : Waits) (text : List ℕ) (r : Result T Refused) (f : TakesFront a b w text) → GoesOn b c v f.rest r → GoesOn a c v text r
+  front_on w v text (Ok x) f on = record {
+    front = record {
+      rest = on.front.rest;
+      taken = takes_more a b c text on.front.taken.front on.front.rest (subst (TakesUpTo a b text) on.front.taken.whole_is f.taken) on.front.taken.taken;
+      awaits = on.front.awaits;
+    };
+    beginning = tt;
+  }
+  front_on w v text (Err e) f on = record { front = tt; beginning = takes_last a b c text f.rest f.taken on.beginning }
+
+module _ {T : Type 0} (a b : Option (List ℕ)) where
+  -- the oldest report was written
+  oldest : (report : UnderWay) (v : Waits) (text : List ℕ) (r : Result T Refused) → Comes v.after (report ∷ v.reports) text →
+      ((answer : List ℕ) → HasAnswer report.edition report.plan answer → OnOk r (Appends a b (report.before ++ answer))) →
+      ((answer : List ℕ) → HasAnswer report.edition report.plan answer → OnErr r (TakesBeginning a b (report.before ++ answer))) → GoesOn a b v text r
+  oldest report v text (Ok x) (report_first answer rest has comes) written beginning = record {
+    front = record {
+      rest = rest;
+      taken = rw (← append_assoc report.before answer rest) (takes_first a b (report.before ++ answer) rest (written answer has));
+      awaits = comes;
+    };
+    beginning = tt;
+  }
+  oldest report v text (Err e) (report_first answer rest has comes) written beginning = record {
+    front = tt;
+    beginning = rw (← append_assoc report.before answer rest) (begins_first a b (report.before ++ answer) rest (beginning answer has));
+  }
+
+  pub goes_oldest : (report : UnderWay) (w v : Waits) (text : List ℕ) (r : Result T Refused) → w.reports ≡ report ∷ v.reports → w.after ≡ v.after → Awaits w text →
+      ((answer : List ℕ) → HasAnswer report.edition report.plan answer → OnOk r (Appends a b (report.before ++ answer))) →
+      ((answer : List ℕ) → HasAnswer report.edition report.plan answer → OnErr r (TakesBeginning a b (report.before ++ answer))) → GoesOn a b v text r
+  goes_oldest report w v text r is same awaits written beginning = oldest report v text r (rw (is, same) at awaits) written beginning
+
+  -- it ended early behind a beginning
+  pub stops : (v : Waits) (text : List ℕ) (r : Result T Refused) → IsErr r → TakesBeginning a b text → GoesOn a b v text r
+  stops v text (Ok x) bad beginning = absurd cc
+  stops v text (Err e) bad beginning = record { front = tt; beginning = beginning }
+
+  -- all was written
+  pub goes_whole : (v : Waits) (text : List ℕ) (r : Result T Refused) → OnOk r (Appends a b text) → OnErr r (TakesBeginning a b text) → OnOk r (Awaits v []) → GoesOn a b v text r
+  goes_whole v text (Ok x) all beginning nothing = record {
+    front = record { rest = []; taken = record { front = text; whole_is = sym (append-nil text); taken = all }; awaits = nothing };
+    beginning = tt;
+  }
+  goes_whole v text (Err e) all beginning nothing = record { front = tt; beginning = beginning }
+
+-- nothing was written
+pub waits_all : {T : Type 0} (a : Option (List ℕ)) (v : Waits) (text : List ℕ) (x : T) → Awaits v text → GoesOn a a v text (Ok x)
+waits_all a v text x awaits = record { front = record { rest = text; taken = takes_start a text; awaits = awaits }; beginning = tt }
+
+-- a report waits behind all that was left
+pub front_report : {T : Type 0} (a b : Option (List ℕ)) (w middle v : Waits) (waiting heading answer : List ℕ) (edition : Edition) (plan : PlanTree) (x : T) → TakesFront a b w waiting →
+    middle.reports ≡ w.reports → middle.after ≡ w.after ++ heading →
+    v.reports ≡ middle.reports ++ record { before = middle.after; edition = edition; plan = plan } ∷ [] → v.after ≡ [] → HasAnswer edition plan answer →
+    GoesOn a b v (waiting ++ (heading ++ answer)) (Ok x)
+front_report a b w middle v waiting heading answer edition plan x f same more is none has = record {
+  front = record {
+    rest = f.rest ++ (heading ++ answer);
+    taken = takes_with a b waiting f.rest (heading ++ answer) f.taken;
+    awaits = subst (Awaits v) (append_assoc f.rest heading answer)
+        (awaits_report middle v (f.rest ++ heading) answer edition plan is none has (awaits_text w middle f.rest heading same more f.awaits));
+  };
+  beginning = tt;
+}
+
+-- ---- the end
+
+module _ {U : Type 0} (a b c : Option (List ℕ)) where
+  -- what was written, and then an early end
+  pub ends_early : {T : Type 0} (w v : Waits) (text : List ℕ) (e : Refused) (r : Result U Refused) (f : TakesFront a b w text) → GoesOn {T = T} b c v f.rest (Err e) → OnErr r (TakesBeginning a c text)
+  ends_early w v text e r f on = always_on_err r (takes_last a b c text f.rest f.taken on.beginning)
+
+  -- what was written, and the text behind all reports
+  pub wholly : (w : Waits) (text : List ℕ) (r : Result U Refused) → w.reports ≡ [] → TakesFront a b w text → OnOk r (Appends b c w.after) → OnOk r (Appends a c text)
+  wholly w text r none f = on_ok_weaker r (λ last.
+      let all : f.rest ≡ w.after = awaits_only_text w f.rest none f.awaits in
+      takes_whole a c text (takes_more a b c text f.rest [] (rw append-nil f.taken) (subst (Appends b c) (sym all) last)))
+
+  pub begins_wholly : (w : Waits) (text : List ℕ) (r : Result U Refused) → w.reports ≡ [] → TakesFront a b w text → OnErr r (TakesBeginning b c w.after) → OnErr r (TakesBeginning a c text)
+  begins_wholly w text r none f = on_err_weaker r (λ late.
+      let all : f.rest ≡ w.after = awaits_only_text w f.rest none f.awaits in
+      takes_last a b c text f.rest f.taken (subst (TakesBeginning b c) (sym all) late))

@@ -1,0 +1,25 @@
+use Rattle.std.proofs.Common.{◌≡◌, [], subst, sym, rules}
+use Rattle.std.proofs.lemmas.Result.{on_ok_weaker}
+use Rattle.std.specs.Io.KnownBytes.{Appends}
+use Rattle.std.specs.Prelude.{OnErr, OnOk}
+use Rattle.report.proofs.WaitingLemmas.{awaits_nothing, awaits_only_text, awaits_text, goes_whole, stops, waits_all}
+use Rattle.report.specs.Laws.{takes_nothing}
+use Rattle.report.specs.Taken.{TakesBeginning}
+use Rattle.report.proofs.backlog.Backlog.say.Goals as goal
+
+pub returns-in_err-push_text-clause-written : goal.returns-in_err-push_text-clause-written
+returns-in_err-push_text-clause-written g c = λ waiting awaits. stops _ _ _ _ c.from_residual.result c.from_residual.ensures.0 (takes_nothing _ _)
+
+pub returns-then-len-gt0-clause-written : goal.returns-then-len-gt0-clause-written
+returns-then-len-gt0-clause-written g c = λ waiting awaits.
+    waits_all _ _ _ _ (awaits_text c.args.self.now c.push_text.new.self waiting c.args.text.now c.in_ok-push_text.ensures.reports c.in_ok-push_text.ensures.after awaits)
+
+pub returns-clause-written : goal.returns-clause-written
+returns-clause-written g c = λ waiting awaits.
+    let longer = awaits_text c.args.self.now c.push_text.new.self waiting c.args.text.now c.in_ok-push_text.ensures.reports c.in_ok-push_text.ensures.after awaits in
+    let none : c.push_text.new.self.reports ≡ [] = search rules in
+    let all = awaits_only_text c.push_text.new.self _ none longer in
+    goes_whole _ _ c.write_after.new.self _ c.write_after.result
+    (subst (λ text. OnOk c.write_after.result (Appends (g.O.Out.taken c.args.out.now) (g.O.Out.taken c.write_after.new.out) text)) (sym all) c.write_after.ensures.written)
+    (subst (λ text. OnErr c.write_after.result (TakesBeginning (g.O.Out.taken c.args.out.now) (g.O.Out.taken c.write_after.new.out) text)) (sym all) c.write_after.ensures.beginning)
+    (on_ok_weaker c.write_after.result (awaits_nothing c.write_after.new.self c.write_after.ensures.idle) c.write_after.ensures.nothing)

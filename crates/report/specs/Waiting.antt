@@ -1,0 +1,69 @@
+-- Text that waits to be written behind reports that are under way.
+use Rattle.std.specs.Prelude.{◌≡◌, ◌⊎◌, ℕ, List, [], ◌∷◌, ◌++◌, Option, Result, OnErr, OnOk}
+use Rattle.board.specs.Editions.{Edition}
+use Rattle.cells.specs.Tables.{Rows, table}
+use Rattle.cells.specs.Updates.{AreLeft}
+use Rattle.cells.specs.Values.{Entry}
+use Rattle.cells.specs.declared.refused.Refused.{Refused}
+use Rattle.cells.specs.declared.refused.Refused.TheVariants.{NoWorker, OutOfMemory, WriteFailed}
+use Rattle.groups.specs.Groups.{report_rows}
+use Rattle.query.specs.Plans.{PlanTree}
+use Rattle.report.specs.Reports.{report_text}
+use Rattle.report.specs.Taken.{TakesBeginning, TakesUpTo}
+use Rattle.report.specs.declared.backlog.Pending.{Pending}
+
+-- how many reports may be under way at a time
+abbrev pub under_way_limit : ℕ
+under_way_limit = 8
+
+-- the text is the plan's report over these rows, in whatever order they are listed
+pub record Answers (rows : Rows) (plan : PlanTree) (text : List ℕ) : Type 0 where
+  pub is : (rs : List Entry) → AreLeft rs → rows ≡ table rs → text ≡ report_text plan (report_rows plan rs)
+
+-- why a report may have no answer: want of memory, or of a thread
+abbrev pub IsUnmade : Refused → Type 0
+IsUnmade e = (e ≡ NoWorker) ⊎ (e ≡ OutOfMemory)
+
+-- why writing may end early: that, or a writer that failed
+abbrev pub IsLate : Refused → Type 0
+IsLate e = IsUnmade e ⊎ (e ≡ WriteFailed)
+
+-- a report under way: the text before it, the edition that it is on, and what it answers
+pub record UnderWay : Type 0 where
+  pub before : List ℕ
+  pub edition : Edition
+  pub plan : PlanTree
+
+-- the reports under way, in the order in which they began, and the text behind them
+pub record Waits : Type 0 where
+  pub reports : List UnderWay
+  pub after : List ℕ
+
+-- what is known of a report whose thread was started
+abbrev pub under_way : {H : Type 0} → Pending H → UnderWay
+under_way p = record { before = p.before.items; edition = p.answer.promise.edition.value; plan = p.answer.promise.plan.value }
+
+-- the plan has this answer on the edition, and no other
+abbrev pub HasAnswer : Edition → PlanTree → List ℕ → Type 0
+HasAnswer edition plan text = (answer : List ℕ) → Answers edition.rows plan answer → answer ≡ text
+
+-- the text comes of the reports, whatever thread ends first, and then of the text behind them
+pub data Comes (after : List ℕ) : List UnderWay → List ℕ → Type 0 where
+  text_alone : Comes after [] after
+  report_first : {report : UnderWay} {more : List UnderWay} (answer rest : List ℕ) → HasAnswer report.edition report.plan answer → Comes after more rest →
+      Comes after (report ∷ more) (report.before ++ (answer ++ rest))
+
+-- what waits is this text
+abbrev pub Awaits : Waits → List ℕ → Type 0
+Awaits waits text = Comes waits.after waits.reports text
+
+-- the writer took the text up to what waits of it
+pub record TakesFront (old new : Option (List ℕ)) (waits : Waits) (text : List ℕ) : Type 0 where
+  pub rest : List ℕ
+  pub taken : TakesUpTo old new text rest
+  pub awaits : Awaits waits rest
+
+-- a call goes on with the text: it writes up to what waits, or ends early behind a beginning
+pub record GoesOn {T : Type 0} (old new : Option (List ℕ)) (waits : Waits) (text : List ℕ) (result : Result T Refused) : Type 0 where
+  pub front : OnOk result (TakesFront old new waits text)
+  pub beginning : OnErr result (TakesBeginning old new text)

@@ -1,0 +1,239 @@
+//! Text that waits to be written behind reports that are under way.
+ghost use Rattle.std.specs.Prelude.{◌≡◌, ◌⊎◌, ℕ, ◌+◌, ◌<◌, ◌≤◌, ◌^◌, ◌++◌, ◌∷◌, [], List, length, IfErr, IfOk, IsErrOf, OnErr, OnOk};
+ghost use Rattle.std.specs.Io.KnownBytes.{Appends};
+ghost use Rattle.query.specs.Plans.{IsPlanOf};
+ghost use Rattle.report.specs.Limits.{worker_limit};
+ghost use Rattle.report.specs.Taken.{TakesBeginning};
+ghost use Rattle.report.specs.Waiting.{Awaits, GoesOn, HasAnswer, IsLate, under_way_limit};
+
+use crate::limits::MAX_REPORTS;
+use crate::out::{Out, write_whole};
+use crate::starting::{AnswerOf, Starter};
+use board::Snapshot;
+use cells::{Cell, KeyHash, Refused, Tuple};
+use crew::Gate;
+use query::Plan;
+use std::alloc::{AllocError, Global};
+use std::collections::VecDeque;
+use std::marker::Model;
+use std::mem;
+use std::sync::Wait;
+use std::thread::{PromisedHandle, Threads};
+
+/// A report whose thread was started, with the text that is written before its answer.
+#[derive(Drop)]
+struct Pending<H: KeyHash<Cell>> {
+    before: Vec<u8>,
+    answer: PromisedHandle<Result<Vec<u8>, Refused>, AnswerOf<H>>,
+}
+
+/// What waits to be written, in order: the answers of reports that are under way, of which there are at most
+/// [`MAX_REPORTS`], and the texts before, between and behind them.
+#[derive(Drop)]
+pub struct Backlog<H: KeyHash<Cell>> {
+    alloc: Global,
+    reports: VecDeque<Pending<H>>,
+    after: Vec<u8>,
+}
+
+impl<H: KeyHash<Cell>> Model for Backlog<H> {
+    ghost use Rattle.std.specs.Prelude.{◌≤◌, length, map};
+    ghost use Rattle.std.specs.Coded.{codes};
+    ghost use Rattle.board.specs.Editions.{coded_edition};
+    ghost use Rattle.query.specs.Codes.{coded_predicate};
+    ghost use Rattle.report.specs.Waiting.{Waits, under_way, under_way_limit};
+
+    ghost Value = { Waits };
+
+    ghost coded = { Prim.hlevel (codes, coded_edition, coded_predicate) };
+
+    ghost view = { λ b. record { reports = map under_way b.reports.items; after = b.after.items } };
+
+    ghost invariant = { λ b. length b.reports.items ≤ under_way_limit };
+}
+
+impl<H: KeyHash<Cell>> Backlog<H> {
+    /// Nothing waits. It takes no memory.
+    pub fn new(alloc: Global) -> Backlog<H>
+        ensures { result ≡ record { reports = []; after = [] } }
+    {
+        Backlog {
+            alloc,
+            reports: VecDeque::new(alloc),
+            after: Vec::new(alloc),
+        }
+    }
+
+    /// How many reports are under way.
+    fn len(&self) -> usize
+        ensures count { result ≡ length self.now.reports }
+        ensures most { result ≤ under_way_limit }
+    {
+        self.reports.len()
+    }
+
+    /// The text waits behind all the rest.
+    fn push_text(&mut self, text: &[u8]) -> Result<(), AllocError>
+        ensures reports { self.new.reports ≡ self.old.reports }
+        ensures after { OnOk result (self.new.after ≡ self.old.after ++ text.now) }
+    {
+        self.after.extend_from_slice(text)
+    }
+
+    /// The report waits behind all the rest.
+    fn push_report(
+        &mut self,
+        answer: PromisedHandle<Result<Vec<u8>, Refused>, AnswerOf<H>>,
+    ) -> Result<(), AllocError>
+        requires { length self.old.reports < under_way_limit }
+        ensures reports { OnOk result (self.new.reports ≡ self.old.reports ++ record { before = self.old.after; edition = answer.promise.edition.value; plan = answer.promise.plan.value } ∷ []) }
+        ensures after { OnOk result (self.new.after ≡ []) }
+    {
+        let before = mem::replace(&mut self.after, Vec::new(self.alloc));
+        self.reports.push_back(Pending { before, answer })?;
+        Ok(())
+    }
+
+    /// Waits for the oldest report, and writes what waited up to its end.
+    fn write_oldest<O: Out, R: Threads>(&mut self, rt: &R, out: &mut O) -> Result<(), Refused>
+        requires some { 0 < length self.old.reports }
+        requires faults { O.faults out.old + 1 < 2 ^ 64 }
+        ensures fewer { length self.new.reports + 1 ≡ length self.old.reports }
+        ensures written { (text : List ℕ) → Awaits self.old text → GoesOn (O.taken out.old) (O.taken out.new) self.new text result }
+        ensures sound { OnOk result (O.faults out.new ≡ O.faults out.old) }
+        ensures refused { IfErr result IsLate }
+        ensures fault { IsErrOf result Refused.WriteFailed → O.faults out.old < O.faults out.new }
+    {
+        let Some(oldest) = self.reports.pop_front() else {
+            unreachable!();
+        };
+        oldest.write(rt, out)
+    }
+
+    /// Makes room for a report: where as many as may be are under way, the oldest is waited for.
+    fn make_room<O: Out, R: Threads>(&mut self, rt: &R, out: &mut O) -> Result<(), Refused>
+        requires { O.faults out.old + 1 < 2 ^ 64 }
+        ensures room { OnOk result (length self.new.reports < under_way_limit) }
+        ensures written { (text : List ℕ) → Awaits self.old text → GoesOn (O.taken out.old) (O.taken out.new) self.new text result }
+        ensures sound { OnOk result (O.faults out.new ≡ O.faults out.old) }
+        ensures refused { IfErr result IsLate }
+        ensures fault { IsErrOf result Refused.WriteFailed → O.faults out.old < O.faults out.new }
+    {
+        if self.len() < MAX_REPORTS {
+            return Ok(());
+        }
+        self.write_oldest(rt, out)
+    }
+
+    /// Writes what waits behind the last report. No report is under way.
+    fn write_after<O: Out>(&mut self, out: &mut O) -> Result<(), Refused>
+        requires idle { self.old.reports ≡ [] }
+        requires faults { O.faults out.old + 1 < 2 ^ 64 }
+        ensures idle { self.new.reports ≡ [] }
+        ensures nothing { OnOk result (self.new.after ≡ []) }
+        ensures written { OnOk result (Appends (O.taken out.old) (O.taken out.new) self.old.after) }
+        ensures sound { OnOk result (O.faults out.new ≡ O.faults out.old) }
+        ensures refused { IfErr result (λ e. e ≡ Refused.WriteFailed) }
+        ensures fault { OnErr result (O.faults out.new ≡ O.faults out.old + 1) }
+        ensures beginning { OnErr result (TakesBeginning (O.taken out.old) (O.taken out.new) self.old.after) }
+    {
+        write_whole(out, self.after.as_slice())?;
+        self.after.clear();
+        Ok(())
+    }
+
+    /// The text is written once all that waits is: at once where no report is under way.
+    ///
+    /// [`Refused::OutOfMemory`] where there is no room for the text, [`Refused::WriteFailed`] where the writer failed.
+    pub fn say<O: Out>(&mut self, out: &mut O, text: &[u8]) -> Result<(), Refused>
+        requires { O.faults out.old + 1 < 2 ^ 64 }
+        ensures written { (waiting : List ℕ) → Awaits self.old waiting → GoesOn (O.taken out.old) (O.taken out.new) self.new (waiting ++ text.now) result }
+        ensures sound { OnOk result (O.faults out.new ≡ O.faults out.old) }
+        ensures reports { length self.new.reports ≡ length self.old.reports }
+        ensures refused { IfErr result (λ e. (e ≡ Refused.OutOfMemory) ⊎ (e ≡ Refused.WriteFailed)) }
+        ensures fault { IsErrOf result Refused.WriteFailed → O.faults out.old < O.faults out.new }
+    {
+        self.push_text(text)?;
+        if self.len() > 0 {
+            return Ok(());
+        }
+        self.write_after(out)
+    }
+
+    /// Starts a report in a thread of its own. The heading and then the answer are written once all that waits is.
+    /// Where [`MAX_REPORTS`] are under way, the oldest is waited for first, and written.
+    ///
+    /// [`Refused::NoWorker`] where a thread can't be started, or the report that was waited for met that;
+    /// [`Refused::OutOfMemory`] where a growth was refused, here or in it; [`Refused::WriteFailed`] where the writer
+    /// failed. A report that is waited for ends before anything is written for it.
+    pub fn begin<'s, 'e: 's, O: Out, R: Threads + Wait + Sync, G: Gate>(
+        &mut self,
+        starter: &Starter<'_, 's, 'e, R, G>,
+        out: &mut O,
+        heading: &[u8],
+        snapshot: Snapshot<H>,
+        plan: Plan,
+    ) -> Result<(), Refused>
+    where
+        H: KeyHash<Tuple> + Send + Sync + 's,
+        requires planned { IsPlanOf snapshot.schema plan }
+        requires workers { 1 ≤ starter.now.workers × (starter.now.workers ≤ worker_limit) }
+        requires faults { O.faults out.old + 1 < 2 ^ 64 }
+        ensures written { (waiting answer : List ℕ) → Awaits self.old waiting → HasAnswer snapshot plan answer
+            → GoesOn (O.taken out.old) (O.taken out.new) self.new (waiting ++ (heading.now ++ answer)) result }
+        ensures sound { OnOk result (O.faults out.new ≡ O.faults out.old) }
+        ensures refused { IfErr result IsLate }
+        ensures fault { IsErrOf result Refused.WriteFailed → O.faults out.old < O.faults out.new }
+    {
+        self.make_room(starter.rt, out)?;
+        self.push_text(heading)?;
+        let answer = starter.start(snapshot, plan)?;
+        self.push_report(answer)?;
+        Ok(())
+    }
+
+    /// Waits for all reports, one after another, and writes all that waits.
+    ///
+    /// [`Refused::NoWorker`] and [`Refused::OutOfMemory`] where a report met that, [`Refused::WriteFailed`] where the
+    /// writer failed: then later reports may still be under way.
+    pub fn finish<O: Out, R: Threads>(&mut self, rt: &R, out: &mut O) -> Result<(), Refused>
+        requires { O.faults out.old + 1 < 2 ^ 64 }
+        ensures written { (text : List ℕ) → Awaits self.old text → OnOk result (Appends (O.taken out.old) (O.taken out.new) text) }
+        ensures beginning { (text : List ℕ) → Awaits self.old text → OnErr result (TakesBeginning (O.taken out.old) (O.taken out.new) text) }
+        ensures sound { OnOk result (O.faults out.new ≡ O.faults out.old) }
+        ensures refused { IfErr result IsLate }
+        ensures worker { IsErrOf result Refused.NoWorker → 0 < length self.old.reports }
+        ensures fault { IsErrOf result Refused.WriteFailed → O.faults out.old < O.faults out.new }
+    {
+        while self.len() > 0 {
+            self.write_oldest(rt, out)?;
+        }
+        self.write_after(out)
+    }
+
+    /// Waits for all reports that are under way, and forgets what waits.
+    pub fn join<R: Threads>(self, rt: &R) {
+        for oldest in self.reports {
+            drop(oldest.answer.join(rt));
+        }
+    }
+}
+
+impl<H: KeyHash<Cell>> Pending<H> {
+    /// Waits for the report, and then writes what waits with it and its answer.
+    fn write<O: Out, R: Threads>(self, rt: &R, out: &mut O) -> Result<(), Refused>
+        requires { O.faults out.old + 1 < 2 ^ 64 }
+        ensures written { (text : List ℕ) → HasAnswer self.answer.promise.edition.value self.answer.promise.plan.value text
+            → OnOk result (Appends (O.taken out.old) (O.taken out.new) (self.before.items ++ text)) }
+        ensures beginning { (text : List ℕ) → HasAnswer self.answer.promise.edition.value self.answer.promise.plan.value text
+            → OnErr result (TakesBeginning (O.taken out.old) (O.taken out.new) (self.before.items ++ text)) }
+        ensures sound { OnOk result (O.faults out.new ≡ O.faults out.old) }
+        ensures refused { IfErr result IsLate }
+        ensures fault { IsErrOf result Refused.WriteFailed → O.faults out.old < O.faults out.new }
+    {
+        let Pending { before, answer } = self;
+        let answer = answer.join(rt)?;
+        write_whole(out, before.as_slice())?;
+        write_whole(out, answer.as_slice())
+    }
+}
