@@ -11,22 +11,28 @@ use Rattle.std.specs.Str.Lines.{lines, lines_of_parts, strip_carriage_return}
 use Rattle.std.specs.declared.alloc.Global.{Global}
 use Rattle.board.specs.Editions.{Editions}
 use Rattle.cells.specs.declared.cell.Cell.{Cell}
+use Rattle.cells.specs.declared.refused.Refused.{Refused}
+use Rattle.cells.specs.declared.refused.Refused.TheVariants as refused
 use Rattle.cells.specs.declared.refused.Refused.TheVariants.{Limit}
+use Rattle.olap.specs.Blocks.{Foretells, IsAsked, Steps}
 use Rattle.olap.specs.Deeds.{Deed, deed}
-use Rattle.olap.specs.Endings.{AsksForWorkers, BeginsToWrite, Delivers, EndsAt, HasWorkers, Writes, for_memory, for_worker}
+use Rattle.olap.specs.Endings.{AsksForWorkers, BeginsToWrite, Delivers, EndsAt, EndsBy, HasWorkers, Writes, for_memory, for_worker}
 use Rattle.olap.specs.Givens.{Givens, givens}
 use Rattle.olap.specs.Limits.{part_limit, script_limit}
-use Rattle.olap.specs.Output.{AreBlocks, IsOutput, IsTooMuch, deed_behind, edition, is_publish, line_first, no_line, of_lines, refusal, too_much}
-use Rattle.olap.specs.Stands.{Executes, Publishable, Stands, schema_of_desk}
+use Rattle.olap.specs.Output.{AreBlocks, IsBlock, IsOutput, IsTooMuch, deed_behind, edition, is_publish, line_first, no_line, of_lines, refusal, too_much}
+use Rattle.olap.specs.Stands.{Publishable, Stands, schema_of_desk}
+use Rattle.olap.specs.declared.block.Block.{Block}
 use Rattle.olap.specs.declared.ended.Ended.{Ended}
-use Rattle.olap.specs.declared.ended.Ended.TheVariants.{NoWorker, WriteFailed}
+use Rattle.olap.specs.declared.ended.Ended.TheVariants.{NoWorker}
 use Rattle.olap.specs.declared.fault.Fault.{Fault}
 use Rattle.olap.specs.declared.fault.Fault.TheVariants.{Line}
 use Rattle.olap.proofs.BlocksLemmas.{reversed_onto, some_blocks}
+use Rattle.olap.proofs.EndingsLemmas.{only_writer}
 use Rattle.olap.proofs.SaysLemmas.{EachAnswered}
 use Rattle.olap.proofs.StepsLemmas.{does_so}
-use Rattle.report.specs.Laws.{takes_beginning}
+use Rattle.report.specs.Laws.{takes_beginning, takes_last}
 use Rattle.report.specs.Taken.{TakesBeginning}
+use Rattle.report.specs.Waiting.{Awaits, GoesOn, IsLate, Waits, text_alone}
 
 -- the lines that a loop has gone over, the last one first
 abbrev pub last_first : List (Bor (List ℕ)) → List (List ℕ)
@@ -35,23 +41,30 @@ last_first yielded = reverse (map (λ line. line.now) yielded)
 pub last_first-more : (yielded : List (Bor (List ℕ))) (line : Bor (List ℕ)) → last_first (yielded ++ line ∷ []) ≡ line.now ∷ last_first yielded
 last_first-more yielded line = rw (map-append, reverse-append) refl
 
--- the lines before were run, and the rest of the script is to be run: behind what was taken, any blocks of the rest are
--- the script's
-pub record Reached (old new : Option (List ℕ)) (hash : Cell → ℕ) (givens : Givens) (before rest script : List (List ℕ)) (desk : Option Editions) (number : ℕ) : Type 0 where
+-- the lines before were run, and the rest of the script is to be run: behind what was taken and what waits, any blocks of
+-- the rest are the script's; where a report is under way, the script has a line that asked for it
+pub record Reached (old new : Option (List ℕ)) (hash : Cell → ℕ) (givens : Givens) (before rest script : List (List ℕ)) (desk : Option Editions) (waits : Waits) (number : ℕ) : Type 0 where
   pub parted : script ≡ reverse before ++ rest
   pub front : List ℕ
   pub taken : Appends old new front
-  pub blocks : (bytes : List ℕ) → AreBlocks hash givens before rest bytes → AreBlocks hash givens [] script (front ++ bytes)
+  pub waiting : List ℕ
+  pub awaits : Awaits waits waiting
+  pub asked : 0 < length waits.reports → AsksForWorkers givens script
+  pub blocks : (bytes : List ℕ) → AreBlocks hash givens before rest bytes → AreBlocks hash givens [] script (front ++ (waiting ++ bytes))
   pub stands : Stands givens before desk
   pub number_is : number ≡ length before
   pub short : length before + length rest ≤ script_limit + 1
   pub narrow : AllByRecursion (λ line. length line ≤ script_limit) rest
 
-pub reached_start : (told : Option (List ℕ)) (hash : Cell → ℕ) (givens : Givens) (script : List (List ℕ)) → length script ≤ script_limit + 1 → AllByRecursion (λ line. length line ≤ script_limit) script → Reached told told hash givens [] script script None 0
+pub reached_start : (told : Option (List ℕ)) (hash : Cell → ℕ) (givens : Givens) (script : List (List ℕ)) → length script ≤ script_limit + 1 → AllByRecursion (λ line. length line ≤ script_limit) script →
+    Reached told told hash givens [] script script None (record { reports = []; after = [] }) 0
 reached_start told hash givens script short narrow = record {
   parted = refl;
   front = [];
   taken = Appends-nil told;
+  waiting = [];
+  awaits = text_alone;
+  asked = λ some. absurd (omega (arith, some));
   blocks = λ bytes are. are;
   stands = refl;
   number_is = refl;
@@ -59,46 +72,15 @@ reached_start told hash givens script short narrow = record {
   narrow = narrow;
 }
 
-module _ (old new : Option (List ℕ)) (hash : Cell → ℕ) (givens : Givens) (before left script : List (List ℕ)) (desk : Option Editions) (number : ℕ) (reached : Reached old new hash givens before left script desk number) where
+module _ (old new : Option (List ℕ)) (hash : Cell → ℕ) (givens : Givens) (before left script : List (List ℕ)) (desk : Option Editions) (waits : Waits) (number : ℕ)
+    (reached : Reached old new hash givens before left script desk waits number) where
   -- no line that is left is longer than a script may be
   pub narrow_left : (line : List ℕ) (rest : List (List ℕ)) → left ≡ line ∷ rest → (length line ≤ script_limit) × AllByRecursion (λ l. length l ≤ script_limit) rest
   narrow_left line rest is = subst (AllByRecursion (λ l. length l ≤ script_limit)) is reached.narrow
 
-  module _ (line : List ℕ) (rest : List (List ℕ)) (after : Option Editions) (piece : List ℕ) (is : left ≡ line ∷ rest) (executes : Executes hash givens line (number + 1) desk after piece) where
-    -- the piece comes next
-    next_piece : (bytes : List ℕ) → AreBlocks hash givens (line ∷ before) rest bytes → AreBlocks hash givens [] script (reached.front ++ (piece ++ bytes))
-    next_piece bytes are =
-        let block = executes.block before reached.stands (ap (λ n. n + 1) reached.number_is) in
-        reached.blocks (piece ++ bytes) (subst (λ ls. AreBlocks hash givens before ls (piece ++ bytes)) (sym is) (line_first piece bytes block are))
-
-    -- one line more
-    pub reached_more : (newer : Option (List ℕ)) → Appends new newer piece → Reached old newer hash givens (line ∷ before) rest script after (number + 1)
-    reached_more newer appends = record {
-      parted = reached.parted ∙ ap (λ ls. reverse before ++ ls) is ∙ reversed_onto line before rest;
-      front = reached.front ++ piece;
-      taken = Appends-trans old new newer reached.front piece reached.taken appends;
-      blocks = λ bytes are. subst (AreBlocks hash givens [] script) (sym (append_assoc reached.front piece bytes)) (next_piece bytes are);
-      stands = executes.stands before reached.stands;
-      number_is = omega (arith, reached.number_is);
-      short = omega (arith, reached.short, ap length is);
-      narrow = (narrow_left line rest is).1;
-    }
-
-    -- a beginning of the next piece
-    pub reached_beginning : EachAnswered → (newer : Option (List ℕ)) → TakesBeginning new newer piece → BeginsToWrite (AreBlocks hash givens [] script) old newer
-    reached_beginning each newer beginning =
-        let (bytes, are) = some_blocks each hash givens rest (line ∷ before) in
-        record {
-          whole = reached.front ++ (piece ++ bytes);
-          is_whole = next_piece bytes are;
-          beginning = takes_beginning old new newer (reached.front ++ (piece ++ bytes)) piece bytes (record { front = reached.front; whole_is = refl; taken = reached.taken }) beginning;
-        }
-
-  -- a line that ends the run for want of a worker has workers
-  pub asks_for_workers : {T : Type 0} (line : List ℕ) (rest : List (List ℕ)) (e : Ended) (result : Result T Ended) → left ≡ line ∷ rest → EndsAt (deed (schema_of_desk desk) line) e →
-      result ≡ Err e → IsErrOf result NoWorker → AsksForWorkers givens script
-  asks_for_workers line rest e result is for_memory same late = absurd cc
-  asks_for_workers line rest e result is (for_worker workers) same late = record {
+  -- a line that does this has workers
+  asks : (line : List ℕ) (rest : List (List ℕ)) → left ≡ line ∷ rest → HasWorkers (deed (schema_of_desk desk) line) → AsksForWorkers givens script
+  asks line rest is workers = record {
     before = before;
     line = line;
     later = rest;
@@ -106,23 +88,89 @@ module _ (old new : Option (List ℕ)) (hash : Cell → ℕ) (givens : Givens) (
     has = subst HasWorkers (sym (does_so givens before line desk (deed (schema_of_desk desk) line) reached.stands refl)) workers;
   }
 
-  -- the pieces so far
+  -- so does one that ends the run for want of a worker
+  pub asks_for_workers : {T : Type 0} (line : List ℕ) (rest : List (List ℕ)) (e : Ended) (result : Result T Ended) → left ≡ line ∷ rest → EndsAt (deed (schema_of_desk desk) line) e →
+      result ≡ Err e → IsErrOf result NoWorker → AsksForWorkers givens script
+  asks_for_workers line rest e result is for_memory same late = absurd cc
+  asks_for_workers line rest e result is (for_worker workers) same late = asks line rest is workers
+
+  module _ {H : Type 0} (line : List ℕ) (rest : List (List ℕ)) (after : Option Editions) (block : Block H) (is : left ≡ line ∷ rest) (steps : Steps hash givens line (number + 1) desk after block) where
+    -- what the line's block will be
+    pub told : Foretells (IsBlock hash givens before line) block
+    told = steps.foretells before reached.stands (ap (λ n. n + 1) reached.number_is)
+
+    -- it comes next
+    next_text : (bytes : List ℕ) → AreBlocks hash givens (line ∷ before) rest bytes → AreBlocks hash givens [] script (reached.front ++ (reached.waiting ++ (told.text ++ bytes)))
+    next_text bytes are = reached.blocks (told.text ++ bytes) (subst (λ ls. AreBlocks hash givens before ls (told.text ++ bytes)) (sym is) (line_first told.text bytes told.is are))
+
+    -- one line more
+    pub reached_more : {T : Type 0} (newer : Option (List ℕ)) (newer_waits : Waits) (x : T) → GoesOn {T = T} new newer newer_waits (reached.waiting ++ told.text) (Ok x) →
+        (0 < length newer_waits.reports → (0 < length waits.reports) ⊎ IsAsked block) →
+        Reached old newer hash givens (line ∷ before) rest script after newer_waits (number + 1)
+    reached_more newer newer_waits x on more =
+        let p = on.front.taken in record {
+          parted = reached.parted ∙ ap (λ ls. reverse before ++ ls) is ∙ reversed_onto line before rest;
+          front = reached.front ++ p.front;
+          taken = Appends-trans old new newer reached.front p.front reached.taken p.taken;
+          waiting = on.front.rest;
+          awaits = on.front.awaits;
+          asked = λ some. elim (more some) [ inl earlier ↦ reached.asked earlier | inr asked ↦ asks line rest is (steps.asks asked) ];
+          blocks = λ bytes are. subst (AreBlocks hash givens [] script)
+              (ap (λ t. reached.front ++ t)
+              (sym (append_assoc reached.waiting told.text bytes) ∙ ap (λ t. t ++ bytes) p.whole_is ∙ append_assoc p.front on.front.rest bytes)
+              ∙ sym (append_assoc reached.front p.front (on.front.rest ++ bytes)))
+              (next_text bytes are);
+          stands = steps.stands before reached.stands;
+          number_is = omega (arith, reached.number_is);
+          short = omega (arith, reached.short, ap length is);
+          narrow = (narrow_left line rest is).1;
+        }
+
+    -- a beginning of what comes next
+    pub reached_beginning : EachAnswered → (newer : Option (List ℕ)) → TakesBeginning new newer (reached.waiting ++ told.text) → BeginsToWrite (AreBlocks hash givens [] script) old newer
+    reached_beginning each newer beginning =
+        let (bytes, are) = some_blocks each hash givens rest (line ∷ before) in
+        let whole = reached.front ++ (reached.waiting ++ (told.text ++ bytes)) in
+        record {
+          whole = whole;
+          is_whole = next_text bytes are;
+          beginning = takes_beginning old new newer whole (reached.waiting ++ told.text) bytes
+              (record { front = reached.front; whole_is = ap (λ t. reached.front ++ t) (sym (append_assoc reached.waiting told.text bytes)); taken = reached.taken }) beginning;
+        }
+
+    -- a line whose report, or an earlier one, wants a worker
+    pub asked_for_workers : IsAsked block → AsksForWorkers givens script
+    asked_for_workers asked = asks line rest is (steps.asks asked)
+
+  -- what was written so far
   pub reached_so_far : EachAnswered → BeginsToWrite (AreBlocks hash givens [] script) old new
   reached_so_far each =
       let (bytes, are) = some_blocks each hash givens left before in
       record {
-        whole = reached.front ++ bytes;
+        whole = reached.front ++ (reached.waiting ++ bytes);
         is_whole = reached.blocks bytes are;
-        beginning = record { rest = bytes; up_to = record { front = reached.front; whole_is = refl; taken = reached.taken } };
+        beginning = record { rest = reached.waiting ++ bytes; up_to = record { front = reached.front; whole_is = refl; taken = reached.taken } };
       }
 
-  -- no line is left
-  pub reached_end : left ≡ [] → Writes (AreBlocks hash givens [] script) old new
-  reached_end is = record {
-    whole = reached.front;
-    is_whole = subst (AreBlocks hash givens [] script) (append-nil reached.front) (reached.blocks [] (subst (λ ls. AreBlocks hash givens before ls []) (sym is) no_line));
-    taken = reached.taken;
+  -- no line is left, and what waits is all
+  all_blocks : left ≡ [] → AreBlocks hash givens [] script (reached.front ++ reached.waiting)
+  all_blocks is = subst (λ t. AreBlocks hash givens [] script (reached.front ++ t)) (append-nil reached.waiting) (reached.blocks [] (subst (λ ls. AreBlocks hash givens before ls []) (sym is) no_line))
+
+  pub reached_end : (newer : Option (List ℕ)) → left ≡ [] → Appends new newer reached.waiting → Writes (AreBlocks hash givens [] script) old newer
+  reached_end newer is last = record {
+    whole = reached.front ++ reached.waiting;
+    is_whole = all_blocks is;
+    taken = Appends-trans old new newer reached.front reached.waiting reached.taken last;
   }
+
+  pub reached_late : (newer : Option (List ℕ)) → left ≡ [] → TakesBeginning new newer reached.waiting → BeginsToWrite (AreBlocks hash givens [] script) old newer
+  reached_late newer is late =
+      let whole = reached.front ++ reached.waiting in
+      record {
+        whole = whole;
+        is_whole = all_blocks is;
+        beginning = takes_last old new newer whole reached.waiting (record { front = reached.front; whole_is = refl; taken = reached.taken }) late;
+      }
 
 -- ---- how a run ends
 
@@ -136,9 +184,10 @@ module _ {W : Type 0} (taken : W → Option (List ℕ)) (faults : W → ℕ) (ol
   delivers_early does e result beginning for_memory is = rw is (record { output = tt; beginning = beginning; fault = λ late. absurd cc; sound = tt })
   delivers_early does e result beginning (for_worker asks) is = rw is (record { output = tt; beginning = beginning; fault = λ late. absurd cc; sound = tt })
 
-  -- the writer failed behind a beginning of the whole
-  pub delivers_late : BeginsToWrite IsWhole (taken old) (taken new) → faults old < faults new → Delivers {T = Unit {0}} taken faults old new IsWhole (Err WriteFailed)
-  delivers_late beginning failed = record { output = tt; beginning = beginning; fault = λ e. failed; sound = tt }
+  -- a report or the writer ended the run behind a beginning of the whole
+  pub delivers_refused : {T : Type 0} (late : Refused) (e : Ended) (result : Result T Ended) → BeginsToWrite IsWhole (taken old) (taken new) → IsLate late → EndsBy late e →
+      (late ≡ refused.WriteFailed → faults old < faults new) → result ≡ Err e → Delivers taken faults old new IsWhole result
+  delivers_refused late e result beginning why ends failed is = rw is (record { output = tt; beginning = beginning; fault = λ at_writer. failed (only_writer late e why ends (cc)); sound = tt })
 
   -- what was delivered is so, since what it was said to be is
   pub delivers_as : {T : Type 0} (Is : List ℕ → Type 0) (result : Result T Ended) → ((bytes : List ℕ) → Is bytes → IsWhole bytes) → Delivers taken faults old new Is result → Delivers taken faults old new IsWhole result

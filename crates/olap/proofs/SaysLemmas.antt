@@ -1,15 +1,18 @@
 -- Over a table's rows each text says one thing.
 use Rattle.std.proofs.Common.{◌≡◌, ◌⊎◌, ℕ, false, true, Option, Some, None, Result, Ok, Err, List, inl, inr, refl, sym, ap, ◌∙◌}
-use Rattle.std.specs.Prelude.{IfOk, IsErr}
+use Rattle.std.specs.Prelude.{Vec}
+use Rattle.std.specs.declared.alloc.Global.{Global}
 use Rattle.cells.specs.Refusals.{Reads}
 use Rattle.cells.specs.Values.{Entry, Table}
 use Rattle.cells.specs.declared.refused.Refused.{Refused}
 use Rattle.cells.specs.declared.refused.Refused.TheVariants.{OutOfMemory}
 use Rattle.board.specs.Editions.{Editions}
 use Rattle.board.specs.Editions as keeper
+use Rattle.olap.specs.Blocks.{Answers, AnswersPlan}
 use Rattle.olap.specs.Output.{IsReport, refusal, report}
 use Rattle.olap.specs.Says.{GivesPlan, IsRefused, MeansPlan, Says, answer, answer_of, no_plan, no_query}
-use Rattle.olap.specs.Stands.{Answers, AnswersPlan}
+use Rattle.olap.specs.declared.block.Block.{Block}
+use Rattle.olap.specs.declared.block.Block.TheVariants.{Text}
 use Rattle.olap.specs.declared.fault.Fault.TheVariants.{Line}
 use Rattle.query.specs.Checks.{fault_of}
 use Rattle.query.specs.Plans.{PlanTree, checked, checked_by, plan_of}
@@ -89,17 +92,20 @@ checked_text t text q result is reads = go (fault_of t q) refl result reads wher
   go (Some first) e (Err fault) (inr said) = inr (λ rs. let same : first ≡ fault = cc in no_plan is (e ∙ ap Some same))
 
 -- the block of a refused report
-pub answers_refused : {T E : Type 0} (k : Editions) (number : ℕ) (query : List ℕ) (fault : Refused) (bytes : T → List ℕ) (result : Result T E) →
-    IsRefused (keeper.schema k) query fault → (Line fault ≡ Line OutOfMemory → IsErr result) → IfOk result (λ t. bytes t ≡ refusal number (Line fault)) →
-    IfOk result (λ t. Answers k number query (bytes t))
-answers_refused k number query fault bytes (Err e) why memory is = tt
-answers_refused k number query fault bytes (Ok t) (inl wanting) memory is = absurd (let bad : false ≡ true = memory (ap Line wanting) in cc)
-answers_refused k number query fault bytes (Ok t) (inr says) memory is =
-    record { is = λ rs left same. record { said = Err fault; says = says rs; is = is } }
+pub answers_refused : {H : Type 0} (k : Editions) (number : ℕ) (query : List ℕ) (fault : Refused) (bytes : Vec ℕ Global) →
+    IsRefused (keeper.schema k) query fault → (Line fault ≡ Line OutOfMemory → false ≡ true) → bytes.items ≡ refusal number (Line fault) → Answers {H = H} k number query (Text bytes)
+answers_refused k number query fault bytes (inl wanting) memory is = absurd (let bad : false ≡ true = memory (ap Line wanting) in cc)
+answers_refused k number query fault bytes (inr says) memory is = record {
+  is = λ rs left same. record { text = refusal number (Line fault); is = record { said = Err fault; says = says rs; is = refl }; will = is };
+}
 
 -- the block of a report that is answered
-pub answers_plan : {T E : Type 0} (k : Editions) (number : ℕ) (query : List ℕ) (plan : PlanTree) (bytes : T → List ℕ) (result : Result T E) →
-    MeansPlan (keeper.schema k) query plan → IfOk result (λ t. AnswersPlan k number plan (bytes t)) → IfOk result (λ t. Answers k number query (bytes t))
-answers_plan k number query plan bytes (Err e) asks answers = tt
-answers_plan k number query plan bytes (Ok t) asks answers =
-    record { is = λ rs left same. record { said = Ok (answer_of plan rs); says = asks rs; is = answers.is rs left same } }
+pub answers_plan : {H : Type 0} (k : Editions) (number : ℕ) (query : List ℕ) (plan : PlanTree) (block : Block H) →
+    MeansPlan (keeper.schema k) query plan → AnswersPlan k number plan block → Answers k number query block
+answers_plan k number query plan block asks answers = record {
+  is = λ rs left same. record {
+    text = report number (keeper.edition k) (Ok (answer_of plan rs));
+    is = record { said = Ok (answer_of plan rs); says = asks rs; is = refl };
+    will = answers.is rs left same;
+  };
+}

@@ -1,3 +1,4 @@
+pub mod Blocks
 pub mod CommandLine
 pub mod Deeds
 pub mod Endings

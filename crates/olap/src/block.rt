@@ -1,18 +1,35 @@
-//! The blocks of lines: reports, shapes and refusals.
-ghost use Rattle.std.specs.Prelude.{◌≡◌, ◌++◌, IfErr, IfOk, IsErr, Ok, OnOk, string_bytes};
+//! The blocks of lines: shapes, refusals, and reports, whose answers are still to come.
+ghost use Rattle.std.specs.Prelude.{◌≡◌, ◌++◌, IfErr, IfOk, IsErr, OnOk, string_bytes};
 ghost use Rattle.std.specs.FinMap.{keys};
 ghost use Rattle.std.specs.List.{flat_map};
 ghost use Rattle.trie.specs.Shapes.{shape_of};
 ghost use Rattle.board.specs.Editions as editions;
-ghost use Rattle.olap.specs.Output.{refusal, report, shape_line, shape_text};
+ghost use Rattle.olap.specs.Output.{heading, refusal, shape_line, shape_text};
 ghost use Rattle.olap.specs.declared.fault.Fault.TheVariants.{Line};
 
 use crate::ended::Ended;
 use crate::fault::Fault;
-use board::Keeper;
+use board::{Keeper, Snapshot};
 use cells::{Cell, KeyHash, Refused};
+use query::Plan;
 use std::alloc::{AllocError, Global};
 use trie::Prefix;
+
+/// What a line gives: its block, or what its report asks.
+#[derive(Drop)]
+pub enum Block<H: KeyHash<Cell>> {
+    Text(Vec<u8>),
+    Report(Asked<H>),
+}
+
+/// A report that is still to be answered: the heading of its block, the edition that stood published at its line, and
+/// the plan that was checked for its table.
+#[derive(Drop)]
+pub struct Asked<H: KeyHash<Cell>> {
+    pub heading: Vec<u8>,
+    pub snapshot: Snapshot<H>,
+    pub plan: Plan,
+}
 
 /// The block of a shape of the last published edition.
 pub fn shape_block<H: KeyHash<Cell>>(
@@ -76,18 +93,10 @@ pub fn refusal_block(alloc: Global, number: u64, fault: Fault) -> Result<Vec<u8>
     Ok(text.into_bytes())
 }
 
-/// The block of a report: its heading, and then the text of its answer.
-pub fn report_block(
-    alloc: Global,
-    number: u64,
-    edition: u64,
-    answer: &[u8],
-) -> Result<Vec<u8>, Ended>
-    ensures block { IfOk result (λ block. block.items ≡ report number edition (Ok answer.now)) }
-    ensures ended { IfErr result (λ e. e ≡ Ended.OutOfMemory) }
+/// The heading of a report's block.
+pub fn report_heading(alloc: Global, number: u64, edition: u64) -> Result<Vec<u8>, AllocError>
+    ensures { IfOk result (λ text. text.items ≡ heading number edition) }
 {
-    let heading = format!(in alloc; "line {number} edition {edition}\n")?;
-    let mut block = heading.into_bytes();
-    block.extend_from_slice(answer)?;
-    Ok(block)
+    let text = format!(in alloc; "line {number} edition {edition}\n")?;
+    Ok(text.into_bytes())
 }

@@ -29,7 +29,7 @@ use std::thread::Threads;
 /// At 0 the output of that run was written whole, or help was asked for; at 2 nothing was run, since
 /// the words are refused or a file can't be read; at 3 the run ended early. `rt` starts the threads of a
 /// report's workers.
-pub fn run_words<F: Folder, W: Write + Drop, E: Write, R: Threads + Wait>(
+pub fn run_words<F: Folder, W: Write + Drop, E: Write, R: Threads + Wait + Sync>(
     rt: &R,
     alloc: Global,
     given: &[String],
@@ -53,7 +53,7 @@ pub fn run_words<F: Folder, W: Write + Drop, E: Write, R: Threads + Wait>(
 
 /// Runs a job over the files that it names, and gives the program's status and the writer back, as
 /// [`run_words`] does.
-fn run_job<F: Folder, W: Write + Drop, E: Write, R: Threads + Wait>(
+fn run_job<F: Folder, W: Write + Drop, E: Write, R: Threads + Wait + Sync>(
     rt: &R,
     alloc: Global,
     job: &Job,
@@ -75,7 +75,7 @@ fn run_job<F: Folder, W: Write + Drop, E: Write, R: Threads + Wait>(
 
 /// Runs the script that standard input holds, with the defaults and no parts, and gives the program's
 /// status and the writer back, as [`run_words`] does.
-pub fn run_standard_input<I: Read + Drop, W: Write + Drop, E: Write, R: Threads + Wait>(
+pub fn run_standard_input<I: Read + Drop, W: Write + Drop, E: Write, R: Threads + Wait + Sync>(
     rt: &R,
     alloc: Global,
     mut input: I,
@@ -109,7 +109,7 @@ pub fn run_standard_input<I: Read + Drop, W: Write + Drop, E: Write, R: Threads 
 /// Runs the script over the parts, flushes what it wrote, and gives the program's status and the
 /// writer back: 0 where the output was written whole and none of it waits in the buffer, and 3 where a
 /// beginning of it was written, and why it ended is on `err`.
-pub fn run_input<W: Write + Drop, E: Write, R: Threads + Wait>(
+pub fn run_input<W: Write + Drop, E: Write, R: Threads + Wait + Sync>(
     rt: &R,
     alloc: Global,
     how: &How,

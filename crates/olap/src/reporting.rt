@@ -1,42 +1,36 @@
-//! The reports of a run: what a text asks is read, checked and answered over the last published edition.
-ghost use Rattle.std.specs.Prelude.{◌≡◌, ◌⊎◌, IfErr, IfOk};
+//! The reports of a run: what a text asks is read and checked at its line, over the edition that stands published there.
+ghost use Rattle.std.specs.Prelude.{◌≡◌, IfErr, IfOk};
 ghost use Rattle.board.specs.Editions as editions;
 ghost use Rattle.query.specs.Plans.{IsPlanOf};
+ghost use Rattle.olap.specs.Blocks.{Answers, AnswersPlan, IsPlanned};
 ghost use Rattle.olap.specs.Says.{GivesPlan};
-ghost use Rattle.olap.specs.Stands.{Answers, AnswersPlan};
 
-use crate::block::{refusal_block, report_block};
+use crate::block::{Asked, Block, refusal_block, report_heading};
 use crate::ended::Ended;
 use crate::fault::Fault;
-use crate::step::Setup;
 use board::Keeper;
-use cells::{Cell, KeyHash, Refused, Schema, Tuple};
-use crew::Gate;
+use cells::{Cell, KeyHash, Refused, Schema};
 use query::{Plan, check, read};
-use report::answer;
 use std::alloc::Global;
-use std::sync::Wait;
-use std::thread::Threads;
 
-/// The block of a report of the last published edition: the answer of what the text asks, or its first
-/// fault. [`Ended::NoWorker`] where the thread of a worker could not be started, otherwise
+/// The block of a report of the last published edition: what the text asks of that edition, or its first fault.
 /// [`Ended::OutOfMemory`] where a growth was refused.
-pub fn execute_report<H: KeyHash<Cell> + KeyHash<Tuple> + Send + Sync, G: Gate, R: Threads + Wait>(
-    setup: &Setup<'_, R, G>,
+pub fn execute_report<H: KeyHash<Cell>>(
+    alloc: Global,
     keeper: &Keeper<H>,
     text: &str,
     number: u64,
-) -> Result<Vec<u8>, Ended>
-    ensures block { IfOk result (λ block. Answers keeper.now number text.now block.items) }
-    ensures ended { IfErr result (λ e. (e ≡ Ended.NoWorker) ⊎ (e ≡ Ended.OutOfMemory)) }
+) -> Result<Block<H>, Ended>
+    ensures block { IfOk result (Answers keeper.now number text.now) }
+    ensures planned { IfOk result IsPlanned }
+    ensures ended { IfErr result (λ e. e ≡ Ended.OutOfMemory) }
 {
-    match read_plan(setup.alloc, text, keeper.schema()) {
-        Ok(plan) => {
-            let block = execute_plan(setup, keeper, &plan, number);
-            drop(plan);
-            block
+    match read_plan(alloc, text, keeper.schema()) {
+        Ok(plan) => ask(alloc, keeper, plan, number),
+        Err(fault) => {
+            let block = refusal_block(alloc, number, Fault::Line(fault))?;
+            Ok(Block::Text(block))
         }
-        Err(fault) => refusal_block(setup.alloc, number, Fault::Line(fault)),
     }
 }
 
@@ -50,34 +44,25 @@ fn read_plan(alloc: Global, text: &str, schema: &Schema) -> Result<Plan, Refused
     check(alloc, query, schema)
 }
 
-/// The block of a plan's report of the last published edition.
-fn execute_plan<H: KeyHash<Cell> + KeyHash<Tuple> + Send + Sync, G: Gate, R: Threads + Wait>(
-    setup: &Setup<'_, R, G>,
+/// A snapshot of the last published edition, with the plan whose report of it is the block.
+fn ask<H: KeyHash<Cell>>(
+    alloc: Global,
     keeper: &Keeper<H>,
-    plan: &Plan,
+    plan: Plan,
     number: u64,
-) -> Result<Vec<u8>, Ended>
-    requires { IsPlanOf (editions.schema keeper.now) plan.now }
-    ensures block { IfOk result (λ block. AnswersPlan keeper.now number plan.now block.items) }
-    ensures ended { IfErr result (λ e. (e ≡ Ended.NoWorker) ⊎ (e ≡ Ended.OutOfMemory)) }
+) -> Result<Block<H>, Ended>
+    requires { IsPlanOf (editions.schema keeper.now) plan }
+    ensures block { IfOk result (AnswersPlan keeper.now number plan) }
+    ensures planned { IfOk result IsPlanned }
+    ensures ended { IfErr result (λ e. e ≡ Ended.OutOfMemory) }
 {
-    let how = setup.how;
     let Ok(snapshot) = keeper.snapshot() else {
         return Err(Ended::OutOfMemory);
     };
-    let cutting = how.cutting();
-    let text = match answer(
-        setup.rt,
-        setup.alloc,
-        &snapshot,
+    let heading = report_heading(alloc, number, snapshot.edition())?;
+    Ok(Block::Report(Asked {
+        heading,
+        snapshot,
         plan,
-        how.workers(),
-        &cutting,
-        setup.gate,
-    ) {
-        Ok(text) => text,
-        Err(Refused::NoWorker) => return Err(Ended::NoWorker),
-        Err(_) => return Err(Ended::OutOfMemory),
-    };
-    report_block(setup.alloc, number, snapshot.edition(), text.as_slice())
+    }))
 }

@@ -4,13 +4,14 @@ ghost use Rattle.std.specs.FinMap.{remove};
 ghost use Rattle.cells.specs.Fitting.{IsRowOf};
 ghost use Rattle.board.specs.Editions.{ChangesDraft, Publishes};
 ghost use Rattle.board.specs.Editions as editions;
+ghost use Rattle.olap.specs.Blocks.{IsPlanned, Steps};
 ghost use Rattle.olap.specs.Deeds.{deed};
 ghost use Rattle.olap.specs.Endings.{EndsAt};
 ghost use Rattle.olap.specs.Givens.{givens};
 ghost use Rattle.olap.specs.Limits.{script_limit};
 ghost use Rattle.olap.specs.Stands.{Executes, Publishable, PutsRow, schema_of_desk};
 
-use crate::block::{refusal_block, shape_block};
+use crate::block::{Block, refusal_block, shape_block};
 use crate::ended::Ended;
 use crate::fault::Fault;
 use crate::how::How;
@@ -18,7 +19,7 @@ use crate::loading::execute_load;
 use crate::reporting::execute_report;
 use crate::statement::{Statement, read_first, read_statement};
 use board::{Keeper, rows_have_the_shape_of_their_keys};
-use cells::{Cell, KeyHash, Row, Tuple, later_puts_lie_over};
+use cells::{Cell, KeyHash, Row, later_puts_lie_over};
 use crew::Gate;
 use std::alloc::Global;
 use std::sync::Wait;
@@ -42,16 +43,17 @@ pub struct Line<'a> {
     pub bytes: &'a [u8],
 }
 
-/// Does what a line says, and gives the line's block. Any line may end the run with [`Ended::OutOfMemory`], and a
-/// report and a load with [`Ended::NoWorker`], too.
-pub fn execute<H: KeyHash<Cell> + KeyHash<Tuple> + Send + Sync, G: Gate, R: Threads + Wait>(
+/// Does what a line says, and gives the line's block, or what its report asks of the edition that stands published. Any
+/// line may end the run with [`Ended::OutOfMemory`], and a load with [`Ended::NoWorker`], too.
+pub fn execute<H: KeyHash<Cell> + Send + Sync, G: Gate, R: Threads + Wait>(
     setup: &Setup<'_, R, G>,
     desk: &mut Option<Keeper<H>>,
     line: Line<'_>,
-) -> Result<Vec<u8>, Ended>
+) -> Result<Block<H>, Ended>
     requires publishable { Publishable desk.old }
     requires short { length line.bytes.now ≤ script_limit }
-    ensures step { IfOk result (λ block. Executes H.KeyHash-1.hash_of (givens setup.now.how.now.rows setup.now.parts.now) line.entry.bytes.now line.entry.number desk.old desk.new block.items) }
+    ensures step { IfOk result (Steps H.hash_of (givens setup.now.how.now.rows setup.now.parts.now) line.entry.bytes.now line.entry.number desk.old desk.new) }
+    ensures planned { IfOk result IsPlanned }
     ensures ended { IfErr result (EndsAt (deed (schema_of_desk desk.old) line.entry.bytes.now)) }
 {
     if let Some(keeper) = desk {
@@ -59,7 +61,7 @@ pub fn execute<H: KeyHash<Cell> + KeyHash<Tuple> + Send + Sync, G: Gate, R: Thre
     }
     let (keeper, block) = execute_first(setup, line)?;
     *desk = keeper;
-    Ok(block)
+    Ok(Block::Text(block))
 }
 
 /// The same before there is a table.
@@ -86,35 +88,37 @@ fn execute_first<H: KeyHash<Cell>, G: Gate, R>(
 }
 
 /// The same once there is a table.
-#[tactic(auto, using(crate::proofs::StepsLemmas::executes_nothing, crate::proofs::StepsLemmas::executes_refused, crate::proofs::StepsLemmas::executes_report, crate::proofs::StepsLemmas::executes_publish, crate::proofs::StepsLemmas::executes_delete))]
-fn execute_kept<H: KeyHash<Cell> + KeyHash<Tuple> + Send + Sync, G: Gate, R: Threads + Wait>(
+#[tactic(auto, using(crate::proofs::StepsLemmas::executes_nothing, crate::proofs::StepsLemmas::executes_refused, crate::proofs::StepsLemmas::steps_report, crate::proofs::StepsLemmas::steps_text, crate::proofs::StepsLemmas::executes_publish, crate::proofs::StepsLemmas::executes_delete))]
+fn execute_kept<H: KeyHash<Cell> + Send + Sync, G: Gate, R: Threads + Wait>(
     setup: &Setup<'_, R, G>,
     keeper: &mut Keeper<H>,
     line: Line<'_>,
-) -> Result<Vec<u8>, Ended>
+) -> Result<Block<H>, Ended>
     requires publishable { editions.edition keeper.old + 1 < 2 ^ 64 }
     requires short { length line.bytes.now ≤ script_limit }
-    ensures step { IfOk result (λ block. Executes H.KeyHash-1.hash_of (givens setup.now.how.now.rows setup.now.parts.now) line.entry.bytes.now line.entry.number (Some keeper.old) (Some keeper.new) block.items) }
+    ensures step { IfOk result (Steps H.hash_of (givens setup.now.how.now.rows setup.now.parts.now) line.entry.bytes.now line.entry.number (Some keeper.old) (Some keeper.new)) }
+    ensures planned { IfOk result IsPlanned }
     ensures ended { IfErr result (EndsAt (deed (Some (editions.schema keeper.old)) line.entry.bytes.now)) }
 {
     let alloc = setup.alloc;
     match read_statement(alloc, keeper.schema(), line.bytes) {
-        Ok(Statement::Nothing) => Ok(Vec::new(alloc)),
+        Ok(Statement::Nothing) => Ok(Block::Text(Vec::new(alloc))),
         Ok(Statement::Load(listing)) => {
             // The law by which loaded rows are those of puts behind all that came before; it does nothing.
             later_puts_lie_over();
-            execute_load(setup, keeper, listing, line.number)
+            let block = execute_load(setup, keeper, listing, line.number)?;
+            Ok(Block::Text(block))
         }
-        Ok(Statement::Put(row)) => put(alloc, keeper, row, line.number),
-        Ok(Statement::Delete(key)) => delete(alloc, keeper, key),
-        Ok(Statement::Publish) => publish(alloc, setup.gate, keeper),
-        Ok(Statement::Report(query)) => execute_report(setup, keeper, query, line.number),
+        Ok(Statement::Put(row)) => Ok(Block::Text(put(alloc, keeper, row, line.number)?)),
+        Ok(Statement::Delete(key)) => Ok(Block::Text(delete(alloc, keeper, key)?)),
+        Ok(Statement::Publish) => Ok(Block::Text(publish(alloc, setup.gate, keeper)?)),
+        Ok(Statement::Report(query)) => execute_report(alloc, keeper, query, line.number),
         Ok(Statement::Shape) => {
             // The law by which the block is that of the published rows; it does nothing.
             rows_have_the_shape_of_their_keys::<H>();
-            shape_block(alloc, keeper, line.number)
+            Ok(Block::Text(shape_block(alloc, keeper, line.number)?))
         }
-        Err(fault) => refusal_block(alloc, line.number, fault),
+        Err(fault) => Ok(Block::Text(refusal_block(alloc, line.number, fault)?)),
     }
 }
 

@@ -147,7 +147,7 @@ const SHAPES: [Load; 1] = [Load(
 )];
 
 /// Whether a script writes what it should, by so many workers.
-fn writes<H: KeyHash<Key> + KeyHash<Tuple> + Send + Sync, R: Threads + Wait>(
+fn writes<H: KeyHash<Key> + KeyHash<Tuple> + Send + Sync, R: Threads + Wait + Sync>(
     rt: &R,
     alloc: Global,
     workers: u64,
@@ -176,7 +176,7 @@ fn owned(alloc: Global, parts: &[&[u8]]) -> Result<Vec<Vec<u8>>, AllocError> {
 }
 
 /// The first script of the table that writes something else.
-fn first_other<H: KeyHash<Key> + KeyHash<Tuple> + Send + Sync, R: Threads + Wait>(
+fn first_other<H: KeyHash<Key> + KeyHash<Tuple> + Send + Sync, R: Threads + Wait + Sync>(
     rt: &R,
     alloc: Global,
     workers: u64,

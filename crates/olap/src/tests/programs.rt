@@ -65,7 +65,7 @@ const LINES: [Row; 6] = [
 ];
 
 /// Whether the words are run as the row says.
-fn is_run<R: Threads + Wait>(rt: &R, alloc: Global, row: &Row) -> Result<bool, Fail> {
+fn is_run<R: Threads + Wait + Sync>(rt: &R, alloc: Global, row: &Row) -> Result<bool, Fail> {
     let given = words_of(alloc, row.0)?;
     let mut err = Vec::with_capacity(alloc, 256)?;
     let out = BufWriter::new(alloc, Vec::new(alloc))?;

@@ -17,7 +17,7 @@ pub(super) type Row = (&'static [u8], &'static str);
 pub(super) const CUTTING: Cutting = Cutting { depth: 1, small: 0 };
 
 /// Whether a script writes this, with so many rows at most. Want of memory is an error.
-pub(super) fn writes<H: KeyHash<Key> + KeyHash<Tuple> + Send + Sync, R: Threads + Wait>(
+pub(super) fn writes<H: KeyHash<Key> + KeyHash<Tuple> + Send + Sync, R: Threads + Wait + Sync>(
     rt: &R,
     alloc: Global,
     script: &[u8],
@@ -34,7 +34,7 @@ pub(super) fn writes<H: KeyHash<Key> + KeyHash<Tuple> + Send + Sync, R: Threads 
 }
 
 /// The first place of the table whose script writes something else.
-pub(super) fn first_wrong<H: KeyHash<Key> + KeyHash<Tuple> + Send + Sync, R: Threads + Wait>(
+pub(super) fn first_wrong<H: KeyHash<Key> + KeyHash<Tuple> + Send + Sync, R: Threads + Wait + Sync>(
     rt: &R,
     alloc: Global,
     rows: u64,

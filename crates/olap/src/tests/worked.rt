@@ -165,7 +165,7 @@ const REPORTS: [Report; 21] = [
 ];
 
 /// Whether a script that ends in this report writes this.
-fn answers<H: KeyHash<Key> + KeyHash<Tuple> + Send + Sync, R: Threads + Wait>(
+fn answers<H: KeyHash<Key> + KeyHash<Tuple> + Send + Sync, R: Threads + Wait + Sync>(
     rt: &R,
     alloc: Global,
     depth: u8,
@@ -184,7 +184,7 @@ fn answers<H: KeyHash<Key> + KeyHash<Tuple> + Send + Sync, R: Threads + Wait>(
 }
 
 /// The first report of the table that is answered otherwise.
-fn first_other<H: KeyHash<Key> + KeyHash<Tuple> + Send + Sync, R: Threads + Wait>(
+fn first_other<H: KeyHash<Key> + KeyHash<Tuple> + Send + Sync, R: Threads + Wait + Sync>(
     rt: &R,
     alloc: Global,
     depth: u8,

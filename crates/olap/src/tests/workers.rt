@@ -56,7 +56,7 @@ impl Gate for Hold {
 type Settings = (u64, u8);
 
 /// Whether a script writes this, with so many workers and this depth; its part 1 is that of the sales.
-fn writes<H: KeyHash<Key> + KeyHash<Tuple> + Send + Sync, G: Gate, R: Threads + Wait>(
+fn writes<H: KeyHash<Key> + KeyHash<Tuple> + Send + Sync, G: Gate, R: Threads + Wait + Sync>(
     rt: &R,
     alloc: Global,
     settings: Settings,
@@ -79,7 +79,7 @@ const TWO_PIECES: &str =
     "table T (K INT KEY)\nput 1\nput 17\nput 33\nput 2\npublish\nreport SELECT COUNT(*) FROM T";
 
 /// Whether two workers who are inside at the same time write this for the script.
-fn two_meet<R: Threads + Wait>(
+fn two_meet<R: Threads + Wait + Sync>(
     rt: &R,
     alloc: Global,
     script: &[u8],
@@ -130,7 +130,7 @@ const SALES_ROLLED_UP: &str =
     "line 4 edition 1\nREGION | GROUPING(REGION) | COUNT(*) | COUNT(UNITS) | SUM(UNITS)\nNULL | 0 | 1 | 1 | 5\n'north' | 0 | 2 | 1 | 10\n'south' | 0 | 1 | 1 | -2\nNULL | 1 | 4 | 3 | 13\n";
 
 /// Whether both scripts write their reports under the hash.
-fn rolls_up<H: KeyHash<Key> + KeyHash<Tuple> + Send + Sync, R: Threads + Wait>(
+fn rolls_up<H: KeyHash<Key> + KeyHash<Tuple> + Send + Sync, R: Threads + Wait + Sync>(
     rt: &R,
     alloc: Global,
     settings: Settings,
@@ -157,7 +157,7 @@ fn rolls_up<H: KeyHash<Key> + KeyHash<Tuple> + Send + Sync, R: Threads + Wait>(
 }
 
 /// The same under both hashes.
-fn rolls_up_by_both<R: Threads + Wait>(
+fn rolls_up_by_both<R: Threads + Wait + Sync>(
     rt: &R,
     alloc: Global,
     settings: Settings,

@@ -2,10 +2,10 @@ use Rattle.std.proofs.Common.{◌≡◌}
 use Rattle.std.specs.Str.Lines.{lines}
 use Rattle.olap.specs.Givens.{givens}
 use Rattle.olap.proofs.ProgressLemmas.{Reached, last_first}
-use Rattle.olap.proofs.run.run_at.Given as goal
+use Rattle.olap.proofs.run.run_beside.Given as goal
 
 abbrev pub invariant-loop-bytes : goal.invariant-loop-bytes
 invariant-loop-bytes g l = record {
-  reached : Reached (g.O.Out.taken l.fn.out) (g.O.Out.taken l.out) g.H.KeyHash-1.hash_of (givens l.setup.how.now.rows l.setup.parts.now) (last_first l.yielded) l.bytes-iterator (lines l.script) l.desk l.number;
+  reached : Reached (g.O.Out.taken l.fn.out) (g.O.Out.taken l.out) g.H.KeyHash-1.hash_of (givens l.setup.how.now.rows l.setup.parts.now) (last_first l.yielded) l.bytes-iterator (lines l.script) l.desk l.backlog l.number;
   sound : g.O.Out.faults l.out ≡ g.O.Out.faults l.fn.out;
 }
