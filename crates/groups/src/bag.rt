@@ -67,7 +67,7 @@ impl<H: KeyHash<Cell>> Bag<H> {
         requires can { CanTake aggregations.now row.now self.old }
         ensures { IfOk result (λ _. Takes aggregations.now columns.now row.now self.old self.new) }
     {
-        let hash = hash_of::<H>(row.cells(), columns);
+        let hash = hash_of(row.cells(), columns);
         if let Some(place) = self.find(hash, row.cells(), columns) {
             self.groups[place].1.step(alloc, row, aggregations)?;
             return Ok(());
@@ -90,7 +90,7 @@ impl<H: KeyHash<Cell>> Bag<H> {
         requires fit { AllByRecursion (λ g. AllFit g.1 accumulators.now) self.old }
         ensures { IfOk result (λ _. TakesGroup (picked places.now tuple.now) accumulators.now self.old self.new) }
     {
-        let hash = hash_of::<H>(tuple.cells(), places);
+        let hash = hash_of(tuple.cells(), places);
         if let Some(place) = self.find(hash, tuple.cells(), places) {
             return self.join_at(alloc, place, accumulators);
         }

@@ -3,6 +3,7 @@ pub mod HalvesLemmas
 pub mod ListedLemmas
 pub mod OrderLemmas
 pub mod PartLemmas
+pub mod PlainLemmas
 pub mod PutsLemmas
 pub mod ReaderLemmas
 pub mod RecordsLemmas

@@ -4,7 +4,7 @@ use Rattle.std.proofs.Common.{◌≡◌, ℕ, zero, suc, ◌+◌, ◌-◌, ◌�
 use Rattle.std.proofs.lemmas.List.Elements.{All-head, All-tail}
 use Rattle.std.proofs.lemmas.List.Sorted.{All-permutation, IsPermutation-map, IsPermutation-sym, IsPermutation-trans, sum_by-IsPermutation}
 use Rattle.std.proofs.lemmas.List.Sums.{sum_by-cons}
-use Rattle.std.specs.Prelude.{IsPermutation, Result, Vec, sum_by}
+use Rattle.std.specs.Prelude.{IsPermutation, Vec, sum_by}
 use Rattle.std.specs.Borrow.{Bor}
 use Rattle.std.specs.List.{AllByRecursion, AllZip, concat, flat_map, range_with_len}
 use Rattle.std.specs.List.Sorted.{IsNonDecreasingBy}
@@ -12,7 +12,7 @@ use Rattle.std.specs.declared.alloc.Global.{Global}
 use Rattle.cells.specs.Values.{Table}
 use Rattle.crew.specs.Shares.{AreShared}
 use Rattle.loader.specs.Listed.{AreRead, IsFound}
-use Rattle.loader.specs.Loads.{Held, ReadsPart}
+use Rattle.loader.specs.Loads.{Content, ReadsPart}
 use Rattle.loader.specs.Parts.{Part, part_of}
 use Rattle.loader.specs.declared.loading.Found.{Found}
 use mathlib.Core.Logic.{dite}
@@ -92,29 +92,26 @@ at_last P (m ∷ ns) n all = at_last P ns n all.1
 -- ---- what was found
 
 -- what a lent part reads as, at its place
-pub reads_at : (t : Table) (lent : List (ℕ × Bor (List ℕ))) (place : ℕ) (content : Result Held ℕ) → place < length lent →
+pub reads_at : (t : Table) (lent : List (ℕ × Bor (List ℕ))) (place : ℕ) (content : Content) → place < length lent →
     ((other : ℕ × Bor (List ℕ)) → ReadsPart t (get_or lent place other).1.now content) → (other : Part) → ReadsPart t (get_or (map part_of lent) place other).1 content
 reads_at t [] place content within read other = absurd (omega arith)
 reads_at t (p ∷ lent) zero content within read other = read p
 reads_at t (p ∷ lent) (suc place) content within read other = reads_at t lent place content (omega arith) read other
 
-abbrev Content : Type 0
-Content = Found (Result Held ℕ)
-
-abbrev pub place_of : Content → ℕ
+abbrev pub place_of : Found → ℕ
 place_of found = found.place
 
-many : (all : List Content) → length (map place_of all) ≡ length all
+many : (all : List Found) → length (map place_of all) ≡ length all
 many [] = refl
 many (found ∷ all) = ap suc (many all)
 
-place_at : (all : List Content) (i : ℕ) (other : Content) → i < length all → get_or (map place_of all) i 0 ≡ place_of (get_or all i other)
+place_at : (all : List Found) (i : ℕ) (other : Found) → i < length all → get_or (map place_of all) i 0 ≡ place_of (get_or all i other)
 place_at [] i other within = absurd (omega arith)
 place_at (found ∷ all) zero other within = refl
 place_at (found ∷ all) (suc i) other within = place_at all i other (omega arith)
 
 -- the places of what is sorted by them rise
-places_rise : (all : List Content) → IsNonDecreasingBy place_of all → Rises (map place_of all)
+places_rise : (all : List Found) → IsNonDecreasingBy place_of all → Rises (map place_of all)
 places_rise [] sorted i j le lt = absurd (omega arith)
 places_rise (found ∷ all) sorted i j le lt =
     let long = many (found ∷ all) in
@@ -133,16 +130,16 @@ zip_append R (x ∷ xs) us (y ∷ ys) vs first second = (first.0, zip_append R x
 
 module _ (t : Table) (parts : List Part) where
   -- it is what the part at its own place reads as
-  abbrev Right : Content → Type 0
+  abbrev Right : Found → Type 0
   Right found = (other : Part) → ReadsPart t (get_or parts found.place other).1 found.content
 
-  places_are : (places : List ℕ) (all : List Content) → AllZip (IsFound t parts) places all → map place_of all ≡ places
+  places_are : (places : List ℕ) (all : List Found) → AllZip (IsFound t parts) places all → map place_of all ≡ places
   places_are [] [] zip = refl
   places_are [] (found ∷ all) zip = absurd zip
   places_are (place ∷ places) [] zip = absurd zip
   places_are (place ∷ places) (found ∷ all) zip = ap₂ (λ (m : ℕ) (ms : List ℕ). m ∷ ms) zip.0.at (places_are places all zip.1)
 
-  right_at : (places : List ℕ) (all : List Content) → AllZip (IsFound t parts) places all → All Right all
+  right_at : (places : List ℕ) (all : List Found) → AllZip (IsFound t parts) places all → All Right all
   right_at [] [] zip k other within = absurd (omega arith)
   right_at [] (found ∷ all) zip k other within = absurd zip
   right_at (place ∷ places) [] zip k other within = absurd zip
@@ -151,7 +148,7 @@ module _ (t : Table) (parts : List Part) where
   right_at (place ∷ places) (found ∷ all) zip (suc k) other within = right_at places all zip.1 k other (omega arith)
 
   -- the results of all shares, one behind another
-  of_shares : (shares : List (List ℕ)) (given : List (Vec Content Global)) → AllZip (λ places g. AllZip (IsFound t parts) places g.items) shares given →
+  of_shares : (shares : List (List ℕ)) (given : List (Vec Found Global)) → AllZip (λ places g. AllZip (IsFound t parts) places g.items) shares given →
       AllZip (IsFound t parts) (concat shares) (flat_map (λ g. g.items) given)
   of_shares [] [] zip = tt
   of_shares [] (g ∷ given) zip = absurd zip
@@ -159,7 +156,7 @@ module _ (t : Table) (parts : List Part) where
   of_shares (places ∷ shares) (g ∷ given) zip = zip_append (IsFound t parts) places (concat shares) g.items (flat_map (λ h. h.items) given) zip.0 (of_shares shares given zip.1)
 
   -- what was found at the places of a range is what the parts there read as
-  read_from : (left : List Part) (all : List Content) (from : ℕ) → map place_of all ≡ range_with_len from (length left) →
+  read_from : (left : List Part) (all : List Found) (from : ℕ) → map place_of all ≡ range_with_len from (length left) →
       ((i : ℕ) (other : Part) → i < length left → get_or parts (from + i) other ≡ get_or left i other) → All Right all → AreRead t left all
   read_from [] [] from places at right = tt
   read_from [] (found ∷ all) from places at right = absurd (cc)
@@ -172,7 +169,7 @@ module _ (t : Table) (parts : List Part) where
       )
 
   -- the results of all workers, sorted by their places
-  pub read_in_order : (count : ℕ) (given : List (Vec Content Global)) (found sorted : List Content) →
+  pub read_in_order : (count : ℕ) (given : List (Vec Found Global)) (found sorted : List Found) →
       AreShared (λ places g. AllZip (IsFound t parts) places g.items) count given → count ≡ length parts → found ≡ flat_map (λ g. g.items) given →
       IsPermutation found sorted → IsNonDecreasingBy place_of sorted → AreRead t parts sorted
   read_in_order count given found sorted shared counted is moved rise =

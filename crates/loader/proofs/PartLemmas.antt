@@ -1,24 +1,20 @@
 -- The rows of a part, one record after another.
-use Rattle.std.proofs.Common.{◌≡◌, ℕ, zero, suc, ◌+◌, ◌≤◌, ◌<◌, Bool, true, false, cond, Option, Some, None, List, [], ◌∷◌, ◌++◌, length, refl, ap, sym, ◌∙◌, arith, append_assoc}
+use Rattle.std.proofs.Common.{◌≡◌, ℕ, zero, suc, ◌+◌, ◌≤◌, ◌<◌, Bool, true, false, Option, Some, None, List, [], ◌∷◌, ◌++◌, length, refl, ap, sym, ◌∙◌, arith, append_assoc}
 use Rattle.std.proofs.lemmas.List.{append-nil, length-append, map-append}
-use Rattle.std.specs.FinMap.{empty}
 use Rattle.std.specs.List.{AllByRecursion}
 use Rattle.std.specs.Prelude.{Result, Ok, Err, if◌then◌else◌}
 use Rattle.csv.specs.Machine.{Read, next_record}
 use Rattle.csv.specs.Reading.{default_config, is_bom, records_from, records_next, strip_bom}
 use Rattle.csv.specs.declared.parser.State.{State}
 use Rattle.csv.specs.declared.parser.State.TheVariants as st
-use Rattle.cells.specs.CellOrder.{cell_cmp}
 use Rattle.cells.specs.Fitting.{IsRowOf}
 use Rattle.cells.specs.Records.{row_of}
 use Rattle.cells.specs.Tables.{keyed_rows}
 use Rattle.cells.specs.Values.{Entry, Table}
 use Rattle.cells.specs.declared.cell.Cell.{Cell}
-use Rattle.trie.specs.Maps.{map_of}
-use Rattle.loader.specs.Loads.{Held, IsRead, Reads}
+use Rattle.loader.specs.Loads.{Content, IsRead, Reads}
 use Rattle.loader.specs.Parts.{and_rows, is_header, rows_behind_header, rows_from}
 use Rattle.loader.specs.Records.{records_of}
-use Rattle.loader.proofs.PutsLemmas.{LaysRows, holds_all, inserted}
 
 -- rows that were read, before those of the records that are left
 abbrev pub behind : List Entry → Result (List Entry) ℕ → Result (List Entry) ℕ
@@ -64,14 +60,15 @@ reached_more t said number old new fields row pairs all reached took spelt fits 
   few = omega (arith, reached.few, ap length more, length-append pairs ((row.key, row) ∷ []));
 }
 
--- all records were read, and their rows put
-pub reached_end : LaysRows → (t : Table) (said : Result (List Entry) ℕ) (number most : ℕ) (left : List (List (List ℕ))) (pairs : List (Cell × Entry)) (held : Held) →
-    Reached t said number left pairs → left ≡ [] → number + length left ≡ most + 1 → map_of cell_cmp held ≡ inserted empty pairs → length held ≤ length pairs → IsRead t said most held
-reached_end put t said number most left pairs held reached none counted is no_more = record {
+-- all records were read
+pub reached_end : (t : Table) (said : Result (List Entry) ℕ) (number most : ℕ) (left : List (List (List ℕ))) (pairs : List (Cell × Entry)) →
+    Reached t said number left pairs → left ≡ [] → number + length left ≡ most + 1 → IsRead t said most pairs
+reached_end t said number most left pairs reached none counted = record {
   rs = reached.rs;
   is = reached.is ∙ ap (λ l. behind reached.rs (rows_from t number l)) none ∙ ap Ok (append-nil reached.rs);
-  holds = holds_all t put pairs reached.rs held reached.keyed reached.fit is;
-  few = omega (arith, ap length none, counted, reached.few, no_more);
+  keyed = reached.keyed;
+  fit = reached.fit;
+  few = omega (arith, ap length none, counted, reached.few);
 }
 
 -- one record was read, which spells no row
@@ -84,12 +81,13 @@ reached_fault t said number old new fields pairs reached took bad =
 -- ---- the header
 
 -- what is read behind the header is read from the whole part
-pub read_behind : (t : Table) (header : List (List ℕ)) (later all : List (List (List ℕ))) (most : ℕ) (content : Result Held ℕ) → all ≡ header ∷ later →
+pub read_behind : (t : Table) (header : List (List ℕ)) (later all : List (List (List ℕ))) (most : ℕ) (content : Content) → all ≡ header ∷ later →
     is_header t.columns header ≡ true → length later ≤ most → Reads t (rows_from t 1 later) (length later) content → Reads t (rows_behind_header t all) most content
-read_behind t header later all most (Ok held) took is few read = record {
+read_behind t header later all most (Ok rows) took is few read = record {
   rs = read.rs;
   is = ap (rows_behind_header t) took ∙ ap (λ b. if b then rows_from t 1 later else Err 0) is ∙ read.is;
-  holds = read.holds;
+  keyed = read.keyed;
+  fit = read.fit;
   few = omega (arith, few, read.few);
 }
 read_behind t header later all most (Err number) took is few read =

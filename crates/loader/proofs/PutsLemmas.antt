@@ -46,13 +46,6 @@ module _ (t : Table) where
     fit = subst (AreRowsOf t) (sym (is ∙ ap (inserted empty) keyed)) (all_fit t empty rs (rows_none t empty refl) fit);
   }
 
-  -- nothing was put
-  pub holds_none : (held : Held) → held ≡ [] → HoldsPuts t [] held
-  holds_none held none = record {
-    map = ap (map_of cell_cmp) none;
-    fit = subst (AreRowsOf t) (sym (ap (map_of cell_cmp) none)) (rows_none t (table []) refl);
-  }
-
   -- the rows of one trie behind those of another
   pub holds_both : ((us : List Update) (rs : List Entry) → table (rows (us ++ puts rs)) ≡ laid_over (table (rows (puts rs))) (table (rows us))) →
       ((later earlier : Rows) (key : Cell) → get (laid_over later earlier) key ≡ option_or (get later key) (get earlier key)) →

@@ -1,21 +1,23 @@
--- Tries put together.
-use Rattle.std.specs.Prelude.{◌≡◌, ◌+◌, ◌≤◌, List, length, sum_by}
-use Rattle.std.specs.List.{AllZip}
+-- Rows as tries, and tries put together.
+use Rattle.std.specs.Prelude.{◌≡◌, ◌+◌, ◌≤◌, List, length}
+use Rattle.std.specs.List.{AllByRecursion}
 use Rattle.cells.specs.CellOrder.{cell_cmp}
+use Rattle.cells.specs.Fitting.{IsRowOf}
+use Rattle.cells.specs.Tables.{keyed_rows, laid_over}
 use Rattle.cells.specs.Values.{Entry, Table}
+use Rattle.cells.specs.declared.cell.Cell.{Cell}
 use Rattle.trie.specs.Maps.{map_of}
-use Rattle.loader.specs.Loads.{Held, HoldsPuts, joined}
-use Rattle.cells.specs.Tables.{laid_over}
+use Rattle.loader.specs.Loads.{Held, HoldsPuts}
 
--- whatever rows the tries hold, this one holds all of them, those of each trie behind those of the tries before it
-pub record AreMerged (tries : List Held) (all : Held) : Type 0 where
-  pub holds : (t : Table) (listed : List (List Entry)) → AllZip (HoldsPuts t) listed tries → HoldsPuts t (joined listed) all
-  pub few : length all ≤ sum_by length tries
+-- whatever rows these are, each beside its key, the trie holds what they leave once they are put one after another
+pub record HoldsAll (pairs : List (Cell × Entry)) (held : Held) : Type 0 where
+  pub holds : (t : Table) (rs : List Entry) → pairs ≡ keyed_rows rs → AllByRecursion (IsRowOf t) rs → HoldsPuts t rs held
+  pub few : length held ≤ length pairs
 
 -- the same of both halves of a list
-pub record AreBothMerged (front back : List Held) (both : Held × Held) : Type 0 where
-  pub first : AreMerged front both.0
-  pub second : AreMerged back both.1
+pub record AreBothHeld (front back : List (Cell × Entry)) (both : Held × Held) : Type 0 where
+  pub first : HoldsAll front both.0
+  pub second : HoldsAll back both.1
 
 -- the rows of two tries, where those of the second lie over those of the first
 pub record IsLaidOver (first second both : Held) : Type 0 where

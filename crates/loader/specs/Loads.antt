@@ -1,8 +1,10 @@
--- What tries hold, and what is read from a part and loaded from a list of parts.
-use Rattle.std.specs.Prelude.{◌≡◌, ◌≤◌, ⊤, ℕ, List, length, Result, Ok, Err}
-use Rattle.std.specs.List.{flat_map}
+-- What is read from a part, what a trie holds, and what is loaded from a list of parts.
+use Rattle.std.specs.Prelude.{◌≡◌, ◌≤◌, ⊤, ℕ, List, length, Result, Ok, Err, Vec}
+use Rattle.std.specs.List.{AllByRecursion}
+use Rattle.std.specs.declared.alloc.Global.{Global}
 use Rattle.cells.specs.CellOrder.{cell_cmp}
-use Rattle.cells.specs.Tables.{AreRowsOf, table}
+use Rattle.cells.specs.Fitting.{IsRowOf}
+use Rattle.cells.specs.Tables.{AreRowsOf, keyed_rows, table}
 use Rattle.cells.specs.Updates.{puts, rows}
 use Rattle.cells.specs.Values.{Entry, Table}
 use Rattle.cells.specs.declared.cell.Cell.{Cell}
@@ -20,24 +22,25 @@ pub record HoldsPuts (t : Table) (rs : List Entry) (held : Held) : Type 0 where
   pub map : map_of cell_cmp held ≡ table (rows (puts rs))
   pub fit : AreRowsOf t (map_of cell_cmp held)
 
--- the rows of all lists, one list behind another
-abbrev pub joined : List (List Entry) → List Entry
-joined listed = flat_map (λ rs. rs) listed
-
--- rows are said, and the trie holds them; it holds no more than this number
-pub record IsRead (t : Table) (said : Result (List Entry) ℕ) (most : ℕ) (held : Held) : Type 0 where
+-- rows are said, which may stand in the table, and these are they, each beside its key; there are no more than this number
+pub record IsRead {E : Type 0} (t : Table) (said : Result (List Entry) E) (most : ℕ) (pairs : List (Cell × Entry)) : Type 0 where
   pub rs : List Entry
   pub is : said ≡ Ok rs
-  pub holds : HoldsPuts t rs held
-  pub few : length held ≤ most
+  pub keyed : pairs ≡ keyed_rows rs
+  pub fit : AllByRecursion (IsRowOf t) rs
+  pub few : length pairs ≤ most
+
+-- the rows of a part, each beside its key, or the number of its first faulty record
+abbrev pub Content : Type 0
+Content = Result (Vec (Cell × Entry) Global) ℕ
 
 -- the rows that are said, or the number of the faulty record that is said
-abbrev pub Reads : Table → Result (List Entry) ℕ → ℕ → Result Held ℕ → Type 0
-Reads t said most (Ok held) = IsRead t said most held
+abbrev pub Reads : Table → Result (List Entry) ℕ → ℕ → Content → Type 0
+Reads t said most (Ok rows) = IsRead t said most rows.items
 Reads t said most (Err entry) = said ≡ Err entry
 
 -- a part's rows, of which there are no more than bytes, or the number of its first faulty record
-abbrev pub ReadsPart : Table → List ℕ → Result Held ℕ → Type 0
+abbrev pub ReadsPart : Table → List ℕ → Content → Type 0
 ReadsPart t bytes content = Reads t (rows_of_part t bytes) (length bytes) content
 
 -- no fault is said, and the trie holds what the rows leave that are said

@@ -7,6 +7,7 @@ mod header;
 mod limits;
 mod loading;
 mod part;
+mod plain;
 mod records;
 
 pub use fault::PartFault;

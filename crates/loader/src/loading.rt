@@ -13,12 +13,11 @@ ghost use Rattle.loader.specs.Parts.{part_len, part_of, rows_of_parts};
 ghost use Rattle.cells.specs.Tables.{AreRowsOf};
 
 use crate::fault::PartFault;
-use crate::halves::merge_list;
+use crate::halves::{ListedRows, trie_of_list};
 use crate::part::{Content, read_part};
 use cells::{Cell, KeyHash, Refused, Row, Schema};
 use crew::{Gate, Task, share_out};
 use std::alloc::{AllocError, Global};
-use std::marker::PhantomData;
 use std::sync::Wait;
 use std::thread::Threads;
 use trie::Trie;
@@ -55,11 +54,10 @@ pub fn load<H: KeyHash<Cell> + Send + Sync, G: Gate, R: Threads + Wait>(
     ensures loaded { Loads (rows_of_parts schema.now (map part_of parts.now)) result }
     ensures fits { IfOk result (λ trie. AreRowsOf schema.now (map_of cell_cmp trie)) }
 {
-    let reading = Reading::<H, G> {
+    let reading = Reading {
         parts,
         schema,
         gate,
-        hash: PhantomData,
     };
     let shares = match share_out(rt, alloc, parts.len() as u64, workers, &reading) {
         Ok(shares) => shares,
@@ -67,20 +65,19 @@ pub fn load<H: KeyHash<Cell> + Send + Sync, G: Gate, R: Threads + Wait>(
         Err(_) => return Err(PartFault::OutOfMemory),
     };
     let found = in_order(alloc, parts, schema, shares)?;
-    let tries = tries_of(alloc, parts, schema, found)?;
-    merge_list(rt, alloc, tries.as_slice(), workers, gate)
+    let listed = rows_of(alloc, parts, schema, found)?;
+    trie_of_list(rt, alloc, listed, parts.len(), workers, gate)
 }
 
 /// The work on a list of parts: each worker reads those whose places it draws.
 #[derive(Drop)]
-struct Reading<'a, H, G> {
+struct Reading<'a, G> {
     parts: &'a [(u64, &'a [u8])],
     schema: &'a Schema,
     gate: &'a G,
-    hash: PhantomData<H>,
 }
 
-impl<'a, H, G> Reading<'a, H, G> {
+impl<'a, G> Reading<'a, G> {
     /// The bytes of the part at the place.
     fn bytes(&self, place: u64) -> &'a [u8]
         requires { place < length self.now.parts.now }
@@ -93,20 +90,20 @@ impl<'a, H, G> Reading<'a, H, G> {
 
 /// What was found at a place of the list.
 #[derive(Drop)]
-struct Found<T> {
+struct Found {
     place: u64,
-    content: T,
+    content: Content,
 }
 
-impl<'a, H: KeyHash<Cell> + Send + Sync, G: Gate> Task for Reading<'a, H, G> {
+impl<'a, G: Gate> Task for Reading<'a, G> {
     ghost use Rattle.std.specs.Prelude.{length, map};
     ghost use Rattle.std.specs.List.{AllZip};
     ghost use Rattle.loader.specs.Listed.{IsFound};
     ghost use Rattle.loader.specs.Parts.{part_of};
 
-    type Made = Vec<Found<Content<H>>>;
+    type Made = Vec<Found>;
 
-    type Given = Vec<Found<Content<H>>>;
+    type Given = Vec<Found>;
 
     ghost count = { λ task. length task.parts.now };
 
@@ -114,38 +111,29 @@ impl<'a, H: KeyHash<Cell> + Send + Sync, G: Gate> Task for Reading<'a, H, G> {
 
     ghost gives = { λ task places given. AllZip (IsFound task.schema.now (map part_of task.parts.now)) places given.items };
 
-    fn begin(&self, alloc: Global) -> Result<Vec<Found<Content<H>>>, AllocError> {
+    fn begin(&self, alloc: Global) -> Result<Vec<Found>, AllocError> {
         Ok(Vec::new(alloc))
     }
 
-    fn take(
-        &self,
-        alloc: Global,
-        made: &mut Vec<Found<Content<H>>>,
-        place: u64,
-    ) -> Result<(), AllocError> {
+    fn take(&self, alloc: Global, made: &mut Vec<Found>, place: u64) -> Result<(), AllocError> {
         self.gate.reading(place);
         // A fault is a result as any other, so that the parts of all places are read.
         let content = read_part(alloc, self.bytes(place), self.schema)?;
         Ok(made.push(Found { place, content })?)
     }
 
-    fn end(
-        &self,
-        _alloc: Global,
-        made: Vec<Found<Content<H>>>,
-    ) -> Result<Vec<Found<Content<H>>>, AllocError> {
+    fn end(&self, _alloc: Global, made: Vec<Found>) -> Result<Vec<Found>, AllocError> {
         Ok(made)
     }
 }
 
 /// What all workers found, in the order of the places.
-fn in_order<H: KeyHash<Cell>>(
+fn in_order(
     alloc: Global,
     parts: &[(u64, &[u8])],
     schema: &Schema,
-    shares: Vec<Vec<Found<Content<H>>>>,
-) -> Result<Vec<Found<Content<H>>>, AllocError>
+    shares: Vec<Vec<Found>>,
+) -> Result<Vec<Found>, AllocError>
     requires { AreShared (λ places given. AllZip (IsFound schema.now (map part_of parts.now)) places given.items) (length parts.now) shares.items }
     ensures { IfOk result (λ all. AreRead schema.now (map part_of parts.now) all.items) }
 {
@@ -157,21 +145,26 @@ fn in_order<H: KeyHash<Cell>>(
     Ok(all)
 }
 
-/// The tries of all parts, or the first listed part that has a fault.
-fn tries_of<H: KeyHash<Cell>>(
+/// The rows of all parts, one part behind another, or the first listed part that has a fault.
+fn rows_of(
     alloc: Global,
     parts: &[(u64, &[u8])],
     schema: &Schema,
-    found: Vec<Found<Content<H>>>,
-) -> Result<Vec<Trie<Cell, Row, H>>, PartFault>
+    found: Vec<Found>,
+) -> Result<ListedRows, PartFault>
     requires { AreRead schema.now (map part_of parts.now) found.items }
     ensures { Lists schema.now (rows_of_parts schema.now (map part_of parts.now)) (sum_by part_len (map part_of parts.now)) result }
 {
-    let mut tries = Vec::with_capacity(alloc, parts.len())?;
+    let middle = parts.len() as u64 / 2;
+    let mut rows = Vec::new(alloc);
+    let mut front = 0;
     for (part, found) in parts.iter().zip(found) {
-        let Found { content, .. } = found;
+        let Found { place, content } = found;
+        if place == middle {
+            front = rows.len();
+        }
         match content {
-            Ok(rows) => tries.push(rows)?,
+            Ok(mut more) => rows.append(&mut more)?,
             Err(entry) => {
                 return Err(PartFault::Bad {
                     part: part.0,
@@ -180,5 +173,5 @@ fn tries_of<H: KeyHash<Cell>>(
             }
         }
     }
-    Ok(tries)
+    Ok(ListedRows { rows, front })
 }

@@ -1,32 +1,23 @@
 //! One part: a header, and a row for each record behind it.
-ghost use Rattle.std.specs.Prelude.{◌≡◌, ◌+◌, ◌<◌, ◌≤◌, ◌^◌, length, IfOk};
-ghost use Rattle.std.specs.FinMap as map;
-ghost use Rattle.std.specs.List.{fold};
-ghost use Rattle.cells.specs.CellOrder.{cell_cmp};
-ghost use Rattle.trie.specs.Maps.{map_of};
+ghost use Rattle.std.specs.Prelude.{◌+◌, ◌<◌, ◌^◌, length, IfOk};
 ghost use Rattle.loader.specs.Loads.{Reads, ReadsPart};
 ghost use Rattle.loader.specs.Parts.{rows_from};
 
 use crate::header::is_header;
 use crate::records::{Records, fields, read_row};
-use cells::{Cell, KeyHash, Refused, Row, Schema, updates_make_a_map};
+use cells::{Cell, Refused, Row, Schema};
 use csv::ByteRecord;
 use std::alloc::{AllocError, Global};
-use trie::{Ticks, Trie, entries_are_a_map};
 
-/// What a part holds: the rows of its records by their keys, where of a key's rows the last one stands; or the number
-/// of its first faulty record, where the header is record 0.
-pub(crate) type Content<H> = Result<Trie<Cell, Row, H>, u64>;
+/// What a part holds: the rows of its records in their order, each beside its key; or the number of its first faulty
+/// record, where the header is record 0.
+pub(crate) type Content = Result<Vec<(Cell, Row)>, u64>;
 
 /// Reads a part. Its fault is at record 0 where it has no record at all, or its first one is not the header; and else
 /// at the first record behind it that spells no row of the schema.
 ///
 /// The only error is that a growth was refused.
-pub(crate) fn read_part<H: KeyHash<Cell>>(
-    alloc: Global,
-    bytes: &[u8],
-    schema: &Schema,
-) -> Result<Content<H>, AllocError>
+pub(crate) fn read_part(alloc: Global, bytes: &[u8], schema: &Schema) -> Result<Content, AllocError>
     ensures { IfOk result (ReadsPart schema.now bytes.now) }
 {
     let mut records = Records::new(alloc, bytes);
@@ -42,15 +33,14 @@ pub(crate) fn read_part<H: KeyHash<Cell>>(
 }
 
 /// The rows of the records that are left, which are numbered from 1 on, or the number of the first faulty one.
-fn read_rows<H: KeyHash<Cell>>(
+fn read_rows(
     alloc: Global,
     mut records: Records<'_>,
     schema: &Schema,
-) -> Result<Content<H>, AllocError>
+) -> Result<Content, AllocError>
     requires { length records + 1 < 2 ^ 64 }
     ensures { IfOk result (Reads schema.now (rows_from schema.now 1 records.entry) (length records.entry)) }
 {
-    updates_make_a_map();
     let mut rows = Vec::new(alloc);
     let mut record = ByteRecord::new(alloc);
     let mut number = 1;
@@ -64,17 +54,5 @@ fn read_rows<H: KeyHash<Cell>>(
         rows.push((key, row))?;
         number += 1;
     }
-    Ok(Ok(trie_of(alloc, rows)?))
-}
-
-/// The trie of rows, each beside its key, as if they were put one after another.
-fn trie_of<H: KeyHash<Cell>>(
-    alloc: Global,
-    rows: Vec<(Cell, Row)>,
-) -> Result<Trie<Cell, Row, H>, AllocError>
-    ensures map { IfOk result (λ trie. map_of cell_cmp trie ≡ fold (λ m p. map.insert m p.0 p.1) map.empty rows.items) }
-    ensures few { IfOk result (λ trie. length trie ≤ length rows.items) }
-{
-    entries_are_a_map::<Cell, Row, H>();
-    Trie::from_pairs(alloc, rows, &mut Ticks::new())
+    Ok(Ok(rows))
 }

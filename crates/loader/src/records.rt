@@ -7,6 +7,7 @@ ghost use Rattle.cells.specs.Refusals.{Answers};
 ghost use Rattle.csv.specs.Records.{fields_of};
 ghost use Rattle.loader.specs.Records.{records_of, row_of_text, sole};
 
+use crate::plain::{is_plain, read_plain};
 use cells::{Refused, Row, RowReader, Schema};
 use csv::{ByteRecord, Reader, ReaderBuilder};
 use std::alloc::{AllocError, Global};
@@ -81,6 +82,9 @@ pub fn read_record(alloc: Global, text: &[u8], schema: &Schema) -> Result<Row, R
     ensures exact { Answers Refused.BadRecord (row_of_text schema.now text.now) result }
     ensures fits { IfOk result (IsRowOf schema.now) }
 {
+    if is_plain(text) {
+        return read_plain(alloc, text, schema);
+    }
     let Some(record) = sole_record(alloc, text)? else {
         return Err(Refused::BadRecord);
     };

@@ -26,6 +26,7 @@ use crew::Gate;
 use query::each_text_has_an_answer;
 use report::{Backlog, Out, Starter, write_whole};
 use std::alloc::Global;
+use std::mem;
 use std::sync::Wait;
 use std::thread::{self, Threads};
 
@@ -43,6 +44,9 @@ use std::thread::{self, Threads};
 /// are joined before this returns, however the run ends. `gate` is told of each publish by the thread that calls, of
 /// each piece of a report and of each listed part by the worker that drew it, and of each half of a list of parts by
 /// the thread that merges it.
+///
+/// What the table holds at the end is not given back node by node: its memory is left to the system, which takes it back
+/// when the process ends.
 pub fn run<
     H: KeyHash<Cell> + KeyHash<Tuple> + Send + Sync,
     O: Out,
@@ -96,7 +100,7 @@ pub fn run_by<O: Out, G: Gate, R: Threads + Wait + Sync>(
 }
 
 /// Runs the lines of a script that is not too long. Reports run beside the lines that follow them: however the lines
-/// end, the reports that are under way are joined here, and the keeper ends here.
+/// end, the reports that are under way are joined here, and the keeper ends here, whose memory is left to the system.
 fn run_lines<
     H: KeyHash<Cell> + KeyHash<Tuple> + Send + Sync,
     O: Out,
@@ -129,7 +133,9 @@ fn run_lines<
             let mut backlog = Backlog::new(setup.alloc);
             let ended = run_beside(setup, &starter, script, &mut desk, &mut backlog, out);
             backlog.join(setup.rt);
-            drop(desk);
+            // The table's memory goes back to the system as a whole, when the process ends: to give back each of its
+            // nodes and rows by itself would take as long as half of its load.
+            mem::forget(desk);
             (ended, out)
         },
     );

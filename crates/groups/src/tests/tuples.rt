@@ -1,14 +1,14 @@
 //! How hashes of tuples spread: a bag that meets two tuples of one hash in turn makes groups twice.
 
 use crate::tuples::hash_of;
-use cells::{Cell, Fnv};
+use cells::Cell;
 use std::alloc::{AllocError, Global};
 use std::collections::HashMap;
 use std::test::Fail;
 
 /// The hash of the tuple of two small integers.
 fn hash_of_pair(first: i64, second: i64) -> u64 {
-    hash_of::<Fnv>(&[Cell::Int(first), Cell::Int(second)], &[0, 1])
+    hash_of(&[Cell::Int(first), Cell::Int(second)], &[0, 1])
 }
 
 /// How many different hashes the pairs of integers have, the first below 20, the second below 50.

@@ -8,7 +8,7 @@ use Rattle.loader.proofs.OrderLemmas.{place_of, read_in_order}
 use Rattle.loader.proofs.loading.in_order.Goals as goal
 
 pub returns : goal.returns
-returns g c =
+returns c =
     let made = c.in_ok-sort_by_key.ensures in
     let all = c.loop-share.all.items in
     let iterator = c.loop-share.share-iterator in

@@ -6,13 +6,13 @@ use Rattle.loader.proofs.PartLemmas.{reached_end, reached_first, reached_more}
 use Rattle.loader.proofs.part.read_rows.Goals as goal
 
 pub loop-record-init : goal.loop-record-init
-loop-record-init g c = record {
+loop-record-init c = record {
   reached = reached_first c.args.schema.now c.args.records c.new-rows.result.items c.new-rows.ensures.items;
   counted = omega arith;
 }
 
 pub loop-record-preserved : goal.loop-record-preserved
-loop-record-preserved g c =
+loop-record-preserved c =
     let t = c.args.schema.now in
     let row = c.in-Ok.row in
     let took : c.loop-record.records ≡ fields_of c.next.new.row ∷ c.next.new.self = search rules in
@@ -25,7 +25,7 @@ loop-record-preserved g c =
     }
 
 pub returns : goal.returns
-returns g c =
+returns c =
     let left : c.loop-record.records ≡ [] = search rules in
-    reached_end c.updates_make_a_map.ensures.put c.args.schema.now (rows_from c.args.schema.now 1 c.args.records) c.loop-record.number (length c.args.records) c.loop-record.records
-    c.loop-record.rows.items c.in_ok-trie_of.field-0 c.loop-record.invariant.reached left c.loop-record.invariant.counted c.in_ok-trie_of.ensures.map c.in_ok-trie_of.ensures.few
+    reached_end c.args.schema.now (rows_from c.args.schema.now 1 c.args.records) c.loop-record.number (length c.args.records) c.loop-record.records
+    c.loop-record.rows.items c.loop-record.invariant.reached left c.loop-record.invariant.counted

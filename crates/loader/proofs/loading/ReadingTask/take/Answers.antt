@@ -1,4 +1,4 @@
-use Rattle.std.proofs.Common.{◌<◌, ℕ, length, map, refl, rules, subst, sym}
+use Rattle.std.proofs.Common.{◌<◌, ℕ, length, map, refl, subst, sym}
 use Rattle.std.specs.Borrow.{Bor}
 use Rattle.std.specs.List.{AllZip}
 use Rattle.std.specs.Prelude.{List, [], ◌∷◌, ◌++◌, slice_index_or}
