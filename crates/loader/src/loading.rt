@@ -33,7 +33,7 @@ use trie::Trie;
 /// As many workers as the smaller of `workers`, which is 1 to [`MAX_SEATS`](crew::MAX_SEATS), and the number of places
 /// read the parts, each worker in a thread of its own; what is read depends neither on their number nor on which worker
 /// reads which part. The gate is told of each place before its part is read. Where no part has a fault and there are two
-/// places or more, the two halves of the list are then merged, each told to the gate before: one after another for one
+/// places or more, a trie is then made of each half of the list, each told to the gate before: one after another for one
 /// worker, and else one of them in a thread of its own at the same time. This waits for all threads that it starts, however
 /// it ends.
 ///

@@ -134,7 +134,7 @@ fn run_lines<
             let ended = run_beside(setup, &starter, script, &mut desk, &mut backlog, out);
             backlog.join(setup.rt);
             // The table's memory goes back to the system as a whole, when the process ends: to give back each of its
-            // nodes and rows by itself would take as long as half of its load.
+            // nodes and rows by itself would take more than half as long as its load.
             mem::forget(desk);
             (ended, out)
         },
