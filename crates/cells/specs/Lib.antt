@@ -18,6 +18,7 @@ pub mod Schemas
 pub mod Spelling
 pub mod Tables
 pub mod TextOrder
+pub mod Texts
 pub mod TupleOrder
 pub mod Updates
 pub mod Values

@@ -3,24 +3,38 @@ ghost use Rattle.std.specs.Prelude.{◌≡◌, Some, IfOk, bytes_eq, string_byte
 ghost use Rattle.std.specs.Cmp;
 ghost use Rattle.std.specs.Cmp.Lexicographic.{nat_list_cmp_total, nat_list_eq_equiv, texts_po, texts_ties};
 ghost use Rattle.cells.specs.TextOrder.{bytes_cmp};
+ghost use Rattle.cells.specs.Texts.{text_bytes};
 
+use arrayvec::ArrayString;
 use std::alloc::{AllocError, Global};
 use std::cmp::Ordering;
 use std::marker::Model;
+
+/// Texts of at most so many bytes lie in the value itself. It is as many as fit in no more room than a `String` takes.
+const SHORT_BYTES: usize = 16;
 
 /// A text in UTF-8, of any length. It owns its bytes. Texts are ordered by their bytes: the first
 /// byte that differs decides, and a text stands after its own beginnings.
 #[derive(Debug, Drop)]
 pub struct Text {
-    string: String,
+    form: Form,
+}
+
+/// Where the bytes are. The texts of a table are short for the most part: a copy of such a one asks for no memory, and
+/// whoever reads its row has its bytes beside it.
+#[derive(Debug, Drop)]
+enum Form {
+    Short(ArrayString<SHORT_BYTES>),
+    Long(String),
 }
 
 impl Model for Text {
-    ghost use Rattle.std.specs.Prelude.{List, ℕ, string_bytes};
+    ghost use Rattle.std.specs.Prelude.{List, ℕ};
+    ghost use Rattle.cells.specs.Texts.{text_bytes};
 
     ghost Value = { List ℕ };
 
-    ghost view = { λ t. string_bytes t.string };
+    ghost view = { λ t. text_bytes t.form };
 }
 
 impl Text {
@@ -28,13 +42,20 @@ impl Text {
     pub fn new(string: String) -> Text
         ensures { result ≡ string_bytes string }
     {
-        Text { string }
+        Text {
+            form: Form::Long(string),
+        }
     }
 
-    /// A copy of the characters.
+    /// A copy of the characters. Up to 16 bytes take no memory.
     pub fn copied(alloc: Global, characters: &str) -> Result<Text, AllocError>
         ensures { IfOk result (λ text. text ≡ characters.now) }
     {
+        if let Ok(short) = ArrayString::from(characters) {
+            return Ok(Text {
+                form: Form::Short(short),
+            });
+        }
         Ok(Text::new(String::from_str(alloc, characters)?))
     }
 
@@ -42,7 +63,17 @@ impl Text {
     pub fn as_str(&self) -> &str
         ensures { result.now ≡ self.now }
     {
-        self.string.as_str()
+        match &self.form {
+            Form::Short(string) => string.as_str(),
+            Form::Long(string) => string.as_str(),
+        }
+    }
+
+    /// Its bytes. It takes no memory.
+    fn as_bytes(&self) -> &[u8]
+        ensures { result.now ≡ self.now }
+    {
+        self.as_str().as_bytes()
     }
 }
 
@@ -50,9 +81,11 @@ impl Clone for Text {
     ghost is_clone = { λ s t. t ≡ s };
 
     fn clone(&self) -> Result<Text, AllocError> {
-        Ok(Text {
-            string: self.string.clone()?,
-        })
+        let form = match &self.form {
+            Form::Short(string) => Form::Short(*string),
+            Form::Long(string) => Form::Long(string.clone()?),
+        };
+        Ok(Text { form })
     }
 }
 
@@ -62,7 +95,7 @@ impl PartialEq for Text {
     ghost laws = { Cmp.partial_equiv_from_equiv nat_list_eq_equiv };
 
     fn eq(&self, other: &Text) -> bool {
-        self.string.as_bytes() == other.string.as_bytes()
+        self.as_bytes() == other.as_bytes()
     }
 }
 
@@ -90,6 +123,6 @@ impl Ord for Text {
     ghost matches_eq = { texts_ties };
 
     fn cmp(&self, other: &Text) -> Ordering {
-        self.string.as_bytes().cmp(other.string.as_bytes())
+        self.as_bytes().cmp(other.as_bytes())
     }
 }

@@ -4,14 +4,14 @@ use Rattle.std.proofs.lemmas.List.{append-nil, append_assoc, take_rest}
 use Rattle.std.proofs.lemmas.Bool.Decides.{nat_tests}
 use Rattle.std.proofs.lemmas.List.Splits.{slice_split_first}
 use Rattle.std.specs.List.{list_any, onto_first, position, position_or_len}
-use Rattle.std.specs.Prelude.{◌≡◌, ◌==◌, ◌<◌, ◌≤◌, ◌+◌, ◌-◌, ◌++◌, ◌||◌, if◌then◌else◌, ℕ, Bool, true, false, cond, List, [], ◌∷◌, Option, Some, None, IsTrue, drop, length, nat_lt, not, slice_get, take}
+use Rattle.std.specs.Prelude.{◌≡◌, ◌==◌, ◌<◌, ◌≤◌, ◌+◌, ◌-◌, ◌++◌, ◌&&◌, ◌||◌, if◌then◌else◌, ℕ, Bool, true, false, cond, List, [], ◌∷◌, Option, Some, None, IsTrue, drop, length, nat_lt, not, slice_get, take}
 use Rattle.csv.specs.Machine.{Read, ends_at_end, field_after, fields_after, is_end, next_record, step}
 use Rattle.csv.specs.Reading.{default_config, strip_bom}
 use Rattle.csv.specs.declared.parser.State.{State}
 use Rattle.csv.specs.declared.parser.State.TheVariants as st
 use Rattle.csv.specs.declared.parser.Action.{Action}
 use Rattle.csv.specs.declared.parser.Action.TheVariants as act
-use Rattle.loader.specs.Records.{between_commas, is_special, records_at, records_of}
+use Rattle.loader.specs.Records.{begins_plainly, between_commas, is_special, records_at, records_of}
 use Rattle.loader.proofs.RecordsLemmas.{records_at-end, records_at-more}
 
 -- ---- parts of which the first has a text before it
@@ -159,13 +159,20 @@ one_field (x ∷ xs) h = no_cut (x == 44) x xs (position_or_len (λ b. b == 44) 
 pub no_comma : (bs : List ℕ) → position (λ b. b == 44) bs ≡ None → between_commas bs ≡ bs ∷ []
 no_comma bs e = one_field bs (no_place _ _ e)
 
+unmarked : (x y : ℕ) → Some x ≡ Some y → (x ≡ 0xEF → ⊥) → (y == 0xEF) ≡ false
+unmarked x y same other = let alike : x ≡ y = cc in grind (arith, nat_tests)
+
+-- a text that begins so and has no such byte is one record
 pub plain_text : (bs : List ℕ) (first : ℕ) (special : Bool) → Some first ≡ slice_get bs 0 → (first ≡ 0xEF → ⊥) → special ≡ list_any is_special bs
     → IsTrue (not special) → records_of bs ≡ between_commas bs ∷ []
 plain_text [] first special at mark is plain = cc
-plain_text (b ∷ bs) first special at mark is plain = plain_record b bs (differs first b at mark) (none special is plain) where
-  differs : (x y : ℕ) → Some x ≡ Some y → (x ≡ 0xEF → ⊥) → (y == 0xEF) ≡ false
-  differs x y same other = let alike : x ≡ y = cc in grind (arith, nat_tests)
-
+plain_text (b ∷ bs) first special at mark is plain = plain_record b bs (unmarked first b at mark) (none special is plain) where
   none : (s : Bool) → s ≡ list_any is_special (b ∷ bs) → IsTrue (not s) → list_any is_special (b ∷ bs) ≡ false
   none true is plain = cc
   none false is plain = sym is
+
+-- and the test for it is exact
+pub plain_exactly : (bs : List ℕ) (first : ℕ) (special : Bool) → Some first ≡ slice_get bs 0 → (first ≡ 0xEF → ⊥) → special ≡ list_any is_special bs
+    → not special ≡ (begins_plainly bs && not (list_any is_special bs))
+plain_exactly [] first special at mark is = cc
+plain_exactly (b ∷ bs) first special at mark is = rw (unmarked first b at mark, is) refl

@@ -1,11 +1,11 @@
 //! Records as most lines have them, with no quote and no line end: their fields are what stands between the commas.
-ghost use Rattle.std.specs.Prelude.{◌≡◌, ◌∷◌, ◌==◌, ◌<◌, [], IfOk, IfSome, IsTrue, length};
+ghost use Rattle.std.specs.Prelude.{◌≡◌, ◌∷◌, ◌==◌, ◌<◌, ◌&&◌, [], IfOk, IfSome, IsTrue, length, not};
 ghost use Rattle.std.specs.List.{list_any, position};
 ghost use Rattle.std.specs.Option.{option_map_or};
 ghost use Rattle.cells.specs.Fitting.{IsRowOf};
 ghost use Rattle.cells.specs.Records.{row_of};
 ghost use Rattle.cells.specs.Refusals.{Answers};
-ghost use Rattle.loader.specs.Records.{between_commas, is_special, records_of};
+ghost use Rattle.loader.specs.Records.{begins_plainly, between_commas, is_special, records_of};
 
 use cells::{Refused, Row, RowReader, Schema};
 use std::alloc::Global;
@@ -17,7 +17,8 @@ const MARK: u8 = 0xEF;
 /// order mark does.
 #[tactic(auto, using(crate::proofs::PlainLemmas::plain_record))]
 pub(crate) fn is_plain(text: &[u8]) -> bool
-    ensures { IsTrue result → records_of text.now ≡ between_commas text.now ∷ [] }
+    ensures record { IsTrue result → records_of text.now ≡ between_commas text.now ∷ [] }
+    ensures exact { result ≡ (begins_plainly text.now && not (list_any is_special text.now)) }
 {
     match text.first() {
         Some(first) if *first != MARK => !has_special(text),

@@ -5,7 +5,7 @@ use Rattle.std.specs.declared.alloc.Global.{Global}
 use Rattle.std.proofs.Math.ListN.{length-set}
 use Rattle.std.proofs.Math.Seq.{take-suc}
 use Rattle.std.proofs.lemmas.Bool.{cases_Bool, eq-eqb, eqb-true}
-use Rattle.std.proofs.lemmas.List.{append-nil, get_or-map, length-map, map-set, take_all}
+use Rattle.std.proofs.lemmas.List.{append-nil, get_or-map, length-map, map-append, map-set, replicate-append-replicate, take_all, take_more_set}
 use Rattle.std.proofs.lemmas.List.Elements.{filter-append}
 use Rattle.std.proofs.lemmas.List.Folds.{length-flat_map-take}
 use Rattle.trie.specs.Building.{AreSpread, CountsEach, lists, with_digit}
@@ -76,6 +76,24 @@ module _ {K V : Type 0} (place : ℕ) (list : List (Hashed K V)) where
           ]
 
 module _ {K V : Type 0} where
+  -- a list that is emptied, behind empty ones
+  pub emptied_more : (parts : List (Vec (Hashed K V) Global)) (i : ℕ) (new : Vec (Hashed K V) Global) → take i (lists parts) ≡ replicate i [] →
+      i < length parts → new.items ≡ [] → take (i + 1) (lists (set parts i new)) ≡ replicate (i + 1) []
+  emptied_more parts i new front lt is =
+      let long = length-map parts (λ part. part.items) in
+      rw (map-set (λ part. part.items) parts i new, is, take_more_set (lists parts) i [] (omega (arith, long, lt)), front)
+      (replicate-append-replicate i 1 [])
+
+  -- and one that is new
+  pub made_empty : (parts : List (Vec (Hashed K V) Global)) (i : ℕ) (new : Vec (Hashed K V) Global) → take i (lists parts) ≡ replicate i [] →
+      i ≡ length parts → new.items ≡ [] → take (i + 1) (lists (parts ++ new ∷ [])) ≡ replicate (i + 1) []
+  made_empty parts i new front end is =
+      let long = length-map parts (λ part. part.items) in
+      let all = take_all i (lists parts) (omega (arith, long, end)) in
+      let more = length-append (lists parts) ([] ∷ []) in
+      rw (map-append (λ part. part.items) parts (new ∷ []), is, take_all (i + 1) (lists parts ++ [] ∷ []) (omega (arith, long, end, more)), ← all, front)
+      (replicate-append-replicate i 1 [])
+
   -- a pair that is pushed to the list of its digit
   pub spread_pushed : (place i : ℕ) (list : List (Hashed K V)) (one : Hashed K V) → i < length list → one ≡ get_or list i one →
       (parts : List (Vec (Hashed K V) Global)) → AreSpread place (take i list) (lists parts) → (j : ℕ) → j ≡ digit one.hash place → j < place_count →

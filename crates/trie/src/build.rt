@@ -1,18 +1,21 @@
 //! Making a map of a list of pairs at once.
-ghost use Rattle.std.specs.Prelude.{◌≡◌, ◌<◌, ◌==◌, [], IfOk, count_by, length, not, vec_capacity, vec_len};
+ghost use Rattle.std.specs.Prelude.{◌≡◌, ◌<◌, ◌==◌, [], IfOk, OnOk, count_by, length, not, replicate, vec_capacity, vec_len};
 ghost use Rattle.std.specs.List.{list_all};
+ghost use Rattle.std.specs.List.Sorted.{IsSortedByKey, IsStableByKey};
+ghost use Rattle.std.specs.Ordering.{nat_cmp};
 ghost use Rattle.trie.specs.Building.{AreHashed, AreSpread, CountsEach, HaveOnePrefix, IsMadeOf, IsMadeOnce, is_like, lists, pairs_in};
-ghost use Rattle.trie.specs.Digits.{digit_count};
+ghost use Rattle.trie.specs.Digits.{digit_count, digits_number, place_count};
 ghost use Rattle.trie.specs.Entries.{with_pairs};
 ghost use Rattle.trie.specs.Holding.{pairs_of};
 ghost use Rattle.trie.specs.Tree.{node_of};
 
 use crate::bucket::placed;
-use crate::digits::{DIGITS, HashPrefix, PLACES};
+use crate::digits::{DIGITS, HashPrefix, PLACES, digits_number};
 use crate::node::{Children, Node, Place, branch_of, grown, make};
 use crate::ticks::Ticks;
 use cells::KeyHash;
 use std::alloc::{AllocError, Global};
+use std::mem;
 use std::sync::Arc;
 
 /// A pair of the list beside the hash of its key, so that no key is hashed twice.
@@ -32,6 +35,22 @@ impl<K, V> Clone for Hashed<'_, K, V> {
 }
 
 impl<K, V> Copy for Hashed<'_, K, V> {}
+
+/// The pairs in the order of their hashes' digits, those of one hash in the order of the list.
+///
+/// Nodes are made in that order, and walks go in it. Where the pairs' owners are made in it, too, whoever goes from leaf
+/// to leaf goes through memory from one end to the other.
+pub fn in_digit_order<K: Ord + Drop, V: Drop, H: KeyHash<K>>(
+    pairs: Vec<(K, V)>,
+) -> Result<Vec<(K, V)>, AllocError>
+    ensures sorted { IfOk result (λ v. IsSortedByKey (λ p. digits_number (H.hash_of p.0)) nat_cmp v.items) }
+    ensures stable { IfOk result (λ v. IsStableByKey (λ p. digits_number (H.hash_of p.0)) nat_cmp pairs.items v.items) }
+    ensures long { IfOk result (λ v. vec_len v ≡ vec_len pairs) }
+{
+    let mut sorted = pairs;
+    sorted.sort_by_cached_key(|pair| digits_number(H::hash(&pair.0)))?;
+    Ok(sorted)
+}
 
 /// Each pair with an owner of its own, in the order of the list.
 pub fn with_owners<K: Drop, V: Drop>(
@@ -63,19 +82,48 @@ pub fn with_hashes<K: Ord, V, H: KeyHash<K>>(
     Ok(hashed)
 }
 
-/// A list for each digit after a prefix of this depth, with the pairs that have it, in their order.
+/// Lists of pairs, one for each digit, or none yet.
+pub type Lists<'a, K, V> = Vec<Vec<Hashed<'a, K, V>>>;
+
+/// No lists for each depth.
+pub fn no_lists<'a, K, V>(alloc: Global) -> Result<Vec<Lists<'a, K, V>>, AllocError>
+    ensures { IfOk result (λ v. vec_len v ≡ digit_count) }
+{
+    let mut all = Vec::with_capacity(alloc, DIGITS as usize)?;
+    for _ in 0..DIGITS {
+        all.push(Vec::new(alloc))?;
+    }
+    Ok(all)
+}
+
+/// An empty list for each digit: those that are given, so that their memory is used again, and new ones for the rest.
+fn emptied<'a, K, V>(alloc: Global, used: Lists<'a, K, V>) -> Result<Lists<'a, K, V>, AllocError>
+    ensures { IfOk result (λ v. lists v.items ≡ replicate place_count []) }
+{
+    let mut empty = used;
+    empty.truncate(PLACES);
+    for list in 0..PLACES {
+        if list < empty.len() {
+            empty[list].clear();
+        } else {
+            empty.push(Vec::new(alloc))?;
+        }
+    }
+    Ok(empty)
+}
+
+/// A list for each digit after a prefix of this depth, with the pairs that have it, in their order. The lists that it is
+/// given are used again, whatever they hold.
 fn spread<'a, K, V>(
     alloc: Global,
     pairs: &[Hashed<'a, K, V>],
     depth: u32,
-) -> Result<Vec<Vec<Hashed<'a, K, V>>>, AllocError>
+    used: Lists<'a, K, V>,
+) -> Result<Lists<'a, K, V>, AllocError>
     requires { depth < digit_count }
     ensures { IfOk result (λ v. AreSpread depth pairs.now (lists v.items)) }
 {
-    let mut parts = Vec::with_capacity(alloc, PLACES)?;
-    for _ in 0..PLACES {
-        parts.push(Vec::new(alloc))?;
-    }
+    let mut parts = emptied(alloc, used)?;
     for pair in pairs {
         let digit = HashPrefix::at(pair.hash, depth).next();
         parts[digit].push(*pair)?;
@@ -120,14 +168,18 @@ fn room_for<K: Drop, V: Drop>(
 }
 
 /// The place of a prefix of this depth with these pairs, of pairs of one key the last. Each node is
-/// made once: none for no pair, a leaf for one key, a bucket where no digit is left, and else a branch.
-pub fn place_of<K: Ord + Drop, V: Drop, H: KeyHash<K>>(
+/// made once: none for no pair, a leaf for one key, a bucket where no digit is left, and else a branch. The lists of each depth
+/// that are used to spread pairs are used again for the next prefix of that depth, so that a branch asks for no memory
+/// but its own.
+pub fn place_of<'a, K: Ord + Drop, V: Drop, H: KeyHash<K>>(
     alloc: Global,
-    pairs: &[Hashed<'_, K, V>],
+    pairs: &[Hashed<'a, K, V>],
     depth: u32,
+    used: &mut Vec<Lists<'a, K, V>>,
     ticks: &mut Ticks,
 ) -> Result<Place<K, V>, AllocError>
-    requires { HaveOnePrefix H.hash_of depth pairs.now }
+    requires prefix { HaveOnePrefix H.hash_of depth pairs.now }
+    requires used { vec_len used.old ≡ digit_count }
     ensures made { IfOk result (λ p. IsMadeOf H.hash_of K.cmp depth (pairs_in pairs.now) (node_of p)) }
 
     // A node for each entry, and for each prefix that two of their keys share.
@@ -135,6 +187,8 @@ pub fn place_of<K: Ord + Drop, V: Drop, H: KeyHash<K>>(
 
     // Whatever the answer, for each pair a node for each digit that is left, and one more.
     ensures counted { CountsEach depth (length pairs.now) ticks.old ticks.new }
+
+    ensures used { OnOk result (vec_len used.new ≡ digit_count) }
 {
     let Some(last) = pairs.last() else {
         return Ok(None);
@@ -147,12 +201,14 @@ pub fn place_of<K: Ord + Drop, V: Drop, H: KeyHash<K>>(
         let bucket = Node::Bucket(bucket_of(alloc, pairs)?);
         return Ok(Some(make(alloc, bucket, ticks)?));
     }
-    let parts = spread(alloc, pairs, depth)?;
+    let lists = mem::replace(&mut used[depth as usize], Vec::new(alloc));
+    let parts = spread(alloc, pairs, depth, lists)?;
     let mut made = room_for(alloc, parts.as_slice())?;
     for digit in 0..PLACES {
         let part = parts[digit].as_slice();
-        let child = place_of::<K, V, H>(alloc, part, depth + 1, ticks)?;
+        let child = place_of::<K, V, H>(alloc, part, depth + 1, used, ticks)?;
         made = grown(made, digit, child)?;
     }
+    used[depth as usize] = parts;
     branch_of(alloc, made, ticks)
 }

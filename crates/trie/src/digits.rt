@@ -1,6 +1,6 @@
 //! The digits of a hash. No other room knows how many they are, nor how many bits each has.
 ghost use Rattle.std.specs.Prelude.{◌≡◌, ◌+◌, ◌<◌, ◌≤◌, ◌↔◌, IsTrue};
-ghost use Rattle.trie.specs.Digits.{digit, digit_count, place_count};
+ghost use Rattle.trie.specs.Digits.{digit, digit_count, digits_number, place_count};
 ghost use Rattle.trie.specs.Shapes.{digit_text};
 
 /// How many bits a digit has.
@@ -86,6 +86,17 @@ fn digit_at(hash: u64, place: u32) -> usize
     ensures bound { result < place_count }
 {
     (hash >> (BITS * place)) as usize % PLACES
+}
+
+/// All digits as one number, the first of them in front: such numbers rise as digits do.
+pub fn digits_number(hash: u64) -> u64
+    ensures { result ≡ digits_number hash }
+{
+    let mut number = 0;
+    for place in 0..DIGITS {
+        number = number * PLACES as u64 + digit_at(hash, place) as u64;
+    }
+    number
 }
 
 /// A digit as a character: `0` to `9`, then `a` to `v`, which serve for up to 32 places.

@@ -13,7 +13,7 @@ ghost use Rattle.trie.specs.Shapes.{shape_of};
 ghost use Rattle.trie.specs.Walks.{MayTakeAll, TakesAll};
 
 use crate::blend::Blend;
-use crate::build::{place_of, with_hashes, with_owners};
+use crate::build::{in_digit_order, no_lists, place_of, with_hashes, with_owners};
 use crate::cutting::Cutting;
 use crate::digits::HashPrefix;
 use crate::entries::with_entries;
@@ -146,9 +146,11 @@ impl<K: Ord + Drop, V: Drop, H: KeyHash<K>> Trie<K, V, H> {
         ensures counted { ticks.new ≤ ticks.old + (digit_count + 1) * length pairs.items }
         ensures grows { ticks.old ≤ ticks.new }
     {
-        let owned = with_owners(alloc, pairs)?;
+        let sorted = in_digit_order::<K, V, H>(pairs)?;
+        let owned = with_owners(alloc, sorted)?;
         let hashed = with_hashes::<K, V, H>(alloc, owned.as_slice())?;
-        let root = place_of::<K, V, H>(alloc, hashed.as_slice(), 0, ticks)?;
+        let mut lists = no_lists(alloc)?;
+        let root = place_of::<K, V, H>(alloc, hashed.as_slice(), 0, &mut lists, ticks)?;
         Ok(Trie {
             root,
             hash: PhantomData,

@@ -16,7 +16,8 @@ fn first_wrong_null(cells: &[Cell]) -> Option<usize> {
     None
 }
 
-const RISING: [Written; 12] = [
+// Texts of 16 bytes and of 17 lie in different places, so some of each are beside each other.
+const RISING: [Written; 15] = [
     Null,
     Int(i64::MIN),
     Int(-1),
@@ -28,6 +29,9 @@ const RISING: [Written; 12] = [
     Text("a\0"),
     Text("ab"),
     Text("b"),
+    Text("b123456789012345"),
+    Text("b1234567890123456"),
+    Text("b1234567890123457"),
     Text("é"),
 ];
 

@@ -22,18 +22,18 @@ returns-then-depth-eq-DIGITS-clause-made g t c =
     let laws = hashes g.met.K.Ord.total g.met.K.Ord.matches_eq g.met.H.KeyHash.respects_eq in
     let whole : c.args.depth ≡ digit_count = search rules in
     let many = more_keys g.H.KeyHash.hash_of g.K.Ord.cmp laws c.args.pairs.now c.in-Some.last.now c.in-Some.ensures.value
-    c.requires.hashed (sym c.if-have_key_of.ensures) in
+    c.requires.prefix.hashed (sym c.if-have_key_of.ensures) in
     bucket_made g.H.KeyHash.hash_of g.K.Ord.cmp laws c.args.depth whole (pairs_in c.args.pairs.now) many
     c.in_ok-bucket_of.field-0 c.in_ok-bucket_of.ensures _ (ap Some c.in_ok-make-2.ensures.made)
 
 pub place_of-requires : goal.place_of-requires
 place_of-requires g t c κs within =
     let lt : c.loop-digit.digit < place_count = search rules in
-    let low : c.args.depth < digit_count = omega (arith, c.requires.low) in
+    let low : c.args.depth < digit_count = omega (arith, c.requires.prefix.low) in
     let is = part_is c.args.depth c.args.pairs.now c.in_ok-parts.parts.items c.in_ok-parts.ensures c.loop-digit.digit lt
     c.index.result.now c.index.ensures c.as_slice-part.result.now c.as_slice-part.ensures.value in
     let have : HaveOnePrefix g.H.KeyHash.hash_of (c.args.depth + 1) c.as_slice-part.result.now =
-    part_below g.H.KeyHash.hash_of c.args.depth c.loop-digit.digit c.args.pairs.now _ c.requires low is in
+    part_below g.H.KeyHash.hash_of c.args.depth c.loop-digit.digit c.args.pairs.now _ c.requires.prefix low is in
     search rules
 
 pub returns-in_err-child-clause-counted : goal.returns-in_err-child-clause-counted
@@ -73,15 +73,16 @@ loop-digit-preserved g t c =
           c.loop-digit.invariant.once c.in_ok-child.ensures.once);
       counted = counted_more c.args.depth c.args.pairs.now c.in_ok-parts.parts.items c.in_ok-parts.ensures c.loop-digit.digit lt _ is _ _ _
           c.loop-digit.invariant.counted c.place_of.ensures.counted;
+      used = search rules;
     }
 
 pub branch_of-requires : goal.branch_of-requires
 branch_of-requires g t c =
     let laws = hashes g.met.K.Ord.total g.met.K.Ord.matches_eq g.met.H.KeyHash.respects_eq in
     let all : c.loop-digit.digit ≡ place_count = omega arith in
-    let low : c.args.depth < digit_count = omega (arith, c.requires.low) in
+    let low : c.args.depth < digit_count = omega (arith, c.requires.prefix.low) in
     record {
-      fits = branch_fits g.H.KeyHash.hash_of g.K.Ord.cmp laws c.args.depth c.args.pairs.now c.requires low c.loop-digit.made.bitmap
+      fits = branch_fits g.H.KeyHash.hash_of g.K.Ord.cmp laws c.args.depth c.args.pairs.now c.requires.prefix low c.loop-digit.made.bitmap
           c.loop-digit.made.children.items c.loop-digit.invariant.dense (rw all at c.loop-digit.invariant.made);
     }
 
@@ -89,11 +90,11 @@ pub returns-clause-made : goal.returns-clause-made
 returns-clause-made g t c =
     let laws = hashes g.met.K.Ord.total g.met.K.Ord.matches_eq g.met.H.KeyHash.respects_eq in
     let all : c.loop-digit.digit ≡ place_count = omega arith in
-    let low : c.args.depth < digit_count = omega (arith, c.requires.low) in
+    let low : c.args.depth < digit_count = omega (arith, c.requires.prefix.low) in
     let many = more_keys g.H.KeyHash.hash_of g.K.Ord.cmp laws c.args.pairs.now c.in-Some.last.now c.in-Some.ensures.value
-    c.requires.hashed (sym c.if-have_key_of.ensures) in
+    c.requires.prefix.hashed (sym c.if-have_key_of.ensures) in
     IfOk-weaker c.branch_of.result _ _
-    (λ p made. branch_made g.H.KeyHash.hash_of g.K.Ord.cmp laws c.args.depth c.args.pairs.now c.requires.hashed low many
+    (λ p made. branch_made g.H.KeyHash.hash_of g.K.Ord.cmp laws c.args.depth c.args.pairs.now c.requires.prefix.hashed low many
     c.loop-digit.made.bitmap c.loop-digit.made.children c.loop-digit.invariant.dense (rw all at c.loop-digit.invariant.made) (node_of p) made)
     c.branch_of.ensures.made
 

@@ -1,4 +1,4 @@
-use Rattle.std.proofs.Common.{◌+◌, ◌-◌, ◌<◌, ◌^◌, length, take}
+use Rattle.std.proofs.Common.{◌≡◌, ◌+◌, ◌-◌, ◌<◌, ◌^◌, length, take, vec_len}
 use Rattle.std.specs.List.{flat_map}
 use Rattle.trie.specs.Building.{AreMadeOf, AreMadeOnce, CountsEach, lists}
 use Rattle.trie.specs.Dense.{IsDense, places_in}
@@ -16,4 +16,5 @@ invariant-loop-digit g l =
       before : l.made.bitmap < 2 ^ l.digit;
       once : AreMadeOnce g.H.KeyHash.hash_of g.K.Ord.cmp l.depth l.digit (places_in l.made.bitmap l.made.children.items) l.initial.ticks l.ticks;
       counted : CountsEach (l.depth + 1) (length (flat_map (λ part. part) (take l.digit (lists l.parts.items)))) l.initial.ticks l.ticks;
+      used : vec_len l.used ≡ digit_count;
     }

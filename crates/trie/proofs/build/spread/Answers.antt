@@ -9,4 +9,4 @@ loop-pair-preserved g c =
     c.next-digit.ensures.value ∙ rw (c.at.ensures.hash, c.at.ensures.depth) refl in
     spread_pushed c.args.depth c.loop-pair.pair-index c.args.pairs.now c.pair-item.result (search rules) c.pair-item.is
     c.loop-pair.parts.items c.loop-pair.invariant c.next-digit.result here c.next-digit.ensures.bound
-    c.index_mut.result.now c.push-in-loop-pair.new.self c.index_mut.ensures.value c.in_ok-push-2.ensures.items
+    c.index_mut.result.now c.push.new.self c.index_mut.ensures.value c.in_ok-push.ensures.items
