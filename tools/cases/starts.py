@@ -1,0 +1,142 @@
+"""How the program is started: its words, its files, its streams."""
+
+from cases.table import Case, Text
+
+TABLE = "table T (K INT KEY)\n"
+COUNT = "report SELECT COUNT(*) FROM T\n"
+TWO = TABLE + "put 1\nput 2\npublish\n" + COUNT
+TWO_WRITES = "line 5 edition 1\nCOUNT(*)\n2\n"
+SHAPE = TABLE + "put 2\nput 18\npublish\nshape\n"
+LOAD = TABLE + "load 1 2\nload 3\npublish\n" + COUNT
+ONE_CSV = "k\n1\n"
+TWO_CSV = b'\xef\xbb\xbfK\r\n"1"\r\n2\r\n'
+LIMIT = "line 0 refused 15\n"
+LONG = "\n" * 1_048_577
+MORE = "\n\nFor more information, try '--help'.\n"
+PARTS = {f"part{number}": "" for number in range(1, 66)}
+NAMES = list(PARTS)
+
+
+def run(title, words, files, output="", **more):
+    return Case(title, ["run", *words], files, output=output, **more)
+
+
+def given(title, text, output):
+    """No words: the script is standard input."""
+    return Case(title, [], {"given": text}, "given", output)
+
+
+def refused(title, words, errors):
+    return Case(title, words, {"two.olap": TWO}, status=2, errors=errors)
+
+
+RUNS = [
+    run("a script", ["two.olap"], {"two.olap": TWO}, TWO_WRITES),
+    given("a script as standard input", TWO, TWO_WRITES),
+    run("64 parts", ["two.olap", *NAMES[:64]], {"two.olap": TWO, **PARTS}, TWO_WRITES),
+    run("65 parts", ["two.olap", *NAMES], {"two.olap": TWO, **PARTS}, LIMIT),
+    run(
+        "parts by two workers",
+        ["--workers", "2", "load.olap", "one.csv", "two.csv"],
+        {"load.olap": LOAD, "one.csv": ONE_CSV, "two.csv": TWO_CSV},
+        "line 3 refused 5\nline 5 edition 1\nCOUNT(*)\n2\n",
+    ),
+    run(
+        "a part with a fault",
+        ["load.olap", "one.csv", "faulty.csv"],
+        {"load.olap": LOAD, "one.csv": ONE_CSV, "faulty.csv": "K\n3\nx\n"},
+        "line 2 refused 6 part 2 record 2\nline 3 refused 5\nline 5 edition 1\nCOUNT(*)\n0\n",
+    ),
+    run("a script that is too long", ["long.olap"], {"long.olap": LONG}, LIMIT),
+    given("a script that is too long as standard input", LONG, LIMIT),
+    run("no lines", ["empty.olap"], {"empty.olap": ""}),
+    given("no lines as standard input", "", ""),
+    run(
+        "a line that is not UTF-8",
+        ["bytes.olap"],
+        {"bytes.olap": b"\xff\n" + (TABLE + COUNT).encode()},
+        "line 1 refused 3\nline 3 edition 0\nCOUNT(*)\n0\n",
+    ),
+    run(
+        "all options at their greatest",
+        ["--workers", "64", "--depth=16", "--small", "18446744073709551615", "--rows", "2", "two.olap"],
+        {"two.olap": TWO},
+        TWO_WRITES,
+    ),
+    run(
+        "one row at most",
+        ["--rows", "1", "two.olap"],
+        {"two.olap": TWO},
+        "line 3 refused 9\nline 5 edition 1\nCOUNT(*)\n1\n",
+    ),
+    run("the hash fnv", ["--hash", "fnv", "shape.olap"], {"shape.olap": SHAPE}, "line 5 edition 1\n- 2\ne 2\n"),
+    run("the hash plain", ["--hash", "plain", "shape.olap"], {"shape.olap": SHAPE}, "line 5 edition 1\n- 2\n2 2\n"),
+]
+
+HELP = [
+    Case("help", ["--help"], output=Text(has="Usage: olap <COMMAND>")),
+    Case("help of run", ["run", "--help"], output=Text(has="Usage: olap run [OPTIONS] <SCRIPT> [PART]...")),
+    Case("the version", ["--version"], output="olap 0.1.0\n"),
+]
+
+REFUSED = [
+    refused("another command", ["walk", "two.olap"], Text("error: unrecognized subcommand 'walk'\n")),
+    refused(
+        "no script",
+        ["run"],
+        Text("error: the following required arguments were not provided:\n  <SCRIPT>\n"),
+    ),
+    refused("another option", ["run", "two.olap", "--speed", "1"], Text("error: unexpected argument '--speed' found\n")),
+    refused(
+        "65 workers",
+        ["run", "--workers", "65", "two.olap"],
+        f"error: '--workers' takes a number from 1 to 64{MORE}",
+    ),
+    refused("depth 17", ["run", "--depth", "17", "two.olap"], f"error: '--depth' takes a number from 0 to 16{MORE}"),
+    refused(
+        "a number with a sign",
+        ["run", "--small=-1", "two.olap"],
+        f"error: '--small' takes a number from 0 to 18446744073709551615{MORE}",
+    ),
+    refused(
+        "no rows at all",
+        ["run", "--rows", "0", "two.olap"],
+        f"error: '--rows' takes a number from 1 to 4294967296{MORE}",
+    ),
+    refused("another hash", ["run", "--hash", "md5", "two.olap"], f"error: '--hash' takes fnv or plain{MORE}"),
+    refused("a word that is not UTF-8", ["run", b"\xff"], "olap: a word of the command line is not UTF-8\n"),
+]
+
+UNREAD = [
+    refused("a script that is not there", ["run", "none.olap"], "olap: cannot read none.olap\n"),
+    run("a script that is a folder", ["folder"], {"folder": None}, status=2, errors="olap: cannot read folder\n"),
+    run(
+        "a part that is not there",
+        ["two.olap", "part1", "none", "part2"],
+        {"two.olap": TWO, **PARTS},
+        status=2,
+        errors="olap: cannot read none\n",
+    ),
+    Case("standard input that is a folder", [], {"folder": None}, "folder", status=2, errors="olap: cannot read -\n"),
+]
+
+CASES = RUNS + HELP + REFUSED + UNREAD
+
+# A full disk, and a reader that goes away after one line.
+WRITTEN_TO = [
+    (
+        run("a full disk", ["two.olap"], {"two.olap": TWO}, status=3, errors="olap: ended 92\n"),
+        'status=0; "$@" > /dev/full 2> errors || status=$?; echo $status > status',
+    ),
+    (
+        run(
+            "a reader that goes away",
+            ["reports.olap"],
+            {"reports.olap": TABLE + 5000 * COUNT},
+            "line 2 edition 0\n",
+            status=3,
+            errors="olap: ended 92\n",
+        ),
+        'echo 0 > status; { "$@" 2> errors || echo $? > status; } | head -n 1',
+    ),
+]

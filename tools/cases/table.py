@@ -1,0 +1,59 @@
+"""What a case of `tools/program` is: how the program is started, and what it must write."""
+
+from dataclasses import dataclass, field
+
+SCRIPT = "script.olap"
+
+
+@dataclass
+class Text:
+    """A text of which not all is told: what it begins with, and what stands somewhere in it."""
+
+    begins: str = ""
+    has: str = ""
+
+    def is_met_by(self, got):
+        return got.startswith(self.begins.encode()) and self.has.encode() in got
+
+    def __str__(self):
+        return f"(a text that begins with {self.begins!r} and has {self.has!r})"
+
+
+@dataclass
+class Case:
+    """One start of the program. `files` lie in the folder that it runs in; the name of a folder has None. Its
+    standard input is the file of the name `given`, or nothing. `output` and `errors` are what it writes to
+    standard output and to standard error: a str, bytes or a Text."""
+
+    title: str
+    words: list
+    files: dict = field(default_factory=dict)
+    given: str = ""
+    output: object = ""
+    errors: object = ""
+    status: int = 0
+
+
+def script(title, text, output, parts=(), options=(), status=0, errors=""):
+    """A script with its parts under `olap run`, and these options before their names."""
+    names = [f"part{number}.csv" for number in range(1, len(parts) + 1)]
+    files = {SCRIPT: text, **dict(zip(names, parts))}
+    return Case(title, ["run", *options, SCRIPT, *names], files, "", output, errors, status)
+
+
+def scripts(title, text, output, parts=(), options=((),)):
+    """The same with each of several lists of options: one output for all."""
+    return [script(f"{title}, {' '.join(each) or 'no options'}", text, output, parts, each) for each in options]
+
+
+def lines(title, rows, parts=(), options=()):
+    """A script of these lines, each beside what it gives: None for nothing, the number of its refusal, or its block
+    without the words `line L ` at the front and without the newline at the end."""
+    output = ""
+    for number, (_, gives) in enumerate(rows, 1):
+        if isinstance(gives, int):
+            gives = f"refused {gives}"
+        if gives is not None:
+            output += f"line {number} {gives}\n"
+    text = b"".join((line if isinstance(line, bytes) else line.encode()) + b"\n" for line, _ in rows)
+    return script(title, text, output, parts, options)
