@@ -1,0 +1,100 @@
+"""The cases of `tools/cases`, and how the built program is run on one of them."""
+
+import importlib
+import os
+import pathlib
+import subprocess
+import tempfile
+
+TOP = pathlib.Path(__file__).resolve().parent.parent
+PROGRAM = TOP / "crates/olap/out/olap"
+SECONDS = 120
+SHOWN = 2000
+
+
+def as_bytes(text):
+    return text if isinstance(text, bytes) else text.encode()
+
+
+def is_met(wanted, got):
+    return got == as_bytes(wanted) if isinstance(wanted, (str, bytes)) else wanted.is_met_by(got)
+
+
+def shown(text):
+    text = text.decode(errors="backslashreplace") if isinstance(text, bytes) else str(text)
+    return text if len(text) <= SHOWN else f"{text[:SHOWN]}.. ({len(text)} characters)"
+
+
+def differences(case, status, output, errors):
+    """What differs from the case, in the words that are printed."""
+    compared = [("standard output", case.output, output), ("standard error", case.errors, errors)]
+    found = [] if status == case.status else [f"the status {status}, and not {case.status}"]
+    return found + [
+        f"{name}: wanted\n{shown(wanted)}\nand got\n{shown(got)}"
+        for name, wanted, got in compared
+        if not is_met(wanted, got)
+    ]
+
+
+def lay_out(room, files):
+    """Puts the case's files where the program is to run."""
+    for name, text in files.items():
+        path = os.path.join(os.fsencode(room), os.fsencode(name))
+        if text is None:
+            os.mkdir(path)
+            continue
+        with open(path, "wb") as file:
+            file.write(as_bytes(text))
+
+
+def run(program, case, **environment):
+    """Runs the program on a case in a folder of its own; its status, standard output and standard error."""
+    with tempfile.TemporaryDirectory() as room:
+        lay_out(room, case.files)
+        how = {"cwd": room, "capture_output": True, "timeout": SECONDS, "env": {**os.environ, **environment}}
+        # (a number, since it may be a folder)
+        given = os.open(os.path.join(room, case.given) if case.given else os.devnull, os.O_RDONLY)
+        try:
+            ran = subprocess.run([program, *case.words], stdin=given, **how)
+        finally:
+            os.close(given)
+    return ran.returncode, ran.stdout, ran.stderr
+
+
+def tried(program, case):
+    """What differs where the program is run on a case."""
+    try:
+        return differences(case, *run(program, case))
+    except subprocess.TimeoutExpired:
+        return [f"it did not end in {SECONDS} seconds"]
+
+
+def written_to(program, case, command):
+    """The same where a shell takes what the program writes: `command` says how, with the program's call as "$@", and
+    leaves the program's status in the file `status` and its standard error in the file `errors`."""
+    with tempfile.TemporaryDirectory() as room:
+        lay_out(room, case.files)
+        words = ["bash", "-c", command, "bash", program, *case.words]
+        ran = subprocess.run(words, cwd=room, stdin=subprocess.DEVNULL, capture_output=True, timeout=SECONDS)
+        status, errors = (pathlib.Path(room, name).read_bytes() for name in ("status", "errors"))
+    return differences(case, int(status), ran.stdout, errors)
+
+
+def tables():
+    """Each table's name, with its module."""
+    for path in sorted((TOP / "tools/cases").glob("*.py")):
+        yield path.stem, importlib.import_module(f"cases.{path.stem}")
+
+
+def cases():
+    """The cases of all tables, under the names of their tables."""
+    for name, module in tables():
+        for case in getattr(module, "CASES", []):
+            yield f"{name}: {case.title}", case
+
+
+def cases_written_to():
+    """Those whose output a shell takes, each with the shell's command."""
+    for name, module in tables():
+        for case, command in getattr(module, "WRITTEN_TO", []):
+            yield f"{name}: {case.title}", case, command

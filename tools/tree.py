@@ -1,0 +1,41 @@
+"""The crates of this tree, and how many checks of them run side by side."""
+
+import os
+import pathlib
+import re
+
+TOP = pathlib.Path(__file__).resolve().parent.parent
+# What a check of one crate is likely to take at most, in bytes.
+MEMORY = 3_500_000_000
+
+
+def lines():
+    """The lines of crates.txt by the names of their crates."""
+    kept = [it for it in (TOP / "crates.txt").read_text().splitlines() if re.match(r"\w+[^#]*:", it)]
+    return {it.split(":")[0].split()[0]: it for it in kept}
+
+
+def crates():
+    """Each crate with the repository's own that it stands on, at whatever depth; lowest first."""
+    listed, below = lines(), {}
+
+    def put(name):
+        if name not in below:
+            direct = [it for it in listed[name].partition("#")[0].partition(":")[2].split() if it in listed]
+            for it in direct:
+                put(it)
+            below[name] = list(dict.fromkeys(lower for it in direct for lower in [*below[it], it]))
+
+    for name in listed:
+        put(name)
+    return below
+
+
+def is_program(name):
+    return (TOP / "crates" / name / "src/main.rt").is_file()
+
+
+def lanes():
+    """How many checks run side by side: one a processor, as many as memory holds."""
+    free = int(re.search(r"MemAvailable:\s+(\d+)", pathlib.Path("/proc/meminfo").read_text())[1]) * 1024
+    return max(1, min(len(os.sched_getaffinity(0)), free // MEMORY))
