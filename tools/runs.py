@@ -6,14 +6,12 @@ import pathlib
 import subprocess
 import tempfile
 
+from cases.table import as_bytes
+
 TOP = pathlib.Path(__file__).resolve().parent.parent
 PROGRAM = TOP / "crates/olap/out/olap"
 SECONDS = 120
 SHOWN = 2000
-
-
-def as_bytes(text):
-    return text if isinstance(text, bytes) else text.encode()
 
 
 def is_met(wanted, got):

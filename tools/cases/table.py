@@ -5,6 +5,10 @@ from dataclasses import dataclass, field
 SCRIPT = "script.olap"
 
 
+def as_bytes(text):
+    return text if isinstance(text, bytes) else text.encode()
+
+
 @dataclass
 class Text:
     """A text of which not all is told: what it begins with, and what stands somewhere in it."""
@@ -46,14 +50,30 @@ def scripts(title, text, output, parts=(), options=((),)):
     return [script(f"{title}, {' '.join(each) or 'no options'}", text, output, parts, each) for each in options]
 
 
-def lines(title, rows, parts=(), options=()):
-    """A script of these lines, each beside what it gives: None for nothing, the number of its refusal, or its block
-    without the words `line L ` at the front and without the newline at the end."""
+def block(edition, *rows):
+    """What a report or a shape gives: the edition, and the lines below it."""
+    return "\n".join([f"edition {edition}", *rows])
+
+
+def of_lines(rows):
+    """The text and the output of a script of these lines, each beside what it gives: None for nothing, the number of
+    its refusal, or its block without the words `line L ` at the front and without the newline at the end. A line that
+    gives nothing may stand by itself."""
+    rows = [row if isinstance(row, tuple) else (row, None) for row in rows]
     output = ""
     for number, (_, gives) in enumerate(rows, 1):
         if isinstance(gives, int):
             gives = f"refused {gives}"
         if gives is not None:
             output += f"line {number} {gives}\n"
-    text = b"".join((line if isinstance(line, bytes) else line.encode()) + b"\n" for line, _ in rows)
-    return script(title, text, output, parts, options)
+    return b"".join(as_bytes(line) + b"\n" for line, _ in rows), output
+
+
+def lines(title, rows, parts=(), options=()):
+    """A script of these lines, as `of_lines` takes them."""
+    return script(title, *of_lines(rows), parts, options)
+
+
+def lines_by(title, rows, parts=(), options=((),)):
+    """The same with each of several lists of options: one output for all."""
+    return scripts(title, *of_lines(rows), parts, options)

@@ -1,14 +1,3 @@
-pub mod BlocksLemmas
-pub mod CommandsLemmas
 pub mod CommandLineLemmas
-pub mod EndingsLemmas
 pub mod FoldersLemmas
-pub mod LinesLemmas
-pub mod ListingsLemmas
 pub mod ProgramLemmas
-pub mod ProgressLemmas
-pub mod SaysLemmas
-pub mod StatementsLemmas
-pub mod StepsLemmas
-pub mod WorkedLemmas
-pub mod WorkedQueriesLemmas

@@ -5,11 +5,11 @@ use Rattle.std.proofs.lemmas.List.{append-nil}
 use Rattle.std.specs.Io.KnownBytes.{Appends, Keeps}
 use Rattle.std.proofs.KnownBytes.{Appends-kept}
 use Rattle.clap.specs.Words.{Text}
-use Rattle.olap.specs.Endings.{BeginsToWrite, Writes}
+use Rattle.script.specs.Endings.{BeginsToWrite, Writes}
+use Rattle.script.specs.Hows.{hash_of_choice}
+use Rattle.script.specs.Output.{IsOutput}
 use Rattle.olap.specs.Folders.{AreTold, Tells}
-use Rattle.olap.specs.Hows.{hash_of_choice}
 use Rattle.olap.specs.Jobs.{AsksToRun}
-use Rattle.olap.specs.Output.{IsOutput}
 use Rattle.olap.specs.Programs.{AskToWrite, IsOutputOfJob}
 use Rattle.report.specs.Taken.{TakesBeginning}
 use Rattle.olap.specs.declared.job.Job.{Job}

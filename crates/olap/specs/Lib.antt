@@ -1,17 +1,4 @@
-pub mod Blocks
 pub mod CommandLine
-pub mod Deeds
-pub mod Endings
-pub mod Faults
 pub mod Folders
-pub mod Givens
-pub mod Hows
 pub mod Jobs
-pub mod Keys
-pub mod Limits
-pub mod Listings
-pub mod Output
 pub mod Programs
-pub mod Says
-pub mod Stands
-pub mod Statements

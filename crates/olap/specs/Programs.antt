@@ -2,11 +2,11 @@
 use Rattle.std.specs.Prelude.{◌⊎◌, ℕ, List, [], Option}
 use Rattle.clap.specs.Words.{IsAmong, Text, fault_of}
 use Rattle.clap.specs.declared.error.kind.ErrorKind.TheVariants.{DisplayHelp, DisplayVersion}
+use Rattle.script.specs.Hows.{default_hash, default_settings, hash_of_choice}
+use Rattle.script.specs.Output.{IsOutput}
 use Rattle.olap.specs.CommandLine.{olap}
 use Rattle.olap.specs.Folders.{AreTold, Tells}
-use Rattle.olap.specs.Hows.{default_hash, default_settings, hash_of_choice}
 use Rattle.olap.specs.Jobs.{AsksToRun}
-use Rattle.olap.specs.Output.{IsOutput}
 use Rattle.olap.specs.declared.job.Job.{Job}
 
 -- the words ask for help or for the version

@@ -2,21 +2,20 @@
 ghost use Rattle.std.specs.Prelude.{◌≡◌, ◌⊎◌, [], map, string_bytes};
 ghost use Rattle.std.specs.Io.Buffered.{writer_buffer, writer_contents};
 ghost use Rattle.std.specs.Io.KnownBytes.{Keeps};
-ghost use Rattle.olap.specs.Endings.{BeginsToWrite, Writes};
-ghost use Rattle.olap.specs.Givens.{givens};
-ghost use Rattle.olap.specs.Hows.{hash_of_choice};
+ghost use Rattle.script.specs.Endings.{BeginsToWrite, Writes};
+ghost use Rattle.script.specs.Givens.{givens};
+ghost use Rattle.script.specs.Hows.{hash_of_choice};
+ghost use Rattle.script.specs.Output.{IsOutput};
 ghost use Rattle.olap.specs.Jobs.{IsHelp};
-ghost use Rattle.olap.specs.Output.{IsOutput};
 ghost use Rattle.olap.specs.Programs.{AskForHelp, AskToWrite, IsOutputOf, IsOutputOfJob};
 
 use crate::close::{NOTHING_RUN, WRITTEN, close_run};
-use crate::how::How;
 use crate::input::{Folder, Input, read_input};
-use crate::job::{HashChoice, Job, WordsFault};
-use crate::run::run_by;
+use crate::job::{Job, WordsFault};
 use crate::words::job_of;
 use crew::Open;
 use report::Pour;
+use script::{HashChoice, How, run_by};
 use std::alloc::Global;
 use std::io::{BufWriter, Read, Write};
 use std::sync::Wait;

@@ -1,8 +1,8 @@
 use Rattle.std.proofs.Common.{rules}
 use Rattle.std.specs.Io.Buffered.{writer_contents}
-use Rattle.olap.specs.Givens.{givens}
-use Rattle.olap.specs.Hows.{hash_of_choice}
-use Rattle.olap.specs.Output.{IsOutput}
+use Rattle.script.specs.Givens.{givens}
+use Rattle.script.specs.Hows.{hash_of_choice}
+use Rattle.script.specs.Output.{IsOutput}
 use Rattle.olap.proofs.ProgramLemmas.{begins_closed}
 use Rattle.olap.proofs.program.run_input.Goals as goal
 

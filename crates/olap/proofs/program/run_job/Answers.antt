@@ -1,8 +1,8 @@
 use Rattle.std.proofs.Common.{map, ℕ, List, Option}
 use Rattle.std.specs.Io.Buffered.{writer_contents}
-use Rattle.olap.specs.Givens.{Givens}
-use Rattle.olap.specs.Hows.{hash_of_choice}
-use Rattle.olap.specs.Output.{IsOutput}
+use Rattle.script.specs.Givens.{Givens}
+use Rattle.script.specs.Hows.{hash_of_choice}
+use Rattle.script.specs.Output.{IsOutput}
 use Rattle.olap.specs.Programs.{IsOutputOfJob}
 use Rattle.olap.proofs.ProgramLemmas.{begins_as, output_of_job, writes_as}
 use Rattle.olap.proofs.program.run_job.Goals as goal

@@ -1,8 +1,0 @@
-use Rattle.std.proofs.Common.{◌≡◌, ◌++◌, take}
-use Rattle.std.specs.List.{flat_map}
-use Rattle.std.specs.Prelude.{string_bytes}
-use Rattle.olap.specs.Output.{shape_line}
-use Rattle.olap.proofs.block.push_lines.Given as goal
-
-abbrev pub invariant-loop-line : goal.invariant-loop-line
-invariant-loop-line l = string_bytes l.text ≡ string_bytes l.fn.text ++ flat_map shape_line (take l.line-index l.shape)

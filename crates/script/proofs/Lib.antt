@@ -1,0 +1,11 @@
+pub mod BlocksLemmas
+pub mod CommandsLemmas
+pub mod EndingsLemmas
+pub mod LinesLemmas
+pub mod ListingsLemmas
+pub mod ProgressLemmas
+pub mod SaysLemmas
+pub mod StatementsLemmas
+pub mod StepsLemmas
+pub mod WorkedLemmas
+pub mod WorkedQueriesLemmas

@@ -1,0 +1,61 @@
+-- What a line gives: the text of its block, or a report whose answer is still to come.
+use Rattle.std.specs.Prelude.{◌≡◌, ◌+◌, ℕ, List, ◌∷◌, ◌++◌, length, Option, Ok, ⊤}
+use Rattle.board.specs.Editions.{Editions}
+use Rattle.board.specs.Editions as keeper
+use Rattle.cells.specs.Tables.{table}
+use Rattle.cells.specs.Updates.{AreLeft}
+use Rattle.cells.specs.Values.{Entry}
+use Rattle.cells.specs.declared.cell.Cell.{Cell}
+use Rattle.query.specs.Plans.{IsPlanOf, PlanTree}
+use Rattle.report.specs.Waiting.{HasAnswer}
+use Rattle.script.specs.Deeds.{deed}
+use Rattle.script.specs.Endings.{HasWorkers}
+use Rattle.script.specs.Givens.{Givens}
+use Rattle.script.specs.Output.{IsBlock, IsReport, report}
+use Rattle.script.specs.Says.{answer_of}
+use Rattle.script.specs.Stands.{Stands, schema_of_desk}
+use Rattle.script.specs.declared.block.Asked.{Asked}
+use Rattle.script.specs.declared.block.Block.{Block}
+use Rattle.script.specs.declared.block.Block.TheVariants.{Report, Text}
+
+-- the text is the heading of the report, and the one answer that it has
+pub record Heads {H : Type 0} (asked : Asked H) (text : List ℕ) : Type 0 where
+  pub answer : List ℕ
+  pub has : HasAnswer asked.snapshot asked.plan answer
+  pub joined : text ≡ asked.heading.items ++ answer
+
+-- the block will be this text
+abbrev pub WillBe : {H : Type 0} → Block H → List ℕ → Type 0
+WillBe (Text bytes) text = bytes.items ≡ text
+WillBe (Report asked) text = Heads asked text
+
+-- an answer is still to come
+abbrev pub IsAsked : {H : Type 0} → Block H → Type 0
+IsAsked (Text bytes) = ⊥
+IsAsked (Report asked) = ⊤
+
+-- what is asked was checked for the table of the edition
+abbrev pub IsPlanned : {H : Type 0} → Block H → Type 0
+IsPlanned (Text bytes) = ⊤
+IsPlanned (Report asked) = IsPlanOf asked.snapshot.schema asked.plan
+
+-- the text that a line's block will be
+pub record Foretells {H : Type 0} (Is : List ℕ → Type 0) (block : Block H) : Type 0 where
+  pub text : List ℕ
+  pub is : Is text
+  pub will : WillBe block text
+
+-- the step of one line: it gives what will be the line's block, and leaves a run that stands behind the line; where an
+-- answer is still to come, the line has workers
+pub record Steps {H : Type 0} (hash : Cell → ℕ) (givens : Givens) (line : List ℕ) (number : ℕ) (old new : Option Editions) (block : Block H) : Type 0 where
+  pub foretells : (before : List (List ℕ)) → Stands givens before old → number ≡ length before + 1 → Foretells (IsBlock hash givens before line) block
+  pub stands : (before : List (List ℕ)) → Stands givens before old → Stands givens (line ∷ before) new
+  pub asks : IsAsked block → HasWorkers (deed (schema_of_desk old) line)
+
+-- the block will be that of a report over the rows that the keeper has published, in whatever order they are listed
+pub record Answers {H : Type 0} (k : Editions) (number : ℕ) (query : List ℕ) (block : Block H) : Type 0 where
+  pub is : (rs : List Entry) → AreLeft rs → keeper.published k ≡ table rs → Foretells (IsReport number (keeper.edition k) (keeper.schema k) rs query) block
+
+-- the block will be that of the plan's answer over those rows
+pub record AnswersPlan {H : Type 0} (k : Editions) (number : ℕ) (plan : PlanTree) (block : Block H) : Type 0 where
+  pub is : (rs : List Entry) → AreLeft rs → keeper.published k ≡ table rs → WillBe block (report number (keeper.edition k) (Ok (answer_of plan rs)))

@@ -1,0 +1,13 @@
+pub mod Blocks
+pub mod Deeds
+pub mod Endings
+pub mod Faults
+pub mod Givens
+pub mod Hows
+pub mod Keys
+pub mod Limits
+pub mod Listings
+pub mod Output
+pub mod Says
+pub mod Stands
+pub mod Statements

@@ -1,0 +1,179 @@
+-- What a script writes. The lines before a line stand with the last one first.
+use Rattle.std.specs.Prelude.{◌≡◌, ◌⊎◌, ◌<◌, ◌≤◌, ℕ, ◌+◌, Bool, true, false, List, [], ◌∷◌, ◌++◌, length, map, nat_lt, codes, decimal, if◌then◌else◌, Option, Some, None, Result, Ok, Err}
+use Rattle.std.specs.List.{flat_map}
+use Rattle.std.specs.Str.Lines.{lines}
+use Rattle.cells.specs.Updates.{Update, puts, rows}
+use Rattle.cells.specs.Values.{Entry, Table}
+use Rattle.cells.specs.declared.cell.Cell.{Cell}
+use Rattle.cells.specs.declared.refused.Refused.{Refused}
+use Rattle.cells.specs.declared.refused.Refused.TheVariants.{Limit, TooManyRows}
+use Rattle.trie.specs.Shapes.{prefix_text, shape_of}
+use Rattle.script.specs.Deeds.{Declares, Deed, Loads, Nothing, Publishes, Reports, Shapes, Updates, deed}
+use Rattle.script.specs.Faults.{fault_text}
+use Rattle.script.specs.Givens.{Givens}
+use Rattle.script.specs.Listings.{rows_loaded}
+use Rattle.script.specs.Limits.{part_limit, script_limit}
+use Rattle.script.specs.Says.{Says}
+use Rattle.script.specs.declared.fault.Fault.{Fault}
+use Rattle.script.specs.declared.fault.Fault.TheVariants.{Line}
+
+-- the table of the accepted `table` line
+abbrev pub declared_by : Option Table → Result Deed Fault → Option Table
+declared_by earlier (Ok (Declares t)) = Some t
+declared_by earlier (Ok Nothing) = earlier
+declared_by earlier (Ok (Loads t listing)) = earlier
+declared_by earlier (Ok (Updates more)) = earlier
+declared_by earlier (Ok Publishes) = earlier
+declared_by earlier (Ok (Reports t query)) = earlier
+declared_by earlier (Ok Shapes) = earlier
+declared_by earlier (Err fault) = earlier
+
+-- the updates and then these would leave more rows than the limit
+abbrev pub is_overfull : ℕ → List Update → List Update → Bool
+is_overfull limit us more = nat_lt limit (length (rows (us ++ more)))
+
+-- updates that leave no more rows than the limit, or none
+abbrev pub within : ℕ → List Update → List Update → List Update
+within limit us more = if is_overfull limit us more then [] else more
+
+-- the puts of rows that a load puts
+abbrev pub within_loaded : ℕ → List Update → Result (List Entry) Fault → List Update
+within_loaded limit us (Ok rs) = within limit us (puts rs)
+within_loaded limit us (Err fault) = []
+
+-- the updates that a line adds: none where it is refused
+abbrev pub added : Givens → List Update → Result Deed Fault → List Update
+added givens us (Ok (Updates more)) = within givens.limit us more
+added givens us (Ok (Loads t listing)) = within_loaded givens.limit us (rows_loaded t givens.parts listing)
+added givens us (Ok Nothing) = []
+added givens us (Ok (Declares t)) = []
+added givens us (Ok Publishes) = []
+added givens us (Ok (Reports t query)) = []
+added givens us (Ok Shapes) = []
+added givens us (Err fault) = []
+
+abbrev pub is_publish : Result Deed Fault → Bool
+is_publish (Ok Publishes) = true
+is_publish (Ok Nothing) = false
+is_publish (Ok (Declares t)) = false
+is_publish (Ok (Loads t listing)) = false
+is_publish (Ok (Updates more)) = false
+is_publish (Ok (Reports t query)) = false
+is_publish (Ok Shapes) = false
+is_publish (Err fault) = false
+
+module _ (givens : Givens) where
+  abbrev pub declared : List (List ℕ) → Option Table
+  declared [] = None
+  declared (line ∷ before) = declared_by (declared before) (deed (declared before) line)
+
+  -- what a line does behind those before
+  abbrev pub deed_behind : List (List ℕ) → List ℕ → Result Deed Fault
+  deed_behind before line = deed (declared before) line
+
+  -- the updates of the accepted lines, one after another
+  abbrev pub updates : List (List ℕ) → List Update
+  updates [] = []
+  updates (line ∷ before) = updates before ++ added givens (updates before) (deed_behind before line)
+
+  -- the number of the last published edition: how many accepted `publish` lines there are
+  abbrev pub edition : List (List ℕ) → ℕ
+  edition [] = 0
+  edition (line ∷ before) = if is_publish (deed_behind before line) then edition before + 1 else edition before
+
+  -- its rows: those of the updates before the last accepted `publish` line, and none where there is no such line
+  abbrev pub published : List (List ℕ) → List Entry
+  published [] = []
+  published (line ∷ before) = if is_publish (deed_behind before line) then rows (updates before) else published before
+
+abbrev pub newline : List ℕ
+newline = 10 ∷ []
+
+-- lines, each ended by a newline
+abbrev pub text_of : List (List ℕ) → List ℕ
+text_of [] = []
+text_of (line ∷ more) = line ++ (newline ++ text_of more)
+
+-- the block of a refused line
+abbrev pub refusal : ℕ → Fault → List ℕ
+refusal number fault = codes "line " ++ (decimal number ++ (codes " refused " ++ (fault_text fault ++ newline)))
+
+-- the block of updates, which is a refusal where they would leave too many rows
+abbrev pub updated : ℕ → ℕ → List Update → List Update → List ℕ
+updated number limit us more = if is_overfull limit us more then refusal number (Line TooManyRows) else []
+
+-- the block of a load, by the rows that it puts or its first fault
+abbrev pub loaded : ℕ → ℕ → List Update → Result (List Entry) Fault → List ℕ
+loaded number limit us (Ok rs) = updated number limit us (puts rs)
+loaded number limit us (Err fault) = refusal number fault
+
+-- the first line of the block of a report or a shape
+abbrev pub heading : ℕ → ℕ → List ℕ
+heading number edition = codes "line " ++ (decimal number ++ (codes " edition " ++ (decimal edition ++ newline)))
+
+-- the block of a report: its heading and its answer, or its refusal
+abbrev pub report : ℕ → ℕ → Result (List ℕ) Refused → List ℕ
+report number edition (Ok text) = heading number edition ++ text
+report number edition (Err fault) = refusal number (Line fault)
+
+-- the bytes are the block of a report: what its text says over these rows
+pub record IsReport (number edition : ℕ) (t : Table) (rs : List Entry) (query bytes : List ℕ) : Type 0 where
+  pub said : Result (List ℕ) Refused
+  pub says : Says t rs query said
+  pub is : bytes ≡ report number edition said
+
+-- a line of a shape: the digits of a prefix, and how many keys share it
+abbrev pub shape_line : List ℕ × ℕ → List ℕ
+shape_line p = prefix_text p.0 ++ (codes " " ++ (decimal p.1 ++ newline))
+
+-- the block of a shape: its heading, and a line for each prefix that two keys share
+abbrev pub shape_text : ℕ → ℕ → List (List ℕ × ℕ) → List ℕ
+shape_text number edition prefixes =
+    codes "line " ++ (decimal number ++ (codes " edition " ++ (decimal edition ++ (newline ++ flat_map shape_line prefixes))))
+
+abbrev pub keys : List Entry → List Cell
+keys rs = map (λ r. r.key) rs
+
+-- the hash of keys decides the blocks of shapes, and nothing else
+module _ (hash : Cell → ℕ) (givens : Givens) where
+  -- the bytes are the block of a line that does this
+  abbrev pub IsAnswer : List (List ℕ) → Result Deed Fault → List ℕ → Type 0
+  IsAnswer before (Ok Nothing) bytes = bytes ≡ []
+  IsAnswer before (Ok (Declares t)) bytes = bytes ≡ []
+  IsAnswer before (Ok (Loads t listing)) bytes = bytes ≡ loaded (length before + 1) givens.limit (updates givens before) (rows_loaded t givens.parts listing)
+  IsAnswer before (Ok (Updates more)) bytes = bytes ≡ updated (length before + 1) givens.limit (updates givens before) more
+  IsAnswer before (Ok Publishes) bytes = bytes ≡ []
+  IsAnswer before (Ok (Reports t query)) bytes = IsReport (length before + 1) (edition givens before) t (published givens before) query bytes
+  IsAnswer before (Ok Shapes) bytes = bytes ≡ shape_text (length before + 1) (edition givens before) (shape_of hash (keys (published givens before)))
+  IsAnswer before (Err fault) bytes = bytes ≡ refusal (length before + 1) fault
+
+  -- the bytes are the line's block
+  abbrev pub IsBlock : List (List ℕ) → List ℕ → List ℕ → Type 0
+  IsBlock before line bytes = IsAnswer before (deed_behind givens before line) bytes
+
+-- the bytes are the blocks of the lines that follow those before, one after another
+pub data AreBlocks (hash : Cell → ℕ) (givens : Givens) : List (List ℕ) → List (List ℕ) → List ℕ → Type 0 where
+  no_line : {before : List (List ℕ)} → AreBlocks hash givens before [] []
+  line_first : {before later : List (List ℕ)} {line : List ℕ} (bytes rest : List ℕ) →
+      IsBlock hash givens before line bytes → AreBlocks hash givens (line ∷ before) later rest →
+      AreBlocks hash givens before (line ∷ later) (bytes ++ rest)
+
+-- there are too many bytes of a script, or too many parts
+abbrev pub IsTooMuch : Givens → List ℕ → Type 0
+IsTooMuch givens script = (script_limit < length script) ⊎ (part_limit < length givens.parts)
+
+-- the bytes are what a script writes
+pub data IsOutput (hash : Cell → ℕ) (givens : Givens) (script : List ℕ) : List ℕ → Type 0 where
+  too_much : IsTooMuch givens script → IsOutput hash givens script (refusal 0 (Line Limit))
+  of_lines : {bytes : List ℕ} → length script ≤ script_limit → length givens.parts ≤ part_limit →
+      AreBlocks hash givens [] (lines script) bytes → IsOutput hash givens script bytes
+
+-- the bytes are three parts, one after another
+pub record InThree (First Second Third : List ℕ → Type 0) (bytes : List ℕ) : Type 0 where
+  pub first : List ℕ
+  pub second : List ℕ
+  pub third : List ℕ
+  pub is_first : First first
+  pub is_second : Second second
+  pub is_third : Third third
+  pub joined : bytes ≡ first ++ (second ++ third)

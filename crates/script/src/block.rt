@@ -1,0 +1,102 @@
+//! The blocks of lines: shapes, refusals, and reports, whose answers are still to come.
+ghost use Rattle.std.specs.Prelude.{◌≡◌, ◌++◌, IfErr, IfOk, IsErr, OnOk, string_bytes};
+ghost use Rattle.std.specs.FinMap.{keys};
+ghost use Rattle.std.specs.List.{flat_map};
+ghost use Rattle.trie.specs.Shapes.{shape_of};
+ghost use Rattle.board.specs.Editions as editions;
+ghost use Rattle.script.specs.Output.{heading, refusal, shape_line, shape_text};
+ghost use Rattle.script.specs.declared.fault.Fault.TheVariants.{Line};
+
+use crate::ended::Ended;
+use crate::fault::Fault;
+use board::{Keeper, Snapshot};
+use cells::{Cell, KeyHash, Refused};
+use query::Plan;
+use std::alloc::{AllocError, Global};
+use trie::Prefix;
+
+/// What a line gives: its block, or what its report asks.
+#[derive(Drop)]
+pub enum Block<H: KeyHash<Cell>> {
+    Text(Vec<u8>),
+    Report(Asked<H>),
+}
+
+/// A report that is still to be answered: the heading of its block, the edition that stood published at its line, and
+/// the plan that was checked for its table.
+#[derive(Drop)]
+pub struct Asked<H: KeyHash<Cell>> {
+    pub heading: Vec<u8>,
+    pub snapshot: Snapshot<H>,
+    pub plan: Plan,
+}
+
+/// The block of a shape of the last published edition.
+pub fn shape_block<H: KeyHash<Cell>>(
+    alloc: Global,
+    keeper: &Keeper<H>,
+    number: u64,
+) -> Result<Vec<u8>, Ended>
+    ensures block { IfOk result (λ block. block.items ≡ shape_text number (editions.edition keeper.now) (shape_of H.hash_of (keys (editions.published keeper.now)))) }
+    ensures ended { IfErr result (λ e. e ≡ Ended.OutOfMemory) }
+{
+    let Ok(snapshot) = keeper.snapshot() else {
+        return Err(Ended::OutOfMemory);
+    };
+    let shape = snapshot.root().shape()?;
+    shape_lines(alloc, number, snapshot.edition(), shape.as_slice())
+}
+
+/// The text of a shape: its heading, and a line for each prefix.
+fn shape_lines(
+    alloc: Global,
+    number: u64,
+    edition: u64,
+    shape: &[(Prefix, u64)],
+) -> Result<Vec<u8>, Ended>
+    ensures text { IfOk result (λ text. text.items ≡ shape_text number edition shape.now) }
+    ensures ended { IfErr result (λ e. e ≡ Ended.OutOfMemory) }
+{
+    let mut text = format!(in alloc; "line {number} edition {edition}\n")?;
+    push_lines(&mut text, shape)?;
+    Ok(text.into_bytes())
+}
+
+/// The text with a line for each prefix behind it.
+fn push_lines(text: &mut String, shape: &[(Prefix, u64)]) -> Result<(), AllocError>
+    ensures { OnOk result (string_bytes text.new ≡ string_bytes text.old ++ flat_map shape_line shape.now) }
+{
+    for line in shape {
+        push_line(text, line)?;
+    }
+    Ok(())
+}
+
+/// The text with a prefix and its number of keys behind it.
+fn push_line(text: &mut String, line: &(Prefix, u64)) -> Result<(), AllocError>
+    ensures { OnOk result (string_bytes text.new ≡ string_bytes text.old ++ shape_line line.now) }
+{
+    let (prefix, keys) = line;
+    write!(text, "{prefix} {keys}\n")
+}
+
+/// The block of a refused line. Want of memory is no refusal of a line: it ends the run.
+pub fn refusal_block(alloc: Global, number: u64, fault: Fault) -> Result<Vec<u8>, Ended>
+    ensures block { IfOk result (λ block. block.items ≡ refusal number fault) }
+    ensures memory { fault ≡ Line Refused.OutOfMemory → IsErr result }
+    ensures ended { IfErr result (λ e. e ≡ Ended.OutOfMemory) }
+{
+    if fault == Fault::Line(Refused::OutOfMemory) {
+        return Err(Ended::OutOfMemory);
+    }
+    let text = format!(in alloc; "line {number} refused {fault}\n")?;
+    Ok(text.into_bytes())
+}
+
+/// The heading of a report's block.
+pub fn report_heading(alloc: Global, number: u64, edition: u64) -> Result<Vec<u8>, AllocError>
+    ensures { IfOk result (λ text. text.items ≡ heading number edition) }
+{
+    let text = format!(in alloc; "line {number} edition {edition}\n")?;
+    Ok(text.into_bytes())
+}

@@ -1,0 +1,49 @@
+//! The laws of what a script writes.
+ghost use Rattle.std.specs.Prelude.{◌≡◌, ℕ, ◌++◌, ◌∷◌, List, [], Ok, codes, reverse};
+ghost use Rattle.cells.specs.Hashes.{plain_hash};
+ghost use Rattle.cells.specs.declared.cell.Cell.{Cell as CellValue};
+ghost use Rattle.script.specs.Deeds.{Shapes};
+ghost use Rattle.script.specs.Givens.{Givens};
+ghost use Rattle.script.specs.Output.{AreBlocks, InThree, IsBlock, IsOutput, deed_behind, text_of};
+
+use query::{a_text_has_one_answer, each_text_has_an_answer};
+
+/// Each script has an output, and no other: what it writes is decided by its lines, its parts and the hash.
+pub fn each_script_has_one_output()
+    ensures some { (hash : CellValue → ℕ) (givens : Givens) (script : List ℕ) → (bytes : List ℕ) × IsOutput hash givens script bytes }
+    ensures one { (hash : CellValue → ℕ) (givens : Givens) (script bytes others : List ℕ) →
+        IsOutput hash givens script bytes → IsOutput hash givens script others → bytes ≡ others }
+{
+    a_text_has_one_answer();
+    each_text_has_an_answer();
+}
+
+/// A line's block depends on that line and on the lines before it alone, whatever lines follow.
+pub fn each_line_by_itself()
+    ensures { (hash : CellValue → ℕ) (givens : Givens) (earlier : List (List ℕ)) (line : List ℕ) (later : List (List ℕ)) (bytes : List ℕ) →
+        AreBlocks hash givens [] (earlier ++ line ∷ later) bytes →
+        InThree (AreBlocks hash givens [] earlier) (IsBlock hash givens (reverse earlier) line) (AreBlocks hash givens (line ∷ reverse earlier) later) bytes }
+{}
+
+/// The hash of keys decides the blocks of shapes alone: any other line has the same block under every
+/// hash.
+pub fn hash_decides_shapes_alone()
+    ensures { (hash other : CellValue → ℕ) (givens : Givens) (before : List (List ℕ)) (line bytes : List ℕ) →
+        (deed_behind givens before line ≡ Ok Shapes → ⊥) → IsBlock hash givens before line bytes → IsBlock other givens before line bytes }
+{}
+
+/// Seven worked scripts, by the definition of the output: none of them asks the code.
+pub fn worked_scripts()
+    ensures empty { IsOutput plain_hash (record { limit = 1; parts = [] }) [] [] }
+    ensures no_table { IsOutput plain_hash (record { limit = 1; parts = [] }) (text_of (codes "publish" ∷ [])) (text_of (codes "line 1 refused 1" ∷ [])) }
+    ensures capitals { IsOutput plain_hash (record { limit = 1; parts = [] }) (text_of (codes "Table T (K INT KEY)" ∷ [])) (text_of (codes "line 1 refused 3" ∷ [])) }
+    ensures counted { IsOutput plain_hash (record { limit = 1; parts = [] }) (text_of (codes "table T (K INT KEY)" ∷ codes "publish" ∷ codes "report SELECT COUNT(*) FROM T" ∷ []))
+        (text_of (codes "line 3 edition 1" ∷ codes "COUNT(*)" ∷ codes "0" ∷ [])) }
+    ensures replaced { IsOutput plain_hash (record { limit = 9; parts = [] }) (text_of (codes "table T (K INT KEY)" ∷ codes "put 1" ∷ codes "put 2" ∷ codes "put 1" ∷ codes "publish" ∷ codes "report SELECT COUNT(*) FROM T" ∷ codes "put x" ∷ []))
+        (text_of (codes "line 6 edition 1" ∷ codes "COUNT(*)" ∷ codes "2" ∷ codes "line 7 refused 7" ∷ [])) }
+    ensures deleted { IsOutput plain_hash (record { limit = 9; parts = [] }) (text_of (codes "table T (K INT KEY)" ∷ codes "put 1" ∷ codes "delete 1" ∷ codes "publish" ∷ codes "report SELECT COUNT(*) FROM T" ∷ []))
+        (text_of (codes "line 5 edition 1" ∷ codes "COUNT(*)" ∷ codes "0" ∷ [])) }
+    ensures rolled_up { IsOutput plain_hash (record { limit = 9; parts = [] })
+        (text_of (codes "table T (K INT KEY, V INT)" ∷ codes "put 1,5" ∷ codes "put 2,5" ∷ codes "put 3," ∷ codes "publish" ∷ codes "report SELECT V, COUNT(*) FROM T GROUP BY ROLLUP (V)" ∷ []))
+        (text_of (codes "line 6 edition 1" ∷ codes "V | COUNT(*)" ∷ codes "NULL | 1" ∷ codes "5 | 2" ∷ codes "NULL | 3" ∷ [])) }
+{}

@@ -1,0 +1,87 @@
+//! The loads of a run: the rows of listed parts are read by workers, and laid over the draft.
+ghost use Rattle.std.specs.Prelude.{◌≡◌, ◌≤◌, ◌⊎◌, length, map, sum_by, IfErr, IfOk};
+ghost use Rattle.board.specs.Editions as editions;
+ghost use Rattle.crew.specs.Limits.{piece_limit};
+ghost use Rattle.loader.specs.Limits.{listed_limit};
+ghost use Rattle.loader.specs.Parts.{part_len, part_of, rows_of_parts};
+ghost use Rattle.script.specs.Limits.{script_limit};
+ghost use Rattle.script.specs.Listings.{rows_held, rows_loaded};
+ghost use Rattle.script.specs.Stands.{LoadsRows};
+
+use crate::block::refusal_block;
+use crate::ended::Ended;
+use crate::fault::Fault;
+use crate::listing::{Listed, read_listing};
+use crate::step::Setup;
+use board::Keeper;
+use cells::{Cell, KeyHash};
+use crew::Gate;
+use loader::{PartFault, load};
+use std::sync::Wait;
+use std::thread::Threads;
+
+/// Puts the rows of the parts that the text lists, in listed order, and gives the line's block: nothing, or the
+/// refusal of the listing, of the first listed part that has a faulty record, or of a draft that would have too many
+/// rows. A refused load leaves the draft. [`Ended::NoWorker`] where the thread of a worker could not be started,
+/// otherwise [`Ended::OutOfMemory`] where a growth was refused, both whatever faults the parts have.
+pub fn execute_load<H: KeyHash<Cell> + Send + Sync, G: Gate, R: Threads + Wait>(
+    setup: &Setup<'_, R, G>,
+    keeper: &mut Keeper<H>,
+    listing: &str,
+    number: u64,
+) -> Result<Vec<u8>, Ended>
+    requires { length listing.now ≤ script_limit }
+    ensures step { IfOk result (λ block. LoadsRows keeper.old keeper.new (rows_loaded (editions.schema keeper.old) (map (λ p. p.items) setup.now.parts.now) listing.now) number block.items) }
+    ensures ended { IfErr result (λ e. (e ≡ Ended.NoWorker) ⊎ (e ≡ Ended.OutOfMemory)) }
+{
+    match read_listing(setup.alloc, setup.parts, listing) {
+        Ok(listed) => {
+            let block = load_listed(setup, keeper, &listed, number);
+            drop(listed);
+            block
+        }
+        Err(fault) => refusal_block(setup.alloc, number, fault),
+    }
+}
+
+/// The same of the listed parts.
+fn load_listed<H: KeyHash<Cell> + Send + Sync, G: Gate, R: Threads + Wait>(
+    setup: &Setup<'_, R, G>,
+    keeper: &mut Keeper<H>,
+    listed: &[Listed<'_>],
+    number: u64,
+) -> Result<Vec<u8>, Ended>
+    requires many { length listed.now ≤ piece_limit }
+    requires within { sum_by part_len (map part_of listed.now) ≤ listed_limit }
+    ensures step { IfOk result (λ block. LoadsRows keeper.old keeper.new (rows_held (rows_of_parts (editions.schema keeper.old) (map part_of listed.now))) number block.items) }
+    ensures ended { IfErr result (λ e. (e ≡ Ended.NoWorker) ⊎ (e ≡ Ended.OutOfMemory)) }
+{
+    let alloc = setup.alloc;
+    let workers = setup.how.workers();
+    let rows = match load(
+        setup.rt,
+        alloc,
+        listed,
+        keeper.schema(),
+        workers,
+        setup.gate,
+    ) {
+        Ok(rows) => rows,
+        Err(PartFault::Bad { part, entry }) => {
+            return refusal_block(
+                alloc,
+                number,
+                Fault::Part {
+                    part,
+                    record: entry,
+                },
+            );
+        }
+        Err(PartFault::NoWorker) => return Err(Ended::NoWorker),
+        Err(PartFault::OutOfMemory) => return Err(Ended::OutOfMemory),
+    };
+    match keeper.absorb(rows) {
+        Ok(()) => Ok(Vec::new(alloc)),
+        Err(refused) => refusal_block(alloc, number, Fault::Line(refused)),
+    }
+}

@@ -1,0 +1,231 @@
+//! Runs a script: one keeper, line after line, and a block of output for each line that has one.
+ghost use Rattle.std.specs.Prelude.{◌≡◌, ◌⊎◌, ℕ, ◌+◌, ◌<◌, ◌≤◌, ◌^◌, ◌++◌, [], List, length, IfErr, IsErrOf, OnOk};
+ghost use Rattle.std.specs.Str.Lines.{lines};
+ghost use Rattle.report.specs.Limits.{worker_limit};
+ghost use Rattle.report.specs.Waiting.{Awaits, GoesOn, IsLate};
+ghost use Rattle.script.specs.Blocks.{IsAsked, IsPlanned, WillBe};
+ghost use Rattle.script.specs.Endings.{AsksForWorkers, Delivers};
+ghost use Rattle.script.specs.Givens.{givens};
+ghost use Rattle.script.specs.Hows.{hash_of_choice};
+ghost use Rattle.script.specs.Limits.{script_limit};
+ghost use Rattle.script.specs.Output.{AreBlocks, IsOutput, refusal};
+ghost use Rattle.script.specs.Stands.{IsFresh};
+ghost use Rattle.script.specs.declared.fault.Fault.TheVariants.{Line as AtLine};
+
+use crate::block::{Asked, Block, refusal_block};
+use crate::ended::Ended;
+use crate::fault::Fault;
+use crate::hash_choice::HashChoice;
+use crate::how::How;
+use crate::limits::{MAX_PARTS, MAX_SCRIPT_BYTES};
+use crate::lines::lines_of;
+use crate::step::{Line, Setup, execute};
+use board::Keeper;
+use cells::{Cell, Fnv, KeyHash, Plain, Refused, Tuple};
+use crew::Gate;
+use query::each_text_has_an_answer;
+use report::{Backlog, Out, Starter, write_whole};
+use std::alloc::Global;
+use std::mem;
+use std::sync::Wait;
+use std::thread::{self, Threads};
+
+/// Runs a script. Where it answers Ok, the bytes that the writer took in the call are the script's output:
+/// each report is that of the rows that stood published at its line, whatever later lines change.
+///
+/// Where it ends early, a beginning of its output was taken: [`Ended::OutOfMemory`] where a growth was
+/// refused, [`Ended::NoWorker`] where the thread of a report or of a worker could not be started, which a script that
+/// asks for no report and loads no part does not meet, and [`Ended::WriteFailed`] where the writer failed in the call. A
+/// script of more than 1,048,576 bytes and more than 64 parts are refused as a whole: the output is
+/// `line 0 refused 15`. The parts are numbered from 1, in their order, for the `load` lines of the script.
+///
+/// `rt` starts a thread for each report, which is answered beside the lines that follow it, with at most
+/// [`MAX_REPORTS`](report::MAX_REPORTS) under way at a time, and one for each worker of a report or a load. All of them
+/// are joined before this returns, however the run ends. `gate` is told of each publish by the thread that calls, of
+/// each piece of a report and of each listed part by the worker that drew it, and of each half of a list of parts by
+/// the thread that merges it.
+///
+/// What the table holds at the end is not given back node by node: its memory is left to the system, which takes it back
+/// when the process ends.
+pub fn run<
+    H: KeyHash<Cell> + KeyHash<Tuple> + Send + Sync,
+    O: Out,
+    G: Gate,
+    R: Threads + Wait + Sync,
+>(
+    rt: &R,
+    alloc: Global,
+    script: &[u8],
+    parts: &[Vec<u8>],
+    how: &How,
+    gate: &G,
+    out: &mut O,
+) -> Result<(), Ended>
+    requires { O.faults out.old + 1 < 2 ^ 64 }
+    ensures delivered { Delivers O.taken O.faults out.old out.new (IsOutput H.KeyHash-1.hash_of (givens how.now.rows parts.now) script.now) result }
+    ensures worker { IsErrOf result Ended.NoWorker → AsksForWorkers (givens how.now.rows parts.now) (lines script.now) }
+{
+    if script.len() > MAX_SCRIPT_BYTES || parts.len() > MAX_PARTS {
+        return write_refusal(alloc, out);
+    }
+    let setup = Setup {
+        rt,
+        alloc,
+        how,
+        parts,
+        gate,
+    };
+    run_lines::<H, O, G, R>(&setup, script, out)
+}
+
+/// [`run`] with the hash of this choice. Only the blocks of shapes depend on it.
+pub fn run_by<O: Out, G: Gate, R: Threads + Wait + Sync>(
+    rt: &R,
+    alloc: Global,
+    hash: HashChoice,
+    script: &[u8],
+    parts: &[Vec<u8>],
+    how: &How,
+    gate: &G,
+    out: &mut O,
+) -> Result<(), Ended>
+    requires { O.faults out.old + 1 < 2 ^ 64 }
+    ensures delivered { Delivers O.taken O.faults out.old out.new (IsOutput (hash_of_choice hash) (givens how.now.rows parts.now) script.now) result }
+    ensures worker { IsErrOf result Ended.NoWorker → AsksForWorkers (givens how.now.rows parts.now) (lines script.now) }
+{
+    match hash {
+        HashChoice::Fnv => run::<Fnv, O, G, R>(rt, alloc, script, parts, how, gate, out),
+        HashChoice::Plain => run::<Plain, O, G, R>(rt, alloc, script, parts, how, gate, out),
+    }
+}
+
+/// Runs the lines of a script that is not too long. Reports run beside the lines that follow them: however the lines
+/// end, the reports that are under way are joined here, and the keeper ends here, whose memory is left to the system.
+fn run_lines<
+    H: KeyHash<Cell> + KeyHash<Tuple> + Send + Sync,
+    O: Out,
+    G: Gate,
+    R: Threads + Wait + Sync,
+>(setup: &Setup<'_, R, G>, script: &[u8], out: &mut O) -> Result<(), Ended>
+    requires faults { O.faults out.old + 1 < 2 ^ 64 }
+    requires short { length script.now ≤ script_limit }
+    ensures delivered { Delivers O.taken O.faults out.old out.new (AreBlocks H.KeyHash-1.hash_of (givens setup.now.how.now.rows setup.now.parts.now) [] (lines script.now)) result }
+    ensures worker { IsErrOf result Ended.NoWorker → AsksForWorkers (givens setup.now.how.now.rows setup.now.parts.now) (lines script.now) }
+{
+    let (ended, _out) = thread::scope(
+        thread::scope_env(),
+        setup.rt,
+        move |scope| -> (Result<(), Ended>, &mut O)
+            requires { (O.faults out.now + 1 < 2 ^ 64) × (length script.now ≤ script_limit) }
+            ensures same { result.1.ghost_name ≡ out.entry.ghost_name }
+            ensures delivered { Delivers O.taken O.faults out.entry.now result.1.now (AreBlocks H.KeyHash-1.hash_of (givens setup.entry.now.how.now.rows setup.entry.now.parts.now) [] (lines script.entry.now)) result.0 }
+            ensures worker { IsErrOf result.0 Ended.NoWorker → AsksForWorkers (givens setup.entry.now.how.now.rows setup.entry.now.parts.now) (lines script.entry.now) }
+        {
+            let starter = Starter {
+                rt: setup.rt,
+                alloc: setup.alloc,
+                scope,
+                workers: setup.how.workers(),
+                cutting: setup.how.cutting(),
+                gate: setup.gate,
+            };
+            let mut desk: Option<Keeper<H>> = None;
+            let mut backlog = Backlog::new(setup.alloc);
+            let ended = run_beside(setup, &starter, script, &mut desk, &mut backlog, out);
+            backlog.join(setup.rt);
+            // The table's memory goes back to the system as a whole, when the process ends: to give back each of its
+            // nodes and rows by itself would take more than half as long as its load.
+            mem::forget(desk);
+            (ended, out)
+        },
+    );
+    ended
+}
+
+/// The same at a desk where there is no keeper yet. At an early end reports may still be under way.
+fn run_beside<
+    's,
+    'e: 's,
+    H: KeyHash<Cell> + KeyHash<Tuple> + Send + Sync + 's,
+    O: Out,
+    G: Gate,
+    R: Threads + Wait + Sync,
+>(
+    setup: &Setup<'_, R, G>,
+    starter: &Starter<'_, 's, 'e, R, G>,
+    script: &[u8],
+    desk: &mut Option<Keeper<H>>,
+    backlog: &mut Backlog<H>,
+    out: &mut O,
+) -> Result<(), Ended>
+    requires faults { O.faults out.old + 1 < 2 ^ 64 }
+    requires short { length script.now ≤ script_limit }
+    requires workers { 1 ≤ starter.now.workers × (starter.now.workers ≤ worker_limit) }
+    requires fresh { IsFresh desk.old × (backlog.old ≡ record { reports = []; after = [] }) }
+    ensures delivered { Delivers O.taken O.faults out.old out.new (AreBlocks H.KeyHash-1.hash_of (givens setup.now.how.now.rows setup.now.parts.now) [] (lines script.now)) result }
+    ensures worker { IsErrOf result Ended.NoWorker → AsksForWorkers (givens setup.now.how.now.rows setup.now.parts.now) (lines script.now) }
+{
+    // The law by which what was written is a beginning of an output, where a line ends the run; it does
+    // nothing.
+    each_text_has_an_answer();
+    let mut number = 0u64;
+    for bytes in lines_of(script) {
+        number += 1;
+        let block = execute(setup, desk, Line { number, bytes })?;
+        add(starter, backlog, out, block)?;
+    }
+    backlog.finish(starter.rt, out)?;
+    Ok(())
+}
+
+/// What a line gave comes behind all that waits: its text, or the report that it asks for, which is started.
+fn add<
+    's,
+    'e: 's,
+    H: KeyHash<Cell> + KeyHash<Tuple> + Send + Sync + 's,
+    O: Out,
+    G: Gate,
+    R: Threads + Wait + Sync,
+>(
+    starter: &Starter<'_, 's, 'e, R, G>,
+    backlog: &mut Backlog<H>,
+    out: &mut O,
+    block: Block<H>,
+) -> Result<(), Refused>
+    requires planned { IsPlanned block }
+    requires workers { 1 ≤ starter.now.workers × (starter.now.workers ≤ worker_limit) }
+    requires faults { O.faults out.old + 1 < 2 ^ 64 }
+    ensures written { (waiting text : List ℕ) → Awaits backlog.old waiting → WillBe block text
+        → GoesOn (O.taken out.old) (O.taken out.new) backlog.new (waiting ++ text) result }
+    ensures sound { OnOk result (O.faults out.new ≡ O.faults out.old) }
+    ensures asked { OnOk result (0 < length backlog.new.reports → (0 < length backlog.old.reports) ⊎ IsAsked block) }
+    ensures refused { IfErr result IsLate }
+    ensures worker { IsErrOf result Refused.NoWorker → IsAsked block }
+    ensures fault { IsErrOf result Refused.WriteFailed → O.faults out.old < O.faults out.new }
+{
+    match block {
+        Block::Text(text) => backlog.say(out, text.as_slice()),
+        Block::Report(asked) => {
+            let Asked {
+                heading,
+                snapshot,
+                plan,
+            } = asked;
+            backlog.begin(starter, out, heading.as_slice(), snapshot, plan)
+        }
+    }
+}
+
+/// Delivers the output of a script that is too long, or of too many parts.
+#[tactic(auto, using(report::specs::Laws::takes_nothing))]
+fn write_refusal<O: Out>(alloc: Global, out: &mut O) -> Result<(), Ended>
+    requires { O.faults out.old + 1 < 2 ^ 64 }
+    ensures delivered { Delivers O.taken O.faults out.old out.new (λ bytes. bytes ≡ refusal 0 (AtLine Refused.Limit)) result }
+    ensures worker { IsErrOf result Ended.NoWorker → ⊥ }
+{
+    let refusal = refusal_block(alloc, 0, Fault::Line(Refused::Limit))?;
+    let Ok(()) = write_whole(out, refusal.as_slice()) else {
+        return Err(Ended::WriteFailed);
+    };
+    Ok(())
+}

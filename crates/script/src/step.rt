@@ -1,0 +1,174 @@
+//! The step of one line: what it says is done, and its block is made.
+ghost use Rattle.std.specs.Prelude.{◌≡◌, ◌+◌, ◌<◌, ◌≤◌, ◌^◌, [], length, IfErr, IfOk, None, OnOk, Some};
+ghost use Rattle.std.specs.FinMap.{remove};
+ghost use Rattle.cells.specs.Fitting.{IsRowOf};
+ghost use Rattle.board.specs.Editions.{ChangesDraft, Publishes};
+ghost use Rattle.board.specs.Editions as editions;
+ghost use Rattle.script.specs.Blocks.{IsPlanned, Steps};
+ghost use Rattle.script.specs.Deeds.{deed};
+ghost use Rattle.script.specs.Endings.{EndsAt};
+ghost use Rattle.script.specs.Givens.{givens};
+ghost use Rattle.script.specs.Limits.{script_limit};
+ghost use Rattle.script.specs.Stands.{Executes, Publishable, PutsRow, schema_of_desk};
+
+use crate::block::{Block, refusal_block, shape_block};
+use crate::ended::Ended;
+use crate::fault::Fault;
+use crate::how::How;
+use crate::load_line::execute_load;
+use crate::reporting::execute_report;
+use crate::statement::{Statement, read_first, read_statement};
+use board::{Keeper, rows_have_the_shape_of_their_keys};
+use cells::{Cell, KeyHash, Row, later_puts_lie_over};
+use crew::Gate;
+use std::alloc::Global;
+use std::sync::Wait;
+use std::thread::Threads;
+
+/// What each line is run with: where the threads of workers come from, where memory comes from, how the run is
+/// made, the parts that may be loaded, and who is told of each publish, of a report's pieces and of a load's parts.
+#[derive(Drop)]
+pub struct Setup<'a, R, G: Gate> {
+    pub rt: &'a R,
+    pub alloc: Global,
+    pub how: &'a How,
+    pub parts: &'a [Vec<u8>],
+    pub gate: &'a G,
+}
+
+/// A line of a script, with its number counted from 1.
+#[derive(Clone, Copy)]
+pub struct Line<'a> {
+    pub number: u64,
+    pub bytes: &'a [u8],
+}
+
+/// Does what a line says, and gives the line's block, or what its report asks of the edition that stands published. Any
+/// line may end the run with [`Ended::OutOfMemory`], and a load with [`Ended::NoWorker`], too.
+pub fn execute<H: KeyHash<Cell> + Send + Sync, G: Gate, R: Threads + Wait>(
+    setup: &Setup<'_, R, G>,
+    desk: &mut Option<Keeper<H>>,
+    line: Line<'_>,
+) -> Result<Block<H>, Ended>
+    requires publishable { Publishable desk.old }
+    requires short { length line.bytes.now ≤ script_limit }
+    ensures step { IfOk result (Steps H.hash_of (givens setup.now.how.now.rows setup.now.parts.now) line.entry.bytes.now line.entry.number desk.old desk.new) }
+    ensures planned { IfOk result IsPlanned }
+    ensures ended { IfErr result (EndsAt (deed (schema_of_desk desk.old) line.entry.bytes.now)) }
+{
+    if let Some(keeper) = desk {
+        return execute_kept(setup, keeper, line);
+    }
+    let (keeper, block) = execute_first(setup, line)?;
+    *desk = keeper;
+    Ok(Block::Text(block))
+}
+
+/// The same before there is a table.
+#[tactic(auto, using(crate::proofs::StepsLemmas::executes_nothing, crate::proofs::StepsLemmas::executes_refused))]
+fn execute_first<H: KeyHash<Cell>, G: Gate, R>(
+    setup: &Setup<'_, R, G>,
+    line: Line<'_>,
+) -> Result<(Option<Keeper<H>>, Vec<u8>), Ended>
+    ensures step { IfOk result (λ r. Executes H.hash_of (givens setup.now.how.now.rows setup.now.parts.now) line.entry.bytes.now line.entry.number None r.0 r.1.items) }
+    ensures ended { IfErr result (λ e. e ≡ Ended.OutOfMemory) }
+{
+    let alloc = setup.alloc;
+    match read_first(alloc, line.bytes) {
+        Ok(None) => Ok((None, Vec::new(alloc))),
+        Ok(Some(schema)) => match Keeper::new(alloc, schema, setup.how.rows(), 1) {
+            Ok(keeper) => Ok((Some(keeper), Vec::new(alloc))),
+            Err(_) => Err(Ended::OutOfMemory),
+        },
+        Err(fault) => {
+            let block = refusal_block(alloc, line.number, fault)?;
+            Ok((None, block))
+        }
+    }
+}
+
+/// The same once there is a table.
+#[tactic(auto, using(crate::proofs::StepsLemmas::executes_nothing, crate::proofs::StepsLemmas::executes_refused, crate::proofs::StepsLemmas::steps_report, crate::proofs::StepsLemmas::steps_text, crate::proofs::StepsLemmas::executes_publish, crate::proofs::StepsLemmas::executes_delete))]
+fn execute_kept<H: KeyHash<Cell> + Send + Sync, G: Gate, R: Threads + Wait>(
+    setup: &Setup<'_, R, G>,
+    keeper: &mut Keeper<H>,
+    line: Line<'_>,
+) -> Result<Block<H>, Ended>
+    requires publishable { editions.edition keeper.old + 1 < 2 ^ 64 }
+    requires short { length line.bytes.now ≤ script_limit }
+    ensures step { IfOk result (Steps H.hash_of (givens setup.now.how.now.rows setup.now.parts.now) line.entry.bytes.now line.entry.number (Some keeper.old) (Some keeper.new)) }
+    ensures planned { IfOk result IsPlanned }
+    ensures ended { IfErr result (EndsAt (deed (Some (editions.schema keeper.old)) line.entry.bytes.now)) }
+{
+    let alloc = setup.alloc;
+    match read_statement(alloc, keeper.schema(), line.bytes) {
+        Ok(Statement::Nothing) => Ok(Block::Text(Vec::new(alloc))),
+        Ok(Statement::Load(listing)) => {
+            // The law by which loaded rows are those of puts behind all that came before; it does nothing.
+            later_puts_lie_over();
+            let block = execute_load(setup, keeper, listing, line.number)?;
+            Ok(Block::Text(block))
+        }
+        Ok(Statement::Put(row)) => Ok(Block::Text(put(alloc, keeper, row, line.number)?)),
+        Ok(Statement::Delete(key)) => Ok(Block::Text(delete(alloc, keeper, key)?)),
+        Ok(Statement::Publish) => Ok(Block::Text(publish(alloc, setup.gate, keeper)?)),
+        Ok(Statement::Report(query)) => execute_report(alloc, keeper, query, line.number),
+        Ok(Statement::Shape) => {
+            // The law by which the block is that of the published rows; it does nothing.
+            rows_have_the_shape_of_their_keys::<H>();
+            Ok(Block::Text(shape_block(alloc, keeper, line.number)?))
+        }
+        Err(fault) => Ok(Block::Text(refusal_block(alloc, line.number, fault)?)),
+    }
+}
+
+/// Lays a row over the draft, or refuses it where the draft is full.
+fn put<H: KeyHash<Cell>>(
+    alloc: Global,
+    keeper: &mut Keeper<H>,
+    row: Row,
+    number: u64,
+) -> Result<Vec<u8>, Ended>
+    requires row { IsRowOf (editions.schema keeper.old) row }
+    ensures step { IfOk result (λ block. PutsRow keeper.old keeper.new row number block.items) }
+    ensures ended { IfErr result (λ e. e ≡ Ended.OutOfMemory) }
+{
+    match keeper.put(row) {
+        Ok(()) => Ok(Vec::new(alloc)),
+        Err(refused) => refusal_block(alloc, number, Fault::Line(refused)),
+    }
+}
+
+/// Takes the row of the key out of the draft.
+fn delete<H: KeyHash<Cell>>(
+    alloc: Global,
+    keeper: &mut Keeper<H>,
+    key: Cell,
+) -> Result<Vec<u8>, Ended>
+    ensures draft { OnOk result (ChangesDraft keeper.old keeper.new (remove (editions.draft keeper.old) key)) }
+    ensures nothing { IfOk result (λ block. block.items ≡ []) }
+    ensures ended { IfErr result (λ e. e ≡ Ended.OutOfMemory) }
+{
+    if keeper.delete(&key).is_err() {
+        return Err(Ended::OutOfMemory);
+    }
+    Ok(Vec::new(alloc))
+}
+
+/// Publishes the draft, and tells the gate.
+pub fn publish<H: KeyHash<Cell>, G: Gate>(
+    alloc: Global,
+    gate: &G,
+    keeper: &mut Keeper<H>,
+) -> Result<Vec<u8>, Ended>
+    requires { editions.edition keeper.old + 1 < 2 ^ 64 }
+    ensures published { OnOk result (Publishes keeper.old keeper.new) }
+    ensures nothing { IfOk result (λ block. block.items ≡ []) }
+    ensures ended { IfErr result (λ e. e ≡ Ended.OutOfMemory) }
+{
+    if keeper.publish().is_err() {
+        return Err(Ended::OutOfMemory);
+    }
+    gate.published(keeper.edition());
+    Ok(Vec::new(alloc))
+}

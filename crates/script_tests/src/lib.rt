@@ -1,0 +1,16 @@
+//! Tests of `script` by its public items: plain runs, gates and what runs at the same time, failing writers, and want of
+//! memory. What a script alone can say is told by the cases of `tools/program`.
+#![tactic(auto)]
+
+#[cfg(test)]
+mod beside;
+#[cfg(test)]
+mod gates;
+#[cfg(test)]
+mod runs;
+#[cfg(test)]
+mod settings;
+#[cfg(test)]
+mod workers;
+#[cfg(test)]
+mod writers;

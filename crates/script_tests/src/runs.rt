@@ -1,0 +1,79 @@
+//! Plain runs of a script, by a hash that the caller names and by one that is chosen.
+
+use cells::Plain;
+use crew::Open;
+use report::Pour;
+use script::{Ended, HashChoice, How, run, run_by};
+use std::alloc::Global;
+use std::sync::Wait;
+use std::test::Fail;
+use std::thread::Threads;
+use trie::Cutting;
+
+pub(crate) const CUTTING: Cutting = Cutting { depth: 1, small: 0 };
+
+/// All commands, over two keys that end in the same digit.
+const LINES: &[u8] = b"table T (K INT KEY)
+load 1
+put 3
+delete 3
+publish
+report SELECT K, COUNT(*) FROM T GROUP BY ROLLUP(K)
+shape
+publish now
+";
+
+const BY_PLAIN: &str = "line 6 edition 1
+K | COUNT(*)
+2 | 1
+18 | 1
+NULL | 2
+line 7 edition 1
+- 2
+2 2
+line 8 refused 3
+";
+
+const BY_FNV: &str = "line 6 edition 1
+K | COUNT(*)
+2 | 1
+18 | 1
+NULL | 2
+line 7 edition 1
+- 2
+e 2
+line 8 refused 3
+";
+
+const PART: &[u8] = b"K\n2\n18\n";
+
+#[test]
+fn a_script_is_run(rt: HostRuntime) -> Result<(), Fail> {
+    let how = How::of(1, CUTTING, 3);
+    let parts = [Vec::from_slice(rt.alloc(), PART)?];
+    let mut out = Pour::new(Vec::new(rt.alloc()));
+    run::<Plain, _, _, _>(&rt, rt.alloc(), LINES, &parts, &how, &Open, &mut out)?;
+    assert_eq!(rt; out.into_inner().as_slice(), BY_PLAIN.as_bytes());
+    Ok(())
+}
+
+/// Whether the script writes this under the hash of this choice. Want of memory is an error.
+fn writes_by<R: Threads + Wait + Sync>(
+    rt: &R,
+    alloc: Global,
+    hash: HashChoice,
+    wanted: &str,
+) -> Result<bool, Ended> {
+    let parts = [Vec::from_slice(alloc, PART)?];
+    let how = How::default();
+    let mut out = Pour::new(Vec::new(alloc));
+    run_by(rt, alloc, hash, LINES, &parts, &how, &Open, &mut out)?;
+    Ok(out.into_inner().as_slice() == wanted.as_bytes())
+}
+
+#[test]
+fn a_script_is_run_by_either_hash(rt: HostRuntime) -> Result<(), Fail> {
+    assert!(rt; writes_by(&rt, rt.alloc(), HashChoice::Plain, BY_PLAIN)?);
+    assert!(rt; writes_by(&rt, rt.alloc(), HashChoice::Fnv, BY_FNV)?);
+    Ok(())
+}

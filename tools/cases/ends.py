@@ -1,0 +1,28 @@
+"""How a run ends early: its status and its line on standard error. What was written before it is there all the same."""
+
+from cases.table import SCRIPT, Case
+
+FIRST = "publish\n"
+FIRST_WRITES = "line 1 refused 1\n"
+TABLE = "table T (K INT KEY, V TEXT)\n"
+# More rows than 10,000 kilobytes hold, and no thread.
+MANY = FIRST + TABLE + "".join(f"put {key},row {key}\n" for key in range(50_000))
+# The thread of a report takes more than 6,000 kilobytes.
+REPORT = FIRST + TABLE + "report SELECT COUNT(*) FROM T\n"
+
+
+def ends(title, text, kilobytes, streams="2> errors", output=FIRST_WRITES, errors=""):
+    case = Case(title, ["run", SCRIPT], {SCRIPT: text, "errors": ""}, output=output, errors=errors, status=3)
+    return case, f'(ulimit -v {kilobytes}; "$@" {streams}); echo $? > status'
+
+
+WRITTEN_TO = [
+    ends("no memory", MANY, 10_000, errors="olap: ended 90\n"),
+    ends("no thread", REPORT, 6_000, errors="olap: ended 91\n"),
+    # Where the flush fails, too, the line tells why the run ended.
+    ends("no memory, and a full disk", MANY, 10_000, "> /dev/full 2> errors", "", "olap: ended 90\n"),
+    ends("no thread, and a full disk", REPORT, 6_000, "> /dev/full 2> errors", "", "olap: ended 91\n"),
+    # A line that nobody can read changes no status.
+    ends("no memory, and nobody reads why", MANY, 10_000, "2> /dev/full"),
+    ends("a full disk, and nobody reads why", FIRST, "unlimited", "> /dev/full 2> /dev/full", ""),
+]

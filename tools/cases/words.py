@@ -1,0 +1,102 @@
+"""The words of the command line: options on both sides of their ranges, words that are refused, and help."""
+
+from cases.table import Case, Text
+
+MORE = "\n\nFor more information, try '--help'.\n"
+RANGES = {
+    "workers": "a number from 1 to 64",
+    "depth": "a number from 0 to 16",
+    "small": "a number from 0 to 18446744073709551615",
+    "rows": "a number from 1 to 4294967296",
+    "hash": "fnv or plain",
+}
+FILES = {"S": "publish\n", "P": "", "--workers": "publish\n"}
+
+
+def case(line, **more):
+    return Case(line or "an empty word", line.split(" "), FILES, **more)
+
+
+def job(line):
+    return case(line, output="line 1 refused 1\n")
+
+
+def beyond(line, option):
+    return case(line, status=2, errors=f"error: '--{option}' takes {RANGES[option]}{MORE}")
+
+
+def refused(line, has=""):
+    return case(line, status=2, errors=Text("error: ", has))
+
+
+def help(line, has):
+    return case(line, output=Text(has=has))
+
+
+OPTIONS = [
+    job("run S P"),
+    job("run --workers 7 --depth=16 S --small 5 --hash plain --rows 9 P P"),
+    job("run S --workers 1"),
+    job("run S --workers 64"),
+    beyond("run S --workers 0", "workers"),
+    beyond("run S --workers 65", "workers"),
+    beyond("run S --workers=-1", "workers"),
+    beyond("run S --workers +1", "workers"),
+    beyond("run S --workers=", "workers"),
+    beyond("run S --workers one", "workers"),
+    job("run S --workers 007"),
+    job("run S --depth 0"),
+    job("run S --depth 16"),
+    beyond("run S --depth 17", "depth"),
+    beyond("run S --depth 256", "depth"),
+    job("run S --small 0"),
+    job("run S --small 18446744073709551615"),
+    beyond("run S --small 18446744073709551616", "small"),
+    job("run S --rows 1"),
+    job("run S --rows 4294967296"),
+    beyond("run S --rows 0", "rows"),
+    beyond("run S --rows 4294967297", "rows"),
+    job("run S --hash fnv"),
+    job("run S --hash plain"),
+    beyond("run S --hash md5", "hash"),
+    beyond("run S --hash FNV", "hash"),
+    # Of two values out of range the first is told, in the order workers, depth, small, rows, hash.
+    beyond("run S --hash md5 --rows 0", "rows"),
+    beyond("run S --rows 0 --depth 17", "depth"),
+    job("run -- --workers"),
+]
+
+REFUSED = [
+    refused("run", "the following required arguments were not provided:\n  <SCRIPT>\n"),
+    refused("run --workers 1"),
+    refused("run S --workers"),
+    refused("run S --workers 1 --workers 1"),
+    refused("run S --speed 1"),
+    refused("run S -w 1"),
+    refused("walk S"),
+    refused("live S", "unrecognized subcommand 'live'\n"),
+    refused("live S --query Q"),
+    refused(""),
+    refused("S"),
+    refused("run --version"),
+]
+
+TOP = "\nUsage: olap <COMMAND>\n"
+RUN = "\nUsage: olap run [OPTIONS] <SCRIPT> [PART]...\n"
+
+HELP = [
+    case("--version", output="olap 0.1.0\n"),
+    case("-V", output="olap 0.1.0\n"),
+    help("--help", TOP),
+    help("-h", TOP),
+    help("help", TOP),
+    help("run --help", RUN),
+    help("help run", RUN),
+    help("run --help", "\nExample:\n"),
+    help("run --help", ", 1 to 64 [default: 1]\n"),
+    help("run --help", ", 0 to 16 [default: 1]\n"),
+    help("run --help", ", 1 to 4294967296 [default: 4294967296]\n"),
+    help("run --help", " are cut [default: 0]\n"),
+]
+
+CASES = OPTIONS + REFUSED + HELP

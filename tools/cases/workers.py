@@ -1,0 +1,64 @@
+"""Reports by several workers over several cuts, beside the lines that follow them: what is written depends on neither."""
+
+from cases.table import block, lines_by
+
+SALES_PART = "ID,REGION,ITEM,UNITS\n1,north,pen,10\n2,north,ink,\n3,,pen,5\n4,south,pen,-2\n"
+
+SALES = [
+    "table SALES (ID INT KEY, REGION TEXT, ITEM TEXT, UNITS INT)",
+    "load 1",
+    "publish",
+    (
+        "report SELECT REGION, GROUPING(REGION), COUNT(*), COUNT(UNITS), SUM(UNITS) FROM SALES GROUP BY ROLLUP(REGION)",
+        block(
+            1,
+            "REGION | GROUPING(REGION) | COUNT(*) | COUNT(UNITS) | SUM(UNITS)",
+            "NULL | 0 | 1 | 1 | 5",
+            "'north' | 0 | 2 | 1 | 10",
+            "'south' | 0 | 1 | 1 | -2",
+            "NULL | 1 | 4 | 3 | 13",
+        ),
+    ),
+]
+
+# As many pieces at depth 16.
+SEVENTY = [
+    "table T (K INT KEY, V INT)",
+    *(f"put {key},{key % 3}" for key in range(70)),
+    "publish",
+    (
+        "report SELECT V, COUNT(*), SUM(K) FROM T GROUP BY ROLLUP(V)",
+        block(1, "V | COUNT(*) | SUM(K)", "0 | 24 | 828", "1 | 23 | 782", "2 | 23 | 805", "NULL | 70 | 2415"),
+    ),
+]
+
+# Ten editions, each with a report of its own.
+TEN = ["table T (K INT KEY)"]
+for key in range(1, 11):
+    TEN += [f"put {key}", "publish", ("report SELECT COUNT(*) FROM T", block(key, "COUNT(*)", str(key)))]
+
+CORRECTED = [
+    "table T (K INT KEY, V INT)",
+    "put 1,5",
+    "publish",
+    ("report SELECT COUNT(*), SUM(V) FROM T", block(1, "COUNT(*) | SUM(V)", "1 | 5")),
+    "delete 1",
+    "publish",
+    ("report SELECT COUNT(*), SUM(V) FROM T", block(2, "COUNT(*) | SUM(V)", "0 | NULL")),
+    ("put x", 7),
+]
+
+
+def options(rows, depths):
+    return [
+        ("--workers", workers, "--depth", depth, "--rows", rows, "--hash", hash)
+        for workers in ("1", "2", "7", "64")
+        for depth in depths
+        for hash in ("fnv", "plain")
+    ]
+
+
+CASES = lines_by("four sales", SALES, [SALES_PART], options("100", ("0", "1", "16")))
+CASES += lines_by("seventy rows", SEVENTY, options=options("100", ("0", "1", "16")))
+CASES += lines_by("ten editions", TEN, options=options("20", ("1",)))
+CASES += lines_by("a corrected row", CORRECTED, options=options("20", ("1",)))
