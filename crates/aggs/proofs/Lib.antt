@@ -1,3 +1,2 @@
-pub mod AccsLemmas
 pub mod DifferingLemmas
 pub mod StoredLemmas

@@ -22,6 +22,3 @@ pub use laws::{accumulators_keep_the_laws, worked_aggregates};
 pub use least::Min;
 pub use stored::{cell_is_stored, cells_are_stored};
 pub use sum::Sum;
-
-#[cfg(test)]
-mod tests;

@@ -165,12 +165,6 @@ impl<H: KeyHash<Cell>> Keeper<H> {
         let _ = &self.draft;
     }
 
-    /// The draft, for tests.
-    #[cfg(test)]
-    pub(crate) fn draft(&self) -> &Root<H> {
-        &self.draft
-    }
-
     /// The number of the last published edition. It takes no memory.
     pub fn edition(&self) -> u64
         ensures { result ≡ edition self.now }

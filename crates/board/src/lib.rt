@@ -13,6 +13,3 @@ pub use laws::rows_have_the_shape_of_their_keys;
 pub use limits::{MAX_PLACES, MAX_ROWS};
 pub use root::Root;
 pub use snapshot::Snapshot;
-
-#[cfg(test)]
-mod tests;

@@ -31,6 +31,3 @@ pub use token::{Mark, Token, TokenFault};
 pub use total::{Total, literal};
 pub use tuple::Tuple;
 pub use updates::{later_puts_lie_over, updates_leave_the_last_puts, updates_make_a_map};
-
-#[cfg(test)]
-mod tests;

@@ -19,6 +19,3 @@ pub use gathering::gather;
 pub use limits::{MAX_PIECES, MAX_SEATS};
 pub use sharing::share_out;
 pub use task::Task;
-
-#[cfg(test)]
-mod tests;

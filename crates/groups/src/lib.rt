@@ -23,6 +23,3 @@ pub use folding::Folding;
 pub use laws::{any_order, parts_may_meet, worked_reports};
 pub use partial::Partial;
 pub use report_row::ReportRow;
-
-#[cfg(test)]
-mod tests;

@@ -14,6 +14,3 @@ pub use fault::PartFault;
 pub use limits::MAX_LISTED_BYTES;
 pub use loading::load;
 pub use records::{Records, read_record};
-
-#[cfg(test)]
-mod tests;

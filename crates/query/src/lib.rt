@@ -40,6 +40,3 @@ pub use reading::read;
 pub use sets::GroupSet;
 pub use test::{Comparison, Literal, Literals, Operand, Test};
 pub use truth::Truth;
-
-#[cfg(test)]
-mod tests;

@@ -19,6 +19,3 @@ pub use pour::Pour;
 pub use printing::text;
 pub use starting::Starter;
 pub use tape::Tape;
-
-#[cfg(test)]
-mod tests;

@@ -38,6 +38,3 @@ pub use split::Piece;
 pub use ticks::Ticks;
 pub use trie::Trie;
 pub use walk::Visitor;
-
-#[cfg(test)]
-mod tests;

@@ -1,0 +1,247 @@
+//! Cells and tuples, their order and their hashes; how texts are read and values printed; the names of refusals. The
+//! hashes of the table were computed by a program outside the project.
+
+use crate::written::Written::{self, Int, Null, Text};
+use crate::written::cells_of;
+use cells::{
+    Cell, Fnv, KeyHash, Mark, Plain, Refused, Row, Schema, Token, Total, Tuple, literal, tokens,
+    tokens_or, whole_number_of, worked_hashes,
+};
+use std::alloc::{AllocError, Global};
+use std::test::Fail;
+
+/// The first two places of the list that are not ordered as their keys are. The order is reached
+/// through the bound, as the crates above reach it.
+fn first_out_of_order<K: Ord>(rising: &[K]) -> Option<(usize, usize)> {
+    for (i, a) in rising.iter().enumerate() {
+        for (j, b) in rising.iter().enumerate() {
+            if a.cmp(b) != i.cmp(&j) {
+                return Some((i, j));
+            }
+            if (a == b) != (i == j) {
+                return Some((i, j));
+            }
+        }
+    }
+    None
+}
+
+/// The first place of the list whose clone is another key.
+fn first_bad_clone<K: Clone + Drop + PartialEq>(keys: &[K]) -> Result<Option<usize>, AllocError> {
+    for (i, key) in keys.iter().enumerate() {
+        let again = key.clone()?;
+        if again != *key {
+            return Ok(Some(i));
+        }
+    }
+    Ok(None)
+}
+
+// Texts of 16 bytes and of 17 lie in different places, so some of each are beside each other.
+const CELLS: [Written; 15] = [
+    Null,
+    Int(i64::MIN),
+    Int(-1),
+    Int(0),
+    Int(i64::MAX),
+    Text(""),
+    Text("Z"),
+    Text("a"),
+    Text("a\0"),
+    Text("ab"),
+    Text("b"),
+    Text("b123456789012345"),
+    Text("b1234567890123456"),
+    Text("b1234567890123457"),
+    Text("é"),
+];
+
+const TUPLES: [&[Written]; 9] = [
+    &[],
+    &[Null],
+    &[Null, Null],
+    &[Null, Text("pen")],
+    &[Int(-1), Int(9)],
+    &[Int(2)],
+    &[Int(2), Null, Int(1)],
+    &[Int(2), Int(0)],
+    &[Text("ink")],
+];
+
+fn tuples_of(alloc: Global, table: &[&[Written]]) -> Result<Vec<Tuple>, AllocError> {
+    let mut tuples = Vec::new(alloc);
+    for written in table {
+        tuples.push(Tuple::new(cells_of(alloc, written)?))?;
+    }
+    Ok(tuples)
+}
+
+/// Whether the keys of the list rise, and have clones that equal them.
+fn rise_and_clone<K: Clone + Drop + Ord>(keys: &[K]) -> Result<bool, AllocError> {
+    if first_out_of_order(keys).is_some() {
+        return Ok(false);
+    }
+    Ok(first_bad_clone(keys)?.is_none())
+}
+
+#[test]
+fn cells_have_one_order(rt: HostRuntime) -> Result<(), Fail> {
+    let cells = cells_of(rt.alloc(), CELLS.as_slice())?;
+    assert!(rt; rise_and_clone(cells.as_slice())?);
+    Ok(())
+}
+
+#[test]
+fn tuples_have_one_order(rt: HostRuntime) -> Result<(), Fail> {
+    let tuples = tuples_of(rt.alloc(), TUPLES.as_slice())?;
+    assert!(rt; rise_and_clone(tuples.as_slice())?);
+    Ok(())
+}
+
+/// Reached through the bound, as a map by hashes reaches it.
+fn hash_by<K: Eq, H: KeyHash<K>>(key: &K) -> u64 {
+    H::hash(key)
+}
+
+/// The hashes of the cells of a tuple, of each by itself: FNV-1a and plain.
+fn cell_hashes(key: &Tuple) -> Option<(u64, u64)> {
+    let [cell] = key.cells() else {
+        return None;
+    };
+    Some((hash_by::<Cell, Fnv>(cell), hash_by::<Cell, Plain>(cell)))
+}
+
+fn hashes(key: &Tuple) -> (u64, u64) {
+    (hash_by::<Tuple, Fnv>(key), hash_by::<Tuple, Plain>(key))
+}
+
+/// Cells, and the hashes of their tuple, FNV-1a and plain. A single cell has those of its tuple.
+const HASHES: [(&[Written], (u64, u64)); 11] = [
+    (&[], (0xcbf2_9ce4_8422_2325, 0)),
+    (&[Null], (0xaf63_bd4c_8601_b7df, 0)),
+    (&[Int(5)], (0xf5a9_d7c1_6f27_5549, 5)),
+    (&[Int(-2)], (0xffdb_5807_47cc_f645, 0xffff_ffff_ffff_fffe)),
+    (
+        &[Int(i64::MIN)],
+        (0x5299_acdc_8ff4_5a2c, 0x8000_0000_0000_0000),
+    ),
+    (&[Text("")], (0x0cd9_2cf5_4dc6_15e5, 0)),
+    (&[Text("pen")], (0x3b25_8e15_1a7a_cf51, 3)),
+    (&[Text("é")], (0x5dc5_79d3_4eb0_21bf, 2)),
+    (&[Null, Null], (0x0832_8807_b4eb_6fed, 0)),
+    (&[Null, Text("pen"), Int(-2)], (0x1499_7b01_2c84_b963, 1)),
+    (&[Int(-2), Text("pen"), Null], (0x22e1_84ef_a9dc_cc43, 1)),
+];
+
+#[test]
+fn keys_have_hashes(rt: HostRuntime) -> Result<(), Fail> {
+    worked_hashes();
+    for (written, wanted) in &HASHES {
+        let key = Tuple::new(cells_of(rt.alloc(), written)?);
+        assert_eq!(rt; hashes(&key), *wanted);
+        if let Some(found) = cell_hashes(&key) {
+            assert_eq!(rt; found, *wanted);
+        }
+    }
+    Ok(())
+}
+
+const NAMES: [(Refused, &str); 19] = [
+    (Refused::NoTable, "1 NoTable"),
+    (Refused::TableAgain, "2 TableAgain"),
+    (Refused::BadCommand, "3 BadCommand"),
+    (Refused::BadSchema, "4 BadSchema"),
+    (Refused::NoPart, "5 NoPart"),
+    (Refused::BadPart, "6 BadPart"),
+    (Refused::BadRecord, "7 BadRecord"),
+    (Refused::BadKey, "8 BadKey"),
+    (Refused::TooManyRows, "9 TooManyRows"),
+    (Refused::QuerySyntax, "10 QuerySyntax"),
+    (Refused::Unknown, "11 Unknown"),
+    (Refused::NotGrouped, "12 NotGrouped"),
+    (Refused::WrongType, "13 WrongType"),
+    (Refused::TooManySets, "14 TooManySets"),
+    (Refused::Limit, "15 Limit"),
+    (Refused::OutOfMemory, "90 OutOfMemory"),
+    (Refused::NoWorker, "91 NoWorker"),
+    (Refused::WriteFailed, "92 WriteFailed"),
+    (Refused::NotShown, "93 NotShown"),
+];
+
+#[test]
+fn refusals_have_numbers_and_names(rt: HostRuntime) -> Result<(), Fail> {
+    for (refused, wanted) in &NAMES {
+        let shown = format!(in rt.alloc(); "{} {refused}", refused.number())?;
+        assert_eq!(rt; shown.as_str(), *wanted);
+    }
+    Ok(())
+}
+
+/// Whether they are the tokens of `select_1`, `-007`, `<>` and `'it''s'`.
+fn are_four(found: &[Token]) -> bool {
+    match found {
+        [
+            Token::Word(word),
+            Token::Number(-7),
+            Token::Mark(Mark::NotEquals),
+            Token::Quoted(text),
+        ] => word.as_str() == "SELECT_1" && text.as_str() == "it's",
+        _ => false,
+    }
+}
+
+/// Whether it is the row of a line feed and the key 7.
+fn is_seven(row: &Row) -> bool {
+    match row.cells() {
+        [Cell::Text(text), Cell::Int(7)] => text.as_str() == "\n" && *row.key() == Cell::Int(7),
+        _ => false,
+    }
+}
+
+#[test]
+fn texts_are_read(rt: HostRuntime) -> Result<(), Fail> {
+    let alloc = rt.alloc();
+    let found = tokens(alloc, "select_1\n-007<>'it''s'")?;
+    assert!(rt; are_four(found.as_slice()));
+    let schema = Schema::read(alloc, "T (V TEXT,\nK INT KEY)")?;
+    let row = Row::read(alloc, &[b"\n", b"7"], &schema)?;
+    assert!(rt; is_seven(&row));
+    assert_eq!(rt; schema.key(), 1);
+    Ok(())
+}
+
+/// How many tokens a text spells, or the refusal asked for.
+fn number_or(alloc: Global, text: &str) -> Result<usize, Refused> {
+    Ok(tokens_or(alloc, text, Refused::BadKey)?.len())
+}
+
+#[test]
+fn texts_are_refused(rt: HostRuntime) -> Result<(), Fail> {
+    assert_eq!(rt; number_or(rt.alloc(), "a 1"), Ok(2));
+    assert_eq!(rt; number_or(rt.alloc(), "1a"), Err(Refused::BadKey));
+    assert_eq!(rt; whole_number_of("007"), Some(7));
+    assert_eq!(rt; whole_number_of("+7"), None);
+    Ok(())
+}
+
+/// Whether the value is printed so.
+fn is_printed(alloc: Global, total: &Total, text: &str) -> Result<bool, Refused> {
+    Ok(literal(alloc, total)?.as_str() == text)
+}
+
+/// Whether the text is printed so.
+fn is_quoted(alloc: Global, text: &str, printed: &str) -> Result<bool, Refused> {
+    let total = Total::Text(cells::Text::copied(alloc, text)?);
+    is_printed(alloc, &total, printed)
+}
+
+#[test]
+fn values_are_printed_as_literals(rt: HostRuntime) -> Result<(), Fail> {
+    let low = Total::Int(-27_670_116_110_564_327_424);
+    assert!(rt; is_printed(rt.alloc(), &low, "-27670116110564327424")?);
+    assert!(rt; is_printed(rt.alloc(), &Total::Null, "NULL")?);
+    for (text, printed) in [("", "''"), ("''", "''''''"), ("é'", "'é'''")] {
+        assert!(rt; is_quoted(rt.alloc(), text, printed)?);
+    }
+    Ok(())
+}

@@ -1,0 +1,94 @@
+//! The rows of a small table, grouped by workers.
+ghost use Rattle.std.specs.Prelude.{◌≤◌};
+ghost use Rattle.report.specs.Limits.{worker_limit};
+
+use crate::gates::{Hold, Watch};
+use board::{Keeper, Snapshot};
+use cells::{Plain, Refused, Row, Schema};
+use crew::{Gate, Open};
+use query::{check, read};
+use report::answer;
+use std::alloc::Global;
+use std::process::Abort;
+use std::sync::Wait;
+use std::test::Fail;
+use std::thread::Threads;
+use trie::Cutting;
+
+/// Puts rows of these keys.
+fn put_all(alloc: Global, keeper: &mut Keeper<Plain>, keys: &[&[u8]]) -> Result<(), Refused> {
+    for key in keys {
+        let row = Row::read(alloc, &[*key], keeper.schema())?;
+        keeper.put(row)?;
+    }
+    Ok(())
+}
+
+/// The first edition with these keys. By the plain hash 1, 17 and 33 have their first digit in common.
+fn edition_of(rt: &impl Abort, alloc: Global, keys: &[&[u8]]) -> Result<Snapshot<Plain>, Refused> {
+    let schema = Schema::read(alloc, "SALES (ID INT KEY)")?;
+    let mut keeper = Keeper::new(alloc, schema, 64, 1)?;
+    put_all(alloc, &mut keeper, keys)?;
+    assert!(*rt; keeper.edition() == 0);
+    keeper.publish()?;
+    keeper.snapshot()
+}
+
+/// Whether the report of the keys has this text.
+fn is_counted<G: Gate, R: Threads + Wait>(
+    rt: &R,
+    alloc: Global,
+    snapshot: &Snapshot<Plain>,
+    depth: u8,
+    workers: u64,
+    gate: &G,
+    wanted: &str,
+) -> Result<bool, Refused>
+    requires { (1 ≤ workers) × (workers ≤ worker_limit) }
+{
+    let query = read(alloc, QUERY)?;
+    let plan = check(alloc, query, snapshot.schema())?;
+    let cutting = Cutting { depth, small: 0 };
+    let text = answer(rt, alloc, snapshot, &plan, workers, &cutting, gate);
+    drop(plan);
+    Ok(text?.as_slice() == wanted.as_bytes())
+}
+
+/// Keys of two first digits.
+const KEYS: [&[u8]; 4] = [b"1", b"17", b"33", b"2"];
+
+const QUERY: &str = "SELECT ID, GROUPING(ID), COUNT(*), SUM(ID) FROM SALES GROUP BY ROLLUP(ID)";
+
+const FOUR: &str =
+    "ID | GROUPING(ID) | COUNT(*) | SUM(ID)\n1 | 0 | 1 | 1\n2 | 0 | 1 | 2\n17 | 0 | 1 | 17\n33 | 0 | 1 | 33\nNULL | 1 | 4 | 53\n";
+
+const NONE: &str = "ID | GROUPING(ID) | COUNT(*) | SUM(ID)\nNULL | 1 | 0 | NULL\n";
+
+/// The gate is told of each piece, once, whatever the number of workers: by depth, workers and the sum of the pieces, each
+/// counted from 1.
+#[test]
+fn more_and_fewer_workers_than_pieces(rt: HostRuntime) -> Result<(), Fail> {
+    let edition = edition_of(&rt, rt.alloc(), &KEYS)?;
+    for (depth, workers, sum) in [(0, 2, 1), (1, 1, 3), (1, 64, 3), (16, 2, 10), (16, 7, 10)] {
+        let watch = Watch::new();
+        assert!(rt; is_counted(&rt, rt.alloc(), &edition, depth, workers, &watch, FOUR)?);
+        assert_eq!(rt; (watch.entered.get(), watch.left.get()), (sum, sum));
+    }
+    Ok(())
+}
+
+#[test]
+fn a_table_without_rows(rt: HostRuntime) -> Result<(), Fail> {
+    let edition = edition_of(&rt, rt.alloc(), &[])?;
+    assert!(rt; is_counted(&rt, rt.alloc(), &edition, 16, 64, &Open, NONE)?);
+    Ok(())
+}
+
+#[test]
+fn two_workers_gather_at_the_same_time(rt: HostRuntime) -> Result<(), Fail> {
+    let edition = edition_of(&rt, rt.alloc(), &KEYS)?;
+    let hold = Hold::new(1);
+    assert!(rt; is_counted(&rt, rt.alloc(), &edition, 1, 2, &hold, FOUR)?);
+    assert!(rt; hold.entering.is_over());
+    Ok(())
+}

@@ -1,0 +1,131 @@
+"""What a query means for a table: its faults in their order, its grouping sets, its headings, and the truth of its
+condition over a row."""
+
+from cases.table import lines
+
+# one row, whose ITEM is NULL
+SALES = [
+    ("table SALES (ID INT KEY, REGION TEXT, ITEM TEXT, UNITS INT)", None),
+    ("put 1,b,,5", None),
+    ("publish", None),
+]
+COUNT = "SELECT COUNT(*) FROM SALES"
+
+
+def block(*rows):
+    return "\n".join(("edition 1", *rows))
+
+
+def counted(number):
+    return block("COUNT(*)", str(number))
+
+
+def reports(rows):
+    return SALES + [(f"report {query}", gives) for query, gives in rows]
+
+
+CHECKED = [
+    (COUNT, counted(1)),
+    ("SELECT COUNT(*) FROM SALE", 11),
+    ("SELECT SUM(X) FROM SALES", 11),
+    (f"{COUNT} WHERE X = 1", 11),
+    (f"{COUNT} WHERE NOT UNITS BETWEEN 1 AND X", 11),
+    (f"{COUNT} GROUP BY ROLLUP(REGION, (ITEM, X))", 11),
+    (f"{COUNT} GROUP BY GROUPING SETS ((), X)", 11),
+    ("SELECT MIN(REGION), SUM(UNITS) FROM SALES", block("MIN(REGION) | SUM(UNITS)", "'b' | 5")),
+    ("SELECT SUM(REGION) FROM SALES", 13),
+    (f"{COUNT} WHERE UNITS = 'a'", 13),
+    (f"{COUNT} WHERE 1 = 'a'", 13),
+    (f"{COUNT} WHERE REGION < ITEM", counted(0)),
+    (f"{COUNT} WHERE REGION < UNITS", 13),
+    (f"{COUNT} WHERE REGION BETWEEN 'a' AND 1", 13),
+    (f"{COUNT} WHERE UNITS IN (1, 'a')", 13),
+    (f"{COUNT} WHERE NOT (ID = 1 OR UNITS IS NULL AND 'a' <> ID)", 13),
+    ("SELECT REGION FROM SALES", 12),
+    ("SELECT GROUPING(REGION) FROM SALES GROUP BY ITEM", 12),
+    (
+        "SELECT REGION, GROUPING(ITEM) FROM SALES GROUP BY GROUPING SETS (ITEM, ROLLUP(REGION))",
+        block("REGION | GROUPING(ITEM)", "NULL | 0", "'b' | 1", "NULL | 1"),
+    ),
+    (f"{COUNT} GROUP BY CUBE(ID,ID,ID,ID,ID,ID,ID,ID,ID)", 14),
+    # several faults at once
+    ("SELECT SUM(REGION), X FROM SALES", 11),
+    ("SELECT REGION, SUM(ITEM) FROM SALES", 13),
+    ("SELECT REGION FROM SALES GROUP BY CUBE(ID,ID,ID,ID,ID,ID,ID,ID,ID)", 12),
+]
+
+# what gives 256 grouping sets, each with one row of the one row, and what gives more
+MOST = block("COUNT(*)", *["1"] * 256)
+NUMBERS = [
+    ("CUBE(ID" + ",ID" * 7 + ")", MOST),
+    ("CUBE(ID" + ",ID" * 8 + ")", 14),
+    ("CUBE(ID" + ",ID" * 199 + ")", 14),
+    ("ROLLUP(ID" + ",ID" * 254 + ")", MOST),
+    ("ROLLUP(ID" + ",ID" * 255 + ")", 14),
+    ("GROUPING SETS (ID" + ",ID" * 255 + ")", MOST),
+    ("GROUPING SETS (ID" + ",ID" * 256 + ")", 14),
+    ("ROLLUP(ID)" + ",ROLLUP(ID)" * 7, MOST),
+    ("ROLLUP(ID)" + ",ROLLUP(ID)" * 8, 14),
+]
+
+
+def sets(elements, columns, *rows):
+    """The grouping sets of elements, as GROUPING tells them of columns: 0 where the column is in the set."""
+    items = [f"GROUPING({column})" for column in columns.split()]
+    return f"SELECT {', '.join(items)} FROM SALES GROUP BY {elements}", block(" | ".join(items), *rows)
+
+
+LISTED = [
+    (f"{COUNT} GROUP BY ()", counted(1)),
+    sets("CUBE(REGION, ITEM)", "REGION ITEM", "0 | 0", "0 | 1", "1 | 0", "1 | 1"),
+    sets("ROLLUP((ITEM, REGION), UNITS)", "REGION ITEM UNITS", "0 | 0 | 0", "0 | 0 | 1", "1 | 1 | 1"),
+    sets("ITEM, ROLLUP(REGION)", "REGION ITEM", "0 | 0", "1 | 0"),
+    sets("ROLLUP(ITEM), ROLLUP(REGION)", "ITEM REGION", "0 | 0", "0 | 1", "1 | 0", "1 | 1"),
+    sets("GROUPING SETS (REGION, ROLLUP(ITEM), ())", "REGION ITEM", "0 | 1", "1 | 0", "1 | 1", "1 | 1"),
+    sets("ITEM, ITEM", "ITEM", "0"),
+]
+
+HEADINGS = [
+    (
+        "select region, grouping(region), count ( * ), count(units), count(distinct item), sum(units), min(item), max(id)"
+        " from sales group by region",
+        block(
+            "REGION | GROUPING(REGION) | COUNT(*) | COUNT(UNITS) | COUNT(DISTINCT ITEM) | SUM(UNITS) | MIN(ITEM) | MAX(ID)",
+            "'b' | 0 | 1 | 1 | 0 | 5 | NULL | 1",
+        ),
+    ),
+]
+
+# by the number of rows for which the condition is true, and for which its NOT is
+TRUE, FALSE, UNKNOWN = (1, 0), (0, 1), (0, 0)
+TRUTHS = [
+    ("UNITS = 5", TRUE),
+    ("UNITS <> 5", FALSE),
+    ("REGION < 'ba' AND REGION > 'a'", TRUE),
+    ("ITEM = 'a'", UNKNOWN),
+    ("ITEM = ITEM", UNKNOWN),
+    ("ITEM IS NULL", TRUE),
+    ("UNITS IS NOT NULL", TRUE),
+    ("NOT ITEM > 'a'", UNKNOWN),
+    ("ITEM = 'a' OR UNITS >= 5", TRUE),
+    ("ITEM = 'a' AND UNITS > 5", FALSE),
+    ("UNITS BETWEEN 5 AND 5", TRUE),
+    ("UNITS NOT BETWEEN 1 AND 5", FALSE),
+    ("UNITS IN (1, 5)", TRUE),
+    ("ITEM NOT IN ('a', 'b')", UNKNOWN),
+]
+
+
+def truths():
+    for condition, (true, false) in TRUTHS:
+        yield f"{COUNT} WHERE {condition}", counted(true)
+        yield f"{COUNT} WHERE NOT ({condition})", counted(false)
+
+
+CASES = [
+    lines("faults in their order", reports(CHECKED)),
+    lines("numbers of grouping sets", reports((f"{COUNT} GROUP BY {elements}", gives) for elements, gives in NUMBERS)),
+    lines("grouping sets", reports(LISTED)),
+    lines("headings", reports(HEADINGS)),
+    lines("three truths", reports(truths())),
+]
