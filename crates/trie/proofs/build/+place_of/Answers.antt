@@ -1,15 +1,67 @@
-use Rattle.std.proofs.Common.{◌≡◌, ◌+◌, ◌<◌, ap, sym, Some, arith, rules}
+use Rattle.std.proofs.Common.{◌≡◌, ◌+◌, ◌-◌, ◌<◌, List, [], ◌∷◌, length, ap, refl, sym, Some, arith, rules}
+use Rattle.std.specs.Prelude.{slice_get}
+use Rattle.std.proofs.lemmas.List.{length-map}
 use Rattle.std.proofs.lemmas.Result.{IfOk-weaker}
 use Rattle.trie.specs.Building.{HaveOnePrefix, pairs_in}
 use Rattle.trie.specs.Dense.{places_in}
 use Rattle.trie.specs.Digits.{digit_count, place_count}
 use Rattle.trie.specs.Tree.{node_of, values}
+use Rattle.trie.specs.declared.build.Hashed.{Hashed}
 use Rattle.trie.proofs.BuildLemmas.{branch_fits, branch_made, bucket_made, leaf_made, made_more, more_keys, part_below}
-use Rattle.trie.proofs.DenseLemmas.{length-places_of}
+use Rattle.trie.proofs.CountLemmas.{counts_none, counts_one}
+use Rattle.trie.proofs.DenseLemmas.{length-places_of, none_dense}
 use Rattle.trie.proofs.MapsLemmas.{hashes}
 use Rattle.trie.proofs.OnceLemmas.{once_all, once_more, once_one}
-use Rattle.trie.proofs.SpreadLemmas.{counted_end, counted_more, part_is}
+use Rattle.trie.proofs.SpreadLemmas.{counted_all, counted_end, counted_more, part_is}
 use Rattle.trie.proofs.build.+place_of.Goals as goal
+
+-- where there is a last pair, there is one
+some_pairs : {K V : Type 0} (list : List (Hashed K V)) (last : Hashed K V) → Some last ≡ slice_get list (length list - 1) → 0 < length list
+some_pairs [] last is = absurd (cc)
+some_pairs (one ∷ list) last is = omega arith
+
+pub returns-in_default-clause-counted : goal.returns-in_default-clause-counted
+returns-in_default-clause-counted g t c = counts_none _ _ _ _ _ refl
+
+pub returns-in_err-try_clone-clause-counted : goal.returns-in_err-try_clone-clause-counted
+returns-in_err-try_clone-clause-counted g t c = counts_none _ _ _ _ _ refl
+
+pub returns-in_err-make-clause-counted : goal.returns-in_err-make-clause-counted
+returns-in_err-make-clause-counted g t c =
+    let some = some_pairs _ _ c.in-Some.ensures.value in
+    counts_one _ _ _ _ _ c.requires.prefix.low some some c.make.ensures.counted c.make.ensures.grows
+
+pub returns-then-have_key_of-clause-counted : goal.returns-then-have_key_of-clause-counted
+returns-then-have_key_of-clause-counted g t c =
+    let some = some_pairs _ _ c.in-Some.ensures.value in
+    counts_one _ _ _ _ _ c.requires.prefix.low some some c.make.ensures.counted c.make.ensures.grows
+
+pub returns-in_err-bucket_of-clause-counted : goal.returns-in_err-bucket_of-clause-counted
+returns-in_err-bucket_of-clause-counted g t c = counts_none _ _ _ _ _ refl
+
+pub returns-in_err-make-2-clause-counted : goal.returns-in_err-make-2-clause-counted
+returns-in_err-make-2-clause-counted g t c =
+    let some = some_pairs _ _ c.in-Some.ensures.value in
+    counts_one _ _ _ _ _ c.requires.prefix.low some some c.make-then-depth-eq-DIGITS.ensures.counted c.make-then-depth-eq-DIGITS.ensures.grows
+
+pub returns-then-depth-eq-DIGITS-clause-counted : goal.returns-then-depth-eq-DIGITS-clause-counted
+returns-then-depth-eq-DIGITS-clause-counted g t c =
+    let some = some_pairs _ _ c.in-Some.ensures.value in
+    counts_one _ _ _ _ _ c.requires.prefix.low some some c.make-then-depth-eq-DIGITS.ensures.counted c.make-then-depth-eq-DIGITS.ensures.grows
+
+pub returns-in_err-parts-clause-counted : goal.returns-in_err-parts-clause-counted
+returns-in_err-parts-clause-counted g t c = counts_none _ _ _ _ _ refl
+
+pub returns-in_err-made-clause-counted : goal.returns-in_err-made-clause-counted
+returns-in_err-made-clause-counted g t c = counts_none _ _ _ _ _ refl
+
+pub returns-clause-counted : goal.returns-clause-counted
+returns-clause-counted g t c =
+    let all : c.loop-digit.digit ≡ place_count = omega arith in
+    let low : c.args.depth < digit_count = omega (arith, c.requires.prefix.low) in
+    let some = some_pairs _ _ c.in-Some.ensures.value in
+    counted_all _ _ c.in_ok-parts.parts.items c.in_ok-parts.ensures low some _ _ _ _ all c.loop-digit.invariant.counted
+    c.branch_of.ensures.counted c.branch_of.ensures.grows
 
 pub returns-then-have_key_of-clause-made : goal.returns-then-have_key_of-clause-made
 returns-then-have_key_of-clause-made g t c =
@@ -25,6 +77,33 @@ returns-then-depth-eq-DIGITS-clause-made g t c =
     c.requires.prefix.hashed (sym c.if-have_key_of.ensures) in
     bucket_made g.H.KeyHash.hash_of g.K.Ord.cmp laws c.args.depth whole (pairs_in c.args.pairs.now) many
     c.in_ok-bucket_of.field-0 c.in_ok-bucket_of.ensures _ (ap Some c.in_ok-make-2.ensures.made)
+
+pub index_mut-requires : goal.index_mut-requires
+index_mut-requires g t c = omega (arith, c.requires.prefix.low, c.requires.used)
+
+pub spread-requires : goal.spread-requires
+spread-requires g t c = omega (arith, c.requires.prefix.low)
+
+pub loop-digit-init : goal.loop-digit-init
+loop-digit-init g t c =
+    let none = c.in_ok-made.ensures.none in
+    record {
+      made = λ k lt. absurd (omega arith);
+      dense = rw (none.0, none.1) none_dense;
+      before = omega (arith, none.0);
+      once = record { at = λ prefix deep placed. omega arith };
+      counted = counts_none _ _ _ _ _ refl;
+      used = c.requires.used;
+    }
+
+pub index-requires : goal.index-requires
+index-requires g t c =
+    let within : c.loop-digit.digit < place_count = search rules in
+    let wide = length-map c.in_ok-parts.parts.items (λ part. part.items) in
+    omega (arith, c.in_ok-parts.parts.ok.0, wide, c.in_ok-parts.ensures.wide, within)
+
+pub index_mut-requires-2 : goal.index_mut-requires-2
+index_mut-requires-2 g t c = omega (arith, c.requires.prefix.low, c.loop-digit.invariant.used)
 
 pub place_of-requires : goal.place_of-requires
 place_of-requires g t c κs within =

@@ -1,5 +1,6 @@
 use Rattle.std.proofs.Common.{◌≡◌, ap, rules}
 use Rattle.trie.specs.Dense.{places_in, places_of}
+use Rattle.trie.proofs.CountLemmas.{counts_above, counts_below}
 use Rattle.trie.proofs.LayLemmas.{laid_bounds, laid_whole, lay_below}
 use Rattle.trie.proofs.MapsLemmas.{hashes}
 use Rattle.trie.proofs.VariantsLemmas.{branch_dense, branch_in, place_is}
@@ -84,3 +85,17 @@ returns-clause-map g t c =
     laid_whole g.H.KeyHash.hash_of g.K.Ord.cmp laws _ (g.B.Blend.blend_of c.args.blend.now) c.args.at c.args.at.within _ branch.places_are _ _ _ c.requires.can
     branch.entries_are _ c.step.ensures.place c.in_ok-child.child.value c.in_ok-child.ensures.map.entries_are in
     rw (← whole) (rw same at c.with_place.ensures.held)
+
+pub with_place-requires-clause-placed : goal.with_place-requires-clause-placed
+with_place-requires-clause-placed g t c =
+    rw (c.step.ensures.hash, c.step.ensures.depth) at c.in_ok-child.ensures.map.placed
+
+pub returns-in_err-child-clause-counted : goal.returns-in_err-child-clause-counted
+returns-in_err-child-clause-counted g t c = counts_below _ _ _ _ c.step.ensures.depth c.lay_at.ensures.counted
+
+pub returns-in_err-children-clause-counted : goal.returns-in_err-children-clause-counted
+returns-in_err-children-clause-counted g t c = counts_below _ _ _ _ c.step.ensures.depth c.lay_at.ensures.counted
+
+pub returns-clause-counted : goal.returns-clause-counted
+returns-clause-counted g t c =
+    counts_above _ _ _ _ _ c.step.ensures.depth c.lay_at.ensures.counted c.with_place.ensures.counted

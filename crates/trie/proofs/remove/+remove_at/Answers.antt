@@ -4,6 +4,7 @@ use Rattle.std.specs.Ordering.{is_eq}
 use Rattle.trie.specs.Dense.{places_in, places_of}
 use Rattle.trie.specs.Holding.{seen_in}
 use Rattle.trie.specs.Tree.{entries_in}
+use Rattle.trie.proofs.CountLemmas.{counts_above, counts_below}
 use Rattle.trie.proofs.WriteLemmas.{shared_places}
 use Rattle.trie.proofs.OrderLemmas.{same_hash, value_at-order, without_key-order}
 use Rattle.trie.proofs.PlacesLemmas.{value_at-below, without_key-below, without_key-bounds, without_key-missing}
@@ -167,5 +168,27 @@ returns-then-is_eq-clause-missed g t c = λ none.
     same_hash g.H.KeyHash.hash_of g.K.Ord.cmp g.K.PartialEq.eq g.met.K.Ord.matches_eq
     g.met.H.KeyHash.respects_eq in
     let here = rw (leaf.entries_are, value_at-order g.H.KeyHash.hash_of g.K.Ord.cmp same c.args.key.now (c.in-Leaf.pair.value ∷ [])) at none in
-    let found : is_eq (g.K.Ord.cmp c.args.key.now c.in-Leaf.pair.value.0) ≡ true = cc in
+    let found : is_eq (g.K.Ord.cmp c.args.key.now c.in-Leaf.pair.value.0) ≡ true = search rules in
     value_alone (λ k. is_eq (g.K.Ord.cmp c.args.key.now k)) c.in-Leaf.pair.value found here
+
+pub with_place-requires-clause-placed : goal.with_place-requires-clause-placed
+with_place-requires-clause-placed g t c =
+    let rest = rw c.in-Left.is at c.in_ok-rest-in-Branch.ensures.map in
+    rw (c.step.ensures.hash, c.step.ensures.depth) at rest.placed
+
+pub returns-in_err-rest-in-Branch-clause-counted : goal.returns-in_err-rest-in-Branch-clause-counted
+returns-in_err-rest-in-Branch-clause-counted g t c = counts_below _ _ _ _ c.step.ensures.depth c.remove_at.ensures.counted
+
+pub returns-in_default-2-clause-counted : goal.returns-in_default-2-clause-counted
+returns-in_default-2-clause-counted g t c = counts_below _ _ _ _ c.step.ensures.depth c.remove_at.ensures.counted
+
+pub returns-in_err-children-in-Branch-clause-counted : goal.returns-in_err-children-in-Branch-clause-counted
+returns-in_err-children-in-Branch-clause-counted g t c = counts_below _ _ _ _ c.step.ensures.depth c.remove_at.ensures.counted
+
+pub returns-in_err-node-in-Branch-clause-counted : goal.returns-in_err-node-in-Branch-clause-counted
+returns-in_err-node-in-Branch-clause-counted g t c =
+    counts_above _ _ _ _ _ c.step.ensures.depth c.remove_at.ensures.counted c.with_place.ensures.counted
+
+pub returns-in_ok-node-in-Branch-clause-counted : goal.returns-in_ok-node-in-Branch-clause-counted
+returns-in_ok-node-in-Branch-clause-counted g t c =
+    counts_above _ _ _ _ _ c.step.ensures.depth c.remove_at.ensures.counted c.with_place.ensures.counted
