@@ -1,6 +1,6 @@
 -- Why a line ends a run.
 use Rattle.std.proofs.Common.{◌≡◌, ◌⊎◌, ◌∙◌, Result, Ok, Err, inl, inr, sym, subst}
-use Rattle.std.specs.Prelude.{IfErr}
+use Rattle.std.specs.Prelude.{IfErr, IfOk}
 use Rattle.script.specs.Deeds.{Deed}
 use Rattle.cells.specs.declared.refused.Refused.{Refused}
 use Rattle.cells.specs.declared.refused.Refused.TheVariants as refused
@@ -21,6 +21,12 @@ pub ends_for_worker : {T : Type 0} (does has : Result Deed Fault) (result : Resu
 ends_for_worker does has (Ok x) is workers ended = tt
 ends_for_worker does has (Err e) is workers (inl worker) = subst (EndsAt does) (sym worker) (for_worker (subst HasWorkers (sym is) workers))
 ends_for_worker does has (Err e) is workers (inr memory) = subst (EndsAt does) (sym memory) for_memory
+
+-- an answer that hands a text on ends as the text does
+pub ends_as_text : {S T : Type 0} (Is : Ended → Type 0) (block_of : S → T) (text : Result S Ended) (block : Result T Ended) → IfOk text (λ x. block ≡ Ok (block_of x)) → IfErr text (λ e. block ≡ Err e)
+    → IfErr text Is → IfErr block Is
+ends_as_text Is block_of (Ok x) block is same ended = subst (λ b. IfErr b Is) (sym is) tt
+ends_as_text Is block_of (Err e) block is same ended = subst (λ b. IfErr b Is) (sym same) ended
 
 -- a run that met a refusal of a report or of its writer ends so for the writer's sake alone, or for a worker's
 pub only_writer : (late : Refused) (e : Ended) → IsLate late → EndsBy late e → e ≡ WriteFailed → late ≡ refused.WriteFailed

@@ -4,7 +4,7 @@ use Rattle.std.proofs.lemmas.Bool.{cases_Bool}
 use Rattle.std.proofs.lemmas.Bool.Decides.{nat_tests}
 use Rattle.std.proofs.lemmas.List.{append-nil}
 use Rattle.std.specs.FinMap.{contains_key, insert, keys, len, len-empty, len-remove, remove}
-use Rattle.std.specs.Prelude.{Vec, nat_lt}
+use Rattle.std.specs.Prelude.{◌⊎◌, IfErr, IfOk, IsErr, OnOk, Vec, nat_lt}
 use Rattle.std.specs.declared.alloc.Global.{Global}
 use Rattle.cells.specs.CellOrder.{cell_cmp, cell_cmp-total}
 use Rattle.cells.specs.Laws.{len_rows, table_rows_delete, table_rows_put}
@@ -12,7 +12,7 @@ use Rattle.cells.specs.Tables.{Rows, laid_over, table}
 use Rattle.cells.specs.Updates.{AreLeft, Delete, Put, Update, puts, rows}
 use Rattle.cells.specs.Values.{Entry, Table}
 use Rattle.cells.specs.declared.cell.Cell.{Cell}
-use Rattle.cells.specs.declared.refused.Refused.TheVariants.{TooManyRows}
+use Rattle.cells.specs.declared.refused.Refused.TheVariants.{OutOfMemory, TooManyRows}
 use Rattle.trie.specs.Shapes.{shape_of}
 use Rattle.board.specs.Editions.{Begins, ChangesDraft, Editions}
 use Rattle.board.specs.Editions as keeper
@@ -28,6 +28,7 @@ use Rattle.script.specs.declared.block.Block.{Block}
 use Rattle.script.specs.declared.block.Block.TheVariants.{Text}
 use Rattle.script.specs.declared.command.Command.{Command}
 use Rattle.script.specs.declared.command.Command.TheVariants as command
+use Rattle.script.specs.declared.ended.Ended.{Ended}
 use Rattle.script.specs.declared.fault.Fault.{Fault}
 use Rattle.script.specs.declared.fault.Fault.TheVariants.{Line}
 
@@ -142,6 +143,27 @@ steps_text hash givens line number old new bytes executes = record {
   stands = executes.stands;
   asks = λ asked. absurd asked;
 }
+
+-- the same where the text may be wanting
+pub steps_as_text : {H : Type 0} (hash : Cell → ℕ) (givens : Givens) (line : List ℕ) (number : ℕ) (old new : Option Editions) (text : Result (Vec ℕ Global) Ended) (block : Result (Block H) Ended)
+    → IfOk text (λ bytes. block ≡ Ok (Text bytes)) → IfErr text (λ e. block ≡ Err e) → IfOk text (λ bytes. Executes hash givens line number old new bytes.items)
+    → IfOk block (Steps {H = H} hash givens line number old new)
+steps_as_text {H} hash givens line number old new (Ok bytes) block is same executes =
+    subst (λ b. IfOk b (Steps {H = H} hash givens line number old new)) (sym is) (steps_text hash givens line number old new bytes executes)
+steps_as_text {H} hash givens line number old new (Err e) block is same executes = subst (λ b. IfOk b (Steps {H = H} hash givens line number old new)) (sym same) tt
+
+-- what an answer has where it is Ok, and what it tells then
+pub both_ok : {T E : Type 0} (r : Result T E) (A : Type 0) (B C : T → Type 0) → ((x : T) → A → B x → C x) → OnOk r A → IfOk r B → IfOk r C
+both_ok (Ok x) A B C f a b = f x a b
+both_ok (Err e) A B C f a b = tt
+
+-- the block of a refused line; want of memory is no block
+pub executes_refused_text : (hash : Cell → ℕ) (givens : Givens) (line : List ℕ) (number : ℕ) (desk : Option Editions) (fault : Fault) (text : Result (Vec ℕ Global) Ended)
+    → (fault ≡ Line OutOfMemory) ⊎ (deed (schema_of_desk desk) line ≡ Err fault) → (fault ≡ Line OutOfMemory → IsErr text)
+    → IfOk text (λ bytes. bytes.items ≡ refusal number fault) → IfOk text (λ bytes. Executes hash givens line number desk desk bytes.items)
+executes_refused_text hash givens line number desk fault (Ok bytes) (inl wanting) memory is = absurd (let bad : false ≡ true = memory wanting in cc)
+executes_refused_text hash givens line number desk fault (Ok bytes) (inr does) memory is = executes_refused hash givens line number desk fault bytes.items does is
+executes_refused_text hash givens line number desk fault (Err e) asks memory is = tt
 
 pub steps_report : {H : Type 0} (hash : Cell → ℕ) (givens : Givens) (line : List ℕ) (number : ℕ) (k : Editions) (query : List ℕ) (block : Block H)
     → deed (Some (keeper.schema k)) line ≡ Ok (Reports (keeper.schema k) query) → Answers k number query block → Steps hash givens line number (Some k) (Some k) block

@@ -43,8 +43,24 @@ pub fn shape_block<H: KeyHash<Cell>>(
     let Ok(snapshot) = keeper.snapshot() else {
         return Err(Ended::OutOfMemory);
     };
+    let block = snapshot_block(alloc, &snapshot, number);
+    drop(snapshot);
+    block
+}
+
+/// The block of a shape of the snapshot's edition.
+fn snapshot_block<H: KeyHash<Cell>>(
+    alloc: Global,
+    snapshot: &Snapshot<H>,
+    number: u64,
+) -> Result<Vec<u8>, Ended>
+    ensures block { IfOk result (λ block. block.items ≡ shape_text number snapshot.now.number (shape_of H.hash_of (keys snapshot.now.rows))) }
+    ensures ended { IfErr result (λ e. e ≡ Ended.OutOfMemory) }
+{
     let shape = snapshot.root().shape()?;
-    shape_lines(alloc, number, snapshot.edition(), shape.as_slice())
+    let block = shape_lines(alloc, number, snapshot.edition(), shape.as_slice());
+    drop(shape);
+    block
 }
 
 /// The text of a shape: its heading, and a line for each prefix.

@@ -1,12 +1,15 @@
 //! The loads of a run: the rows of listed parts are read by workers, and laid over the draft.
 ghost use Rattle.std.specs.Prelude.{◌≡◌, ◌≤◌, ◌⊎◌, length, map, sum_by, IfErr, IfOk};
+ghost use Rattle.cells.specs.CellOrder.{cell_cmp};
+ghost use Rattle.cells.specs.Tables.{AreRowsOf, laid_over};
+ghost use Rattle.trie.specs.Maps.{map_of};
 ghost use Rattle.board.specs.Editions as editions;
 ghost use Rattle.crew.specs.Limits.{piece_limit};
 ghost use Rattle.loader.specs.Limits.{listed_limit};
 ghost use Rattle.loader.specs.Parts.{part_len, part_of, rows_of_parts};
 ghost use Rattle.script.specs.Limits.{script_limit};
 ghost use Rattle.script.specs.Listings.{rows_held, rows_loaded};
-ghost use Rattle.script.specs.Stands.{LoadsRows};
+ghost use Rattle.script.specs.Stands.{LaysOrOverflows, LoadsRows};
 
 use crate::block::refusal_block;
 use crate::ended::Ended;
@@ -14,11 +17,13 @@ use crate::fault::Fault;
 use crate::listing::{Listed, read_listing};
 use crate::step::Setup;
 use board::Keeper;
-use cells::{Cell, KeyHash};
+use cells::{Cell, KeyHash, Row};
 use crew::Gate;
 use loader::{PartFault, load};
+use std::alloc::Global;
 use std::sync::Wait;
 use std::thread::Threads;
+use trie::Trie;
 
 /// Puts the rows of the parts that the text lists, in listed order, and gives the line's block: nothing, or the
 /// refusal of the listing, of the first listed part that has a faulty record, or of a draft that would have too many
@@ -58,7 +63,7 @@ fn load_listed<H: KeyHash<Cell> + Send + Sync, G: Gate, R: Threads + Wait>(
 {
     let alloc = setup.alloc;
     let workers = setup.how.workers();
-    let rows = match load(
+    match load(
         setup.rt,
         alloc,
         listed,
@@ -66,20 +71,31 @@ fn load_listed<H: KeyHash<Cell> + Send + Sync, G: Gate, R: Threads + Wait>(
         workers,
         setup.gate,
     ) {
-        Ok(rows) => rows,
-        Err(PartFault::Bad { part, entry }) => {
-            return refusal_block(
-                alloc,
-                number,
-                Fault::Part {
-                    part,
-                    record: entry,
-                },
-            );
-        }
-        Err(PartFault::NoWorker) => return Err(Ended::NoWorker),
-        Err(PartFault::OutOfMemory) => return Err(Ended::OutOfMemory),
-    };
+        Ok(rows) => lay_over(alloc, keeper, rows, number),
+        Err(PartFault::Bad { part, entry }) => refusal_block(
+            alloc,
+            number,
+            Fault::Part {
+                part,
+                record: entry,
+            },
+        ),
+        Err(PartFault::NoWorker) => Err(Ended::NoWorker),
+        Err(PartFault::OutOfMemory) => Err(Ended::OutOfMemory),
+    }
+}
+
+/// Lays loaded rows over the draft, or refuses them where it would have too many.
+fn lay_over<H: KeyHash<Cell>>(
+    alloc: Global,
+    keeper: &mut Keeper<H>,
+    rows: Trie<Cell, Row, H>,
+    number: u64,
+) -> Result<Vec<u8>, Ended>
+    requires { AreRowsOf (editions.schema keeper.old) (map_of cell_cmp rows) }
+    ensures step { IfOk result (λ block. LaysOrOverflows keeper.old keeper.new (laid_over (map_of cell_cmp rows) (editions.draft keeper.old)) number block.items) }
+    ensures ended { IfErr result (λ e. e ≡ Ended.OutOfMemory) }
+{
     match keeper.absorb(rows) {
         Ok(()) => Ok(Vec::new(alloc)),
         Err(refused) => refusal_block(alloc, number, Fault::Line(refused)),

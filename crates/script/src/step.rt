@@ -1,5 +1,5 @@
 //! The step of one line: what it says is done, and its block is made.
-ghost use Rattle.std.specs.Prelude.{◌≡◌, ◌+◌, ◌<◌, ◌≤◌, ◌^◌, [], length, IfErr, IfOk, None, OnOk, Some};
+ghost use Rattle.std.specs.Prelude.{◌≡◌, ◌+◌, ◌<◌, ◌≤◌, ◌^◌, [], length, Err, IfErr, IfOk, None, Ok, OnOk, Some};
 ghost use Rattle.std.specs.FinMap.{remove};
 ghost use Rattle.cells.specs.Fitting.{IsRowOf};
 ghost use Rattle.board.specs.Editions.{ChangesDraft, Publishes};
@@ -88,7 +88,7 @@ fn execute_first<H: KeyHash<Cell>, G: Gate, R>(
 }
 
 /// The same once there is a table.
-#[tactic(auto, using(crate::proofs::StepsLemmas::executes_nothing, crate::proofs::StepsLemmas::executes_refused, crate::proofs::StepsLemmas::steps_report, crate::proofs::StepsLemmas::steps_text, crate::proofs::StepsLemmas::executes_publish, crate::proofs::StepsLemmas::executes_delete))]
+#[tactic(auto, using(crate::proofs::StepsLemmas::executes_nothing, crate::proofs::StepsLemmas::steps_report, crate::proofs::StepsLemmas::steps_text))]
 fn execute_kept<H: KeyHash<Cell> + Send + Sync, G: Gate, R: Threads + Wait>(
     setup: &Setup<'_, R, G>,
     keeper: &mut Keeper<H>,
@@ -106,19 +106,30 @@ fn execute_kept<H: KeyHash<Cell> + Send + Sync, G: Gate, R: Threads + Wait>(
         Ok(Statement::Load(listing)) => {
             // The law by which loaded rows are those of puts behind all that came before; it does nothing.
             later_puts_lie_over();
-            let block = execute_load(setup, keeper, listing, line.number)?;
-            Ok(Block::Text(block))
+            text_block(execute_load(setup, keeper, listing, line.number))
         }
-        Ok(Statement::Put(row)) => Ok(Block::Text(put(alloc, keeper, row, line.number)?)),
-        Ok(Statement::Delete(key)) => Ok(Block::Text(delete(alloc, keeper, key)?)),
-        Ok(Statement::Publish) => Ok(Block::Text(publish(alloc, setup.gate, keeper)?)),
+        Ok(Statement::Put(row)) => text_block(put(alloc, keeper, row, line.number)),
+        Ok(Statement::Delete(key)) => text_block(delete(alloc, keeper, key)),
+        Ok(Statement::Publish) => text_block(publish(alloc, setup.gate, keeper)),
         Ok(Statement::Report(query)) => execute_report(alloc, keeper, query, line.number),
         Ok(Statement::Shape) => {
             // The law by which the block is that of the published rows; it does nothing.
             rows_have_the_shape_of_their_keys::<H>();
-            Ok(Block::Text(shape_block(alloc, keeper, line.number)?))
+            text_block(shape_block(alloc, keeper, line.number))
         }
-        Err(fault) => Ok(Block::Text(refusal_block(alloc, line.number, fault)?)),
+        Err(fault) => text_block(refusal_block(alloc, line.number, fault)),
+    }
+}
+
+/// The block of a line that gives this text.
+fn text_block<H: KeyHash<Cell>>(text: Result<Vec<u8>, Ended>) -> Result<Block<H>, Ended>
+    ensures found { IfOk text (λ bytes. result ≡ Ok (Block.Text bytes)) }
+    ensures planned { IfOk result IsPlanned }
+    ensures ended { IfErr text (λ e. result ≡ Err e) }
+{
+    match text {
+        Ok(bytes) => Ok(Block::Text(bytes)),
+        Err(ended) => Err(ended),
     }
 }
 
