@@ -176,6 +176,24 @@ SHAPES = lines_by(
     [options(workers, "plain", 100) for workers in WORKERS],
 )
 
+# Reports and shapes of both orders.
+BOTH = lines_by(
+    "two parts in both orders",
+    [
+        "table T (K INT KEY, V INT)",
+        "load 1 2",
+        "publish",
+        ("report SELECT K, SUM(V) FROM T GROUP BY K", block(1, "K | SUM(V)", "1 | 11", "2 | 20")),
+        ("shape", block(1, "- 2")),
+        "load 2 1",
+        "publish",
+        ("report SELECT K, SUM(V) FROM T GROUP BY K", block(2, "K | SUM(V)", "1 | 10", "2 | 20")),
+        ("shape", block(2, "- 2")),
+    ],
+    TWO,
+    [options(workers, "plain", 100) for workers in WORKERS],
+)
+
 # A part of 4,194,304 bytes: the limit is 262,144 times as many, counted at each listing.
 LISTED = [
     script(
@@ -187,7 +205,7 @@ LISTED = [
     )
 ]
 
-CASES = SHAPES + LISTED
+CASES = SHAPES + BOTH + LISTED
 for title, parts, rows, lines in LOADS:
     each = [options(workers, hash, rows) for workers in WORKERS for hash in HASHES]
     CASES += lines_by(title, lines, parts, each)

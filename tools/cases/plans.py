@@ -96,6 +96,18 @@ HEADINGS = [
     ),
 ]
 
+# sets up to the most and beyond, of tables without rows: each empty set has a row
+NINE = "table W (A INT KEY, B INT, C INT, D INT, E INT, F INT, G INT, H INT, I INT)"
+SIXTEEN = "table W (A INT KEY" + "".join(f", {letter} INT" for letter in "BCDEFGHIJKLMNOP") + ")"
+NO_ROWS = [
+    (NINE, None),
+    ("report SELECT COUNT(*) FROM W GROUP BY CUBE(A, B, C, D, E, F, G, H)", "edition 0\nCOUNT(*)\n0"),
+    ("report SELECT COUNT(*) FROM W GROUP BY CUBE(A, B, C, D, E, F, G, H, I)", 14),
+    ("report SELECT COUNT(*) FROM W GROUP BY ROLLUP(A" + ", A" * 254 + ")", "edition 0\nCOUNT(*)\n0"),
+    ("report SELECT COUNT(*) FROM W GROUP BY ROLLUP(A" + ", A" * 255 + ")", 14),
+]
+MANY = [(SIXTEEN, None), ("report SELECT COUNT(*) FROM W GROUP BY CUBE(A" + ", A" * 199 + ")", 14)]
+
 # by the number of rows for which the condition is true, and for which its NOT is
 TRUE, FALSE, UNKNOWN = (1, 0), (0, 1), (0, 0)
 TRUTHS = [
@@ -125,6 +137,8 @@ def truths():
 CASES = [
     lines("faults in their order", reports(CHECKED)),
     lines("numbers of grouping sets", reports((f"{COUNT} GROUP BY {elements}", gives) for elements, gives in NUMBERS)),
+    lines("grouping sets of no rows", NO_ROWS),
+    lines("a CUBE of two hundred columns", MANY),
     lines("grouping sets", reports(LISTED)),
     lines("headings", reports(HEADINGS)),
     lines("three truths", reports(truths())),

@@ -1,4 +1,4 @@
-"""Deletes, and shapes under a hash whose collisions are chosen."""
+"""Deletes, puts up to a limit, and shapes under a hash whose collisions are chosen."""
 
 from cases.table import block, lines, lines_by
 
@@ -86,6 +86,23 @@ DELETES = [
     ),
 ]
 
+PUTS = [
+    (
+        "puts up to the most rows",
+        [
+            "table T (K INT KEY, V INT)",
+            "put 1,1",
+            "put 2,2",
+            ("put 3,3", 9),
+            "put 2,7",
+            ("put 4", 7),
+            "publish",
+            ("report SELECT COUNT(*), SUM(V) FROM T", block(1, "COUNT(*) | SUM(V)", "2 | 8")),
+            ("report SELECT K, SUM(V) FROM T GROUP BY K", block(1, "K | SUM(V)", "1 | 1", "2 | 7")),
+        ],
+    ),
+]
+
 SHAPES = [
     (
         "shapes of the last edition",
@@ -162,5 +179,5 @@ SHAPES = [
     ),
 ]
 
-CASES = [case for title, rows in DELETES for case in lines_by(title, rows, options=ROOM_FOR_TWO)]
+CASES = [case for title, rows in DELETES + PUTS for case in lines_by(title, rows, options=ROOM_FOR_TWO)]
 CASES += [lines(title, rows, options=["--rows", "9", "--hash", "plain"]) for title, rows in SHAPES]

@@ -49,6 +49,37 @@ CORRECTED = [
 ]
 
 
+# Counts of different cells, which workers join, with 64 parts that as many workers read.
+PARTS = [f"K,A,B\n{key},{key % 5},t{key % 7}\n{key + 64},{key % 5},\n" for key in range(64)]
+DIFFERENT = [
+    "table T (K INT KEY, A INT, B TEXT)",
+    f"load {' '.join(map(str, range(1, 65)))}",
+    "publish",
+    (
+        "report SELECT COUNT(*), COUNT(DISTINCT A), COUNT(DISTINCT B) FROM T",
+        block(1, "COUNT(*) | COUNT(DISTINCT A) | COUNT(DISTINCT B)", "128 | 5 | 7"),
+    ),
+    (
+        "report SELECT A, COUNT(DISTINCT B), COUNT(DISTINCT K) FROM T WHERE K < 14 GROUP BY ROLLUP(A)",
+        block(
+            1,
+            "A | COUNT(DISTINCT B) | COUNT(DISTINCT K)",
+            *[f"{group} | 3 | 3" for group in range(4)],
+            "4 | 2 | 2",
+            "NULL | 7 | 14",
+        ),
+    ),
+]
+
+# Four keys, of which three share their first digit where a key is its own hash.
+FOUR = [
+    "table T (K INT KEY)",
+    *(f"put {key}" for key in (1, 17, 33, 2)),
+    "publish",
+    ("report SELECT COUNT(*), MIN(K), MAX(K) FROM T", block(1, "COUNT(*) | MIN(K) | MAX(K)", "4 | 1 | 33")),
+]
+
+
 def options(rows, depths):
     return [
         ("--workers", workers, "--depth", depth, "--rows", rows, "--hash", hash)
@@ -62,3 +93,5 @@ CASES = lines_by("four sales", SALES, [SALES_PART], options("100", ("0", "1", "1
 CASES += lines_by("seventy rows", SEVENTY, options=options("100", ("0", "1", "16")))
 CASES += lines_by("ten editions", TEN, options=options("20", ("1",)))
 CASES += lines_by("a corrected row", CORRECTED, options=options("20", ("1",)))
+CASES += lines_by("different cells", DIFFERENT, PARTS, options("200", ("0", "16")))
+CASES += lines_by("every depth", FOUR, options=options("9", [str(depth) for depth in range(17)]))
