@@ -1,5 +1,6 @@
 pub mod FieldsLemmas
 pub mod HalvesLemmas
+pub mod HeaderLemmas
 pub mod ListedLemmas
 pub mod OrderLemmas
 pub mod PartLemmas

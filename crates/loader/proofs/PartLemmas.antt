@@ -12,7 +12,7 @@ use Rattle.cells.specs.Records.{row_of}
 use Rattle.cells.specs.Tables.{keyed_rows}
 use Rattle.cells.specs.Values.{Entry, Table}
 use Rattle.cells.specs.declared.cell.Cell.{Cell}
-use Rattle.loader.specs.Loads.{Content, IsRead, Reads}
+use Rattle.loader.specs.Loads.{Content, IsRead, IsContent}
 use Rattle.loader.specs.Parts.{and_rows, is_header, rows_behind_header, rows_from}
 use Rattle.loader.specs.Records.{records_of}
 
@@ -82,7 +82,7 @@ reached_fault t said number old new fields pairs reached took bad =
 
 -- what is read behind the header is read from the whole part
 pub read_behind : (t : Table) (header : List (List ℕ)) (later all : List (List (List ℕ))) (most : ℕ) (content : Content) → all ≡ header ∷ later →
-    is_header t.columns header ≡ true → length later ≤ most → Reads t (rows_from t 1 later) (length later) content → Reads t (rows_behind_header t all) most content
+    is_header t.columns header ≡ true → length later ≤ most → IsContent t (rows_from t 1 later) (length later) content → IsContent t (rows_behind_header t all) most content
 read_behind t header later all most (Ok rows) took is few read = record {
   rs = read.rs;
   is = ap (rows_behind_header t) took ∙ ap (λ b. if b then rows_from t 1 later else Err 0) is ∙ read.is;

@@ -8,6 +8,8 @@ use Rattle.cells.specs.Tables.{AreRowsOf, keyed_rows, table}
 use Rattle.cells.specs.Updates.{puts, rows}
 use Rattle.cells.specs.Values.{Entry, Table}
 use Rattle.cells.specs.declared.cell.Cell.{Cell}
+use Rattle.cells.specs.declared.refused.Refused.{Refused}
+use Rattle.cells.specs.declared.refused.Refused.TheVariants as refused
 use Rattle.trie.specs.Maps.{map_of}
 use Rattle.loader.specs.Parts.{FaultyRecord, rows_of_part}
 use Rattle.loader.specs.declared.fault.PartFault.{PartFault}
@@ -35,19 +37,24 @@ abbrev pub Content : Type 0
 Content = Result (Vec (Cell × Entry) Global) ℕ
 
 -- the rows that are said, or the number of the faulty record that is said
-abbrev pub Reads : Table → Result (List Entry) ℕ → ℕ → Content → Type 0
-Reads t said most (Ok rows) = IsRead t said most rows.items
-Reads t said most (Err entry) = said ≡ Err entry
+abbrev pub IsContent : Table → Result (List Entry) ℕ → ℕ → Content → Type 0
+IsContent t said most (Ok rows) = IsRead t said most rows.items
+IsContent t said most (Err entry) = said ≡ Err entry
 
 -- a part's rows, of which there are no more than bytes, or the number of its first faulty record
 abbrev pub ReadsPart : Table → List ℕ → Content → Type 0
-ReadsPart t bytes content = Reads t (rows_of_part t bytes) (length bytes) content
+ReadsPart t bytes content = IsContent t (rows_of_part t bytes) (length bytes) content
 
 -- no fault is said, and the trie holds what the rows leave that are said
 pub record AreLoaded (said : Result (List Entry) FaultyRecord) (held : Held) : Type 0 where
   pub rs : List Entry
   pub is : said ≡ Ok rs
   pub map : map_of cell_cmp held ≡ table (rows (puts rs))
+
+-- how the refusal of a worker, or of one to be started, keeps parts from being loaded
+pub record KeepsFromLoading (late : Refused) (fault : PartFault) : Type 0 where
+  pub memory : late ≡ refused.OutOfMemory → fault ≡ OutOfMemory
+  pub worker : late ≡ refused.NoWorker → fault ≡ NoWorker
 
 -- the rows that are said, or the fault that is said; nothing is said of memory and of threads
 abbrev pub Loads : Result (List Entry) FaultyRecord → Result Held PartFault → Type 0

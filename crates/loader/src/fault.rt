@@ -1,7 +1,9 @@
 //! Why parts were not loaded.
 ghost use Rattle.std.specs.Prelude.{◌≡◌};
+ghost use Rattle.loader.specs.Loads.{KeepsFromLoading};
 ghost use Rattle.loader.specs.declared.fault.PartFault.TheVariants.{OutOfMemory};
 
+use cells::Refused;
 use std::alloc::{AllocError, AllocFailed};
 
 /// Why the parts of a list were not loaded.
@@ -14,6 +16,18 @@ pub enum PartFault {
     OutOfMemory,
     /// A thread could not be started.
     NoWorker,
+}
+
+impl From<Refused> for PartFault {
+    ghost from_gives = { KeepsFromLoading };
+
+    /// What keeps parts from being loaded where workers met this refusal: want of a thread, or of memory.
+    fn from(refused: Refused) -> PartFault {
+        match refused {
+            Refused::NoWorker => PartFault::NoWorker,
+            _ => PartFault::OutOfMemory,
+        }
+    }
 }
 
 impl From<AllocError> for PartFault {

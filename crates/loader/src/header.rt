@@ -9,13 +9,15 @@ use cells::Column;
 pub(crate) fn is_header(columns: &[Column], fields: &[&[u8]]) -> bool
     ensures { result ≡ is_header columns.now (map (λ f. f.now) fields.now) }
 {
-    match (columns.split_first(), fields.split_first()) {
-        (None, None) => true,
-        (Some((column, columns)), Some((field, fields))) => {
-            names_column(column, field) && is_header(columns, fields)
-        }
-        _ => false,
+    if columns.len() != fields.len() {
+        return false;
     }
+    for (place, column) in columns.iter().enumerate() {
+        if !names_column(column, fields[place]) {
+            return false;
+        }
+    }
+    true
 }
 
 /// Whether the field, with its letters in upper case, is the name of the column.
@@ -29,11 +31,13 @@ fn names_column(column: &Column, field: &[u8]) -> bool
 fn is_upper_case_of(name: &[u8], field: &[u8]) -> bool
     ensures { result ≡ bytes_eq (map to_ascii_uppercase field.now) name.now }
 {
-    match (name.split_first(), field.split_first()) {
-        (None, None) => true,
-        (Some((letter, name)), Some((byte, field))) => {
-            byte.to_ascii_uppercase() == *letter && is_upper_case_of(name, field)
-        }
-        _ => false,
+    if name.len() != field.len() {
+        return false;
     }
+    for (place, letter) in name.iter().enumerate() {
+        if field[place].to_ascii_uppercase() != *letter {
+            return false;
+        }
+    }
+    true
 }

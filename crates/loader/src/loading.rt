@@ -15,7 +15,7 @@ ghost use Rattle.cells.specs.Tables.{AreRowsOf};
 use crate::fault::PartFault;
 use crate::halves::{ListedRows, trie_of_list};
 use crate::part::{Content, read_part};
-use cells::{Cell, KeyHash, Refused, Row, Schema};
+use cells::{Cell, KeyHash, Row, Schema};
 use crew::{Gate, Task, share_out};
 use std::alloc::{AllocError, Global};
 use std::sync::Wait;
@@ -59,11 +59,7 @@ pub fn load<H: KeyHash<Cell> + Send + Sync, G: Gate, R: Threads + Wait>(
         schema,
         gate,
     };
-    let shares = match share_out(rt, alloc, parts.len() as u64, workers, &reading) {
-        Ok(shares) => shares,
-        Err(Refused::NoWorker) => return Err(PartFault::NoWorker),
-        Err(_) => return Err(PartFault::OutOfMemory),
-    };
+    let shares = share_out(rt, alloc, parts.len() as u64, workers, &reading)?;
     let found = in_order(alloc, parts, schema, shares)?;
     let listed = rows_of(alloc, parts, schema, found)?;
     trie_of_list(rt, alloc, listed, parts.len(), workers, gate)

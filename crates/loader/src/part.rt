@@ -1,6 +1,6 @@
 //! One part: a header, and a row for each record behind it.
 ghost use Rattle.std.specs.Prelude.{◌+◌, ◌<◌, ◌^◌, length, IfOk};
-ghost use Rattle.loader.specs.Loads.{Reads, ReadsPart};
+ghost use Rattle.loader.specs.Loads.{IsContent, ReadsPart};
 ghost use Rattle.loader.specs.Parts.{rows_from};
 
 use crate::header::is_header;
@@ -39,7 +39,7 @@ fn read_rows(
     schema: &Schema,
 ) -> Result<Content, AllocError>
     requires { length records + 1 < 2 ^ 64 }
-    ensures { IfOk result (Reads schema.now (rows_from schema.now 1 records.entry) (length records.entry)) }
+    ensures { IfOk result (IsContent schema.now (rows_from schema.now 1 records.entry) (length records.entry)) }
 {
     let mut rows = Vec::new(alloc);
     let mut record = ByteRecord::new(alloc);
