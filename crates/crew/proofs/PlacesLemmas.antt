@@ -3,7 +3,7 @@ use Rattle.std.proofs.Common.{◌≡◌, ℕ, zero, suc, ◌+◌, ◌<◌, ◌�
 use Rattle.std.specs.List.{AllByRecursion, range_with_len}
 use Rattle.std.proofs.lemmas.Bool.{ltb-false, ltb-true}
 use Rattle.std.proofs.lemmas.List.Sorted.{IsPermutation-refl, IsPermutation-keeps, IsPermutation-trans, IsPermutation-cons, IsPermutation-middle, IsPermutation-append_left, IsPermutation-append_right, IsPermutation-append_comm}
-use Rattle.crew.specs.Draws.{IsRising}
+use Rattle.crew.specs.Draws.{PlacesRise}
 
 -- ---- permutations
 
@@ -95,7 +95,7 @@ first_of from count place places low here later = by (ltb from place) refl
         }
 
 -- rising places of a range are a part of it
-pub part_of : (count from : ℕ) (places : List ℕ) → IsRising places → AllByRecursion (λ place. from ≤ place) places →
+pub part_of : (count from : ℕ) (places : List ℕ) → PlacesRise places → AllByRecursion (λ place. from ≤ place) places →
     AllByRecursion (λ place. place < from + count) places → IsPartOf from count places
 part_of zero from [] rising low high = record { left = []; whole = IsPermutation-refl [] }
 part_of zero from (place ∷ places) rising low high =

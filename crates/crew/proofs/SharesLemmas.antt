@@ -4,7 +4,7 @@ use Rattle.std.specs.Prelude.{Any, flat_map, IsPermutation, Ok, IfOk}
 use Rattle.std.specs.List.{AllByRecursion, AllZip, concat, range_with_len}
 use Rattle.std.proofs.lemmas.List.Elements.{All-map, All-head, All-tail}
 use Rattle.std.proofs.lemmas.List.Sorted.{IsPermutation-refl}
-use Rattle.crew.specs.Draws.{IsRising}
+use Rattle.crew.specs.Draws.{PlacesRise}
 use Rattle.crew.specs.Seats.{DealValue, SeatValue, IsSeatOf, drawn_by, is_finished, number_of}
 use Rattle.crew.specs.Shares.{AreShared}
 use Rattle.crew.specs.Tasks.{IsShare}
@@ -60,7 +60,7 @@ module _ {Given : Type 0} (deal : DealValue) (gives : List ℕ → Given → Typ
       (subst (λ r. IfOk r (gives (drawn_by w.seat))) here (All-head IsDone w ws done).given, each ws gs (All-tail IsDone w ws done) rest)
 
   -- what seats draw are shares, where their pieces rise and are below the number of pieces
-  module _ (rising : (s : SeatValue) → IsRising (drawn_by s)) (below : (s : SeatValue) → AllByRecursion (λ piece. piece < s.pieces) (drawn_by s)) where
+  module _ (rising : (s : SeatValue) → PlacesRise (drawn_by s)) (below : (s : SeatValue) → AllByRecursion (λ piece. piece < s.pieces) (drawn_by s)) where
     all_shares : (all : List (Worked Given)) → All IsDone all → AllByRecursion (IsShare deal.pieces) (shares all)
     all_shares [] done = tt
     all_shares (w ∷ ws) done =

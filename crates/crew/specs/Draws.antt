@@ -27,6 +27,6 @@ pub record BeginsWith (history : List ℕ) (seat : ℕ) (seen : List ℕ) : Type
   pub no_other : IsAbsent seat rest
 
 -- each number is below all that follow it
-abbrev pub IsRising : List ℕ → Type 0
-IsRising [] = ⊤
-IsRising (n ∷ ns) = AllByRecursion (λ m. n < m) ns × IsRising ns
+abbrev pub PlacesRise : List ℕ → Type 0
+PlacesRise [] = ⊤
+PlacesRise (n ∷ ns) = AllByRecursion (λ m. n < m) ns × PlacesRise ns

@@ -1,11 +1,11 @@
 -- Tasks: what is made of places, and given for them.
 use Rattle.std.specs.Prelude.{◌<◌, ℕ, List, [], ◌∷◌, ◌++◌}
 use Rattle.std.specs.List.{AllByRecursion}
-use Rattle.crew.specs.Draws.{IsRising}
+use Rattle.crew.specs.Draws.{PlacesRise}
 
 -- a share of the places below a number: some of them, rising
 pub record IsShare (count : ℕ) (places : List ℕ) : Type 0 where
-  pub rising : IsRising places
+  pub rising : PlacesRise places
   pub below : AllByRecursion (λ place. place < count) places
 
 -- it was made of a share

@@ -1,7 +1,7 @@
 //! A deal and its seats.
 ghost use Rattle.std.specs.Prelude.{◌≡◌, ◌≤◌, ◌<◌, ◌++◌, ℕ, true, false, List, Any, length, map, min, All, None, flat_map, option_to_list, IfOk, IsPermutation};
 ghost use Rattle.std.specs.List.{range_with_len, AllByRecursion};
-ghost use Rattle.crew.specs.Draws.{IsRising};
+ghost use Rattle.crew.specs.Draws.{PlacesRise};
 ghost use Rattle.crew.specs.Limits.{piece_limit, seat_limit};
 ghost use Rattle.crew.specs.Seats.{BeginsWithAll, DealValue, Draws, DrawsOnce, SeatValue, IsSeatOf, drawn_by, is_finished, new_seats, number_of, sight_of};
 
@@ -164,6 +164,6 @@ impl Seat {
 
 /// What a seat drew rises, and is below the number of pieces; so no seat drew a piece twice.
 pub fn draws_rise()
-    ensures rising { (seat : SeatValue) → IsRising (drawn_by seat) }
+    ensures rising { (seat : SeatValue) → PlacesRise (drawn_by seat) }
     ensures below { (seat : SeatValue) → AllByRecursion (λ piece. piece < seat.pieces) (drawn_by seat) }
 {}

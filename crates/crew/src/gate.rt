@@ -16,8 +16,8 @@ pub trait Gate: Sync {
     /// publish that is accepted, by the thread of the keeper.
     fn published(&self, _edition: u64) {}
 
-    /// The viewer of this number, counted from 0, is about to report on the edition that it took. Called by the
-    /// viewer's thread.
+    /// The viewer of this number, counted from 1, has taken a snapshot of the edition and is about to report on it. Called
+    /// by the viewer's thread.
     fn viewing(&self, _viewer: u64, _edition: u64) {}
 
     /// The part at this place of a list of parts, counted from 0, is about to be read. Called by the worker that

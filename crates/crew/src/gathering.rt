@@ -1,5 +1,5 @@
 //! The partial result of the pieces of a table, which workers gather.
-ghost use Rattle.std.specs.Prelude.{◌≡◌, ◌<◌, ◌≤◌, ◌⊎◌, ℕ, List, [], length, slice_index_or, IfErr, IfOk};
+ghost use Rattle.std.specs.Prelude.{◌≡◌, ◌<◌, ◌≤◌, ◌⊎◌, ℕ, List, [], length, min, slice_index_or, vec_len, IfErr, IfOk};
 ghost use Rattle.cells.specs.declared.refused.Refused.TheVariants as Refused;
 ghost use Rattle.crew.specs.Gathering.{kept_at, kept_in, rows_at, rows_in};
 ghost use Rattle.crew.specs.Limits.{piece_limit, seat_limit};
@@ -43,8 +43,25 @@ pub fn gather<H: KeyHash<Cell> + KeyHash<Tuple> + Send + Sync, G: Gate, R: Threa
     ensures refused { IfErr result (λ e. (e ≡ Refused.NoWorker) ⊎ (e ≡ Refused.OutOfMemory)) }
 {
     let gathering = Gathering { plan, pieces, gate };
-    let partials = share_out(rt, alloc, pieces.len() as u64, workers, &gathering)?;
+    let partials = partials_of(rt, alloc, &gathering, workers)?;
     Ok(joined(alloc, &gathering, partials)?)
+}
+
+/// A partial result of each worker, of the pieces that it drew. There are as many workers as the smaller of `workers` and
+/// the number of pieces.
+fn partials_of<H: KeyHash<Cell> + KeyHash<Tuple> + Send + Sync, G: Gate, R: Threads + Wait>(
+    rt: &R,
+    alloc: Global,
+    gathering: &Gathering<'_, H, G>,
+    workers: u64,
+) -> Result<Vec<Partial<H>>, Refused>
+    requires pieces { length gathering.now.pieces ≤ piece_limit }
+    requires workers { (1 ≤ workers) × (workers ≤ seat_limit) }
+    ensures shared { IfOk result (λ v. AreShared (λ places. Stands H.KeyHash-2.hash_of gathering.now.plan (kept_at gathering.now places)) (length gathering.now.pieces) v.items) }
+    ensures workers { IfOk result (λ v. vec_len v ≡ min workers (length gathering.now.pieces)) }
+    ensures refused { IfErr result (λ e. (e ≡ Refused.NoWorker) ⊎ (e ≡ Refused.OutOfMemory)) }
+{
+    share_out(rt, alloc, gathering.pieces.len() as u64, workers, gathering)
 }
 
 /// The work on all pieces: each worker folds those that it draws into one partial result.

@@ -1,5 +1,5 @@
 //! Workers in threads of their own.
-ghost use Rattle.std.specs.Prelude.{◌≡◌, ◌⊎◌, [], vec_len, IfErr, IfOk};
+ghost use Rattle.std.specs.Prelude.{◌≡◌, ◌≤◌, ◌⊎◌, [], vec_capacity, vec_len, IfErr, IfOk};
 ghost use Rattle.std.specs.PromisedHandle.{KeepsEach};
 ghost use Rattle.cells.specs.declared.refused.Refused.TheVariants as Refused;
 ghost use Rattle.crew.specs.Seats.{IsSeatOf, new_seats};
@@ -12,11 +12,11 @@ use cells::Refused;
 use std::alloc::Global;
 use std::sync::Wait;
 use std::thread;
-use std::thread::{Promise, PromisedHandle, Scope, Threads, join_promised};
+use std::thread::{Promise, PromisedHandle, Scope, Threads};
 
 /// What workers hand back, one at each seat of the deal, in the order of the seats. Each runs in a thread of its own, and
 /// all threads that were started are joined before this returns, however it ends. Where a thread can't be started, no
-/// more are.
+/// more are. All memory is taken before the first thread starts, so that each seat comes back where all were.
 pub(crate) fn run_all<K: Task, R: Threads + Wait>(
     rt: &R,
     alloc: Global,
@@ -43,6 +43,7 @@ pub(crate) fn run_all<K: Task, R: Threads + Wait>(
                 deal,
                 task,
             };
+            let worked = Vec::with_capacity(alloc, seats.len())?;
             let mut handles = Vec::with_capacity(alloc, seats.len())?;
             for seat in seats {
                 let Ok(handle) = start.worker(seat) else {
@@ -51,7 +52,7 @@ pub(crate) fn run_all<K: Task, R: Threads + Wait>(
                 };
                 handles.push_reserved(handle);
             }
-            joined(rt, handles)
+            Ok(joined(rt, handles, worked))
         },
     )
 }
@@ -111,22 +112,21 @@ impl<'a, K: Task> Promise<Worked<K::Given>> for Promised<'a, K> {
     ghost kept_by = { λ promise worked. IsWorked promise.deal.now (K.gives promise.task.now) promise.number worked };
 }
 
-// What the threads hand back, in their order. Where there is no memory for the list of it, they are joined all the same.
+// What the threads hand back, in their order, in a list that has room for it.
 fn joined<T: Drop, P: Promise<T>, R: Threads>(
     rt: &R,
     handles: Vec<PromisedHandle<T, P>>,
-) -> Result<Vec<T>, Refused>
-    ensures many { IfOk result (λ v. vec_len v ≡ vec_len handles) }
-    ensures each { IfOk result (λ v. KeepsEach P.Promise (vec_len handles) handles.items v.items) }
-    ensures refused { IfErr result (λ e. e ≡ Refused.OutOfMemory) }
+    mut all: Vec<T>,
+) -> Vec<T>
+    requires empty { vec_len all ≡ 0 }
+    requires room { vec_len handles ≤ vec_capacity all }
+    ensures many { vec_len result ≡ vec_len handles }
+    ensures each { KeepsEach P.Promise (vec_len handles) handles.items result.items }
 {
-    match join_promised(rt, handles) {
-        Ok(all) => Ok(all),
-        Err(refused) => {
-            join_all(rt, refused.value);
-            Err(Refused::OutOfMemory)
-        }
+    for handle in handles {
+        all.push_reserved(handle.join(rt));
     }
+    all
 }
 
 // Joins the threads, and lets go of what they hand back.

@@ -1,5 +1,5 @@
 //! Places shared out among workers.
-ghost use Rattle.std.specs.Prelude.{◌≡◌, ◌≤◌, ◌⊎◌, map, min, Ok, vec_len, IfErr, IfOk};
+ghost use Rattle.std.specs.Prelude.{◌≡◌, ◌≤◌, ◌⊎◌, [], map, min, Ok, vec_capacity, vec_len, IfErr, IfOk};
 ghost use Rattle.cells.specs.declared.refused.Refused.TheVariants as Refused;
 ghost use Rattle.crew.specs.Limits.{piece_limit, seat_limit};
 ghost use Rattle.crew.specs.Shares.{AreShared};
@@ -40,28 +40,33 @@ pub fn share_out<K: Task, R: Threads + Wait>(
     }
     draws_rise();
     let (deal, seats) = Deal::new(alloc, count, workers.min(count))?;
+    // Room for what comes back is taken before a thread starts, so that the deal is closed by all its seats before a want
+    // of memory is looked for.
+    let back = Vec::with_capacity(alloc, seats.len())?;
+    let results = Vec::with_capacity(alloc, seats.len())?;
     let worked = run_all(rt, alloc, &deal, seats, task)?;
-    let (seats, results) = parted(alloc, worked)?;
+    let (seats, results) = parted(worked, back, results);
     deal.close(seats);
     Ok(all_given(alloc, results)?)
 }
 
-// The seats, and what was given at each.
+// The seats, and what was given at each, in lists that have room for them.
 fn parted<T: Drop>(
-    alloc: Global,
     worked: Vec<Worked<T>>,
-) -> Result<(Vec<Seat>, Vec<Result<T, AllocError>>), AllocError>
-    ensures seats { IfOk result (λ r. r.0.items ≡ map seat_of worked.items) }
-    ensures given { IfOk result (λ r. r.1.items ≡ map given_of worked.items) }
+    mut seats: Vec<Seat>,
+    mut results: Vec<Result<T, AllocError>>,
+) -> (Vec<Seat>, Vec<Result<T, AllocError>>)
+    requires empty { (seats.items ≡ []) × (results.items ≡ []) }
+    requires room { (vec_len worked ≤ vec_capacity seats) × (vec_len worked ≤ vec_capacity results) }
+    ensures seats { result.0.items ≡ map seat_of worked.items }
+    ensures given { result.1.items ≡ map given_of worked.items }
 {
-    let mut seats = Vec::with_capacity(alloc, worked.len())?;
-    let mut results = Vec::with_capacity(alloc, worked.len())?;
     for one in worked {
         let Worked { seat, given } = one;
         seats.push_reserved(seat);
         results.push_reserved(given);
     }
-    Ok((seats, results))
+    (seats, results)
 }
 
 // What was given at all seats, or Err where there was no memory at one.

@@ -1,6 +1,7 @@
-use Rattle.std.proofs.Common.{◌≡◌, length, arith, rules, sym, ap, ◌∙◌}
+use Rattle.std.proofs.Common.{◌≡◌, ◌+◌, get_or, length, arith, rules, subst, sym, ap, ◌∙◌}
 use Rattle.std.specs.Vec.Iter.{into_iter_items}
 use Rattle.crew.specs.Seats.{new_seat}
+use Rattle.crew.specs.Works.{IsWorked}
 use Rattle.crew.proofs.ListsLemmas.{added, all_new, as_many, taken}
 use Rattle.crew.proofs.running.fn.run_all.scope.Goals as goal
 
@@ -41,4 +42,37 @@ loop-seat-preserved g c =
       started = added (λ number handle. (handle.promise.deal.now ≡ deal) × (handle.promise.task.now ≡ c.captures.task.now) × (handle.promise.number ≡ number)) handles c.push_reserved.new.self.items c.in-Ok.handle more l.started
           (made.deal, made.task, made.number ∙ ap (λ s. s.number) turn.0);
       room = l.room ∙ sym c.push_reserved.ensures.capacity;
+    }
+
+pub joined-requires : goal.joined-requires
+joined-requires g c =
+    let seats : 0 + length c.captures.seats.items ≡ c.captures.deal.now.seats = (all_new c.captures.deal.now c.captures.seats.items c.requires.0).0 in
+    let many = c.loop-seat.invariant.many in
+    record {
+      empty = search rules;
+      room = search (rules, seats, many, c.in_ok-worked.ensures.capacity);
+    }
+
+pub returns : goal.returns
+returns g c =
+    let deal = c.captures.deal.now in
+    let gives = g.K.Task.gives in
+    let task = c.captures.task.now in
+    let handles = c.loop-seat.handles.items in
+    let left : length (into_iter_items c.loop-seat.seat-iterator) ≡ 0 = search rules in
+    let full : length handles ≡ deal.seats = omega (arith, left, c.loop-seat.invariant.many) in
+    record {
+      worked = record {
+        many = search (rules, full, c.joined.ensures.many);
+        each = λ number other below.
+            let kept = (c.joined.ensures.each number other (search (rules, full, below))).1 in
+            let handle = get_or handles number kept.handle in
+            let started = c.loop-seat.invariant.started number kept.handle (omega (arith, full, below)) in
+            let one = get_or c.joined.result.items number other in
+            subst (λ n. IsWorked deal (gives task) n one) started.2
+            (subst (λ t. IsWorked deal (gives t) handle.promise.number one) started.1
+            (subst (λ d. IsWorked d (gives handle.promise.task.now) handle.promise.number one) started.0
+            (subst (λ h. IsWorked h.promise.deal.now (gives h.promise.task.now) h.promise.number one) kept.handle_is kept.kept)));
+      };
+      refused = tt;
     }

@@ -1,6 +1,6 @@
 use denote.Param.Send.{sendable}
 use Rattle.crew.proofs.CrossingLemmas.{partial_send, folding_send, gathering_sync}
-use Rattle.crew.proofs.gathering.gather.Goals as goal
+use Rattle.crew.proofs.gathering.partials_of.Goals as goal
 
 pub share_out-requires-send-K-Given : goal.share_out-requires-send-K-Given
 share_out-requires-send-K-Given g c κs within =
