@@ -1,3 +1,4 @@
+pub mod BackLemmas
 pub mod CrossingLemmas
 pub mod GatheringLemmas
 pub mod HistoryLemmas

@@ -1,38 +1,39 @@
 -- Lists that a loop takes from and adds to, and the seats of a new deal among them.
-use Rattle.std.proofs.Common.{◌≡◌, ℕ, suc, ◌+◌, ◌<◌, List, [], ◌∷◌, ◌++◌, length, get_or, refl, sym, ap, ◌∙◌, subst, arith, length-append, below_more}
-use Rattle.std.proofs.lemmas.List.{get_or_append_left, get_or_push}
-use Rattle.std.proofs.lemmas.List.FromFn.{get_or-map-range_with_len, length-map-range_with_len}
+use Rattle.std.proofs.Common.{◌≡◌, ℕ, zero, suc, ◌+◌, List, [], ◌∷◌, ◌++◌, length, refl, sym, ap, ◌∙◌, subst, arith, length-append, map}
+use Rattle.std.proofs.lemmas.List.FromFn.{length-map-range_with_len}
+use Rattle.std.specs.List.{range_with_len}
+use Rattle.std.specs.Prelude.{Result, Ok, Err, IfOk, IfErr}
 use Rattle.crew.specs.Seats.{DealValue, SeatValue, new_seat, new_seats}
+use Rattle.crew.specs.Works.{AllNumbered}
 
--- at each place the list has what the function gives there, where its first place is counted as `from`
-abbrev pub IsFrom : {A : Type 0} → (ℕ → A) → ℕ → List A → Type 0
-IsFrom {A} f from xs = (k : ℕ) (other : A) → k < length xs → get_or xs k other ≡ f (from + k)
-
--- at each place of the list P holds of its element
-abbrev pub AllAt : {A : Type 0} → (ℕ → A → Type 0) → List A → Type 0
-AllAt {A} P xs = (k : ℕ) (other : A) → k < length xs → P k (get_or xs k other)
+-- a list that is made of numbers has at each what the function gives there
+made_of_numbers : {A : Type 0} (f : ℕ → A) (from count : ℕ) → AllNumbered (λ k x. x ≡ f k) from (map f (range_with_len from count))
+made_of_numbers f from zero = tt
+made_of_numbers f from (suc count) = (refl, made_of_numbers f (from + 1) count)
 
 -- the seats of a new deal, as a loop takes them
-pub all_new : (deal : DealValue) (seats : List SeatValue) → seats ≡ new_seats deal → (0 + length seats ≡ deal.seats) × IsFrom (new_seat deal) 0 seats
+pub all_new : (deal : DealValue) (seats : List SeatValue) → seats ≡ new_seats deal → (0 + length seats ≡ deal.seats) × AllNumbered (λ k seat. seat ≡ new_seat deal k) 0 seats
 all_new deal seats is =
-    let long : length seats ≡ deal.seats = ap length is ∙ length-map-range_with_len (new_seat deal) 0 deal.seats in (
-      omega arith,
-      λ k other h. ap (λ l. get_or l k other) is ∙ get_or-map-range_with_len (new_seat deal) 0 deal.seats k (0 + k) other (omega arith) (omega arith),
-    )
+    let long : length seats ≡ deal.seats = ap length is ∙ length-map-range_with_len (new_seat deal) 0 deal.seats in
+    (omega arith, subst (AllNumbered (λ k seat. seat ≡ new_seat deal k) 0) (sym is) (made_of_numbers (new_seat deal) 0 deal.seats))
 
 -- the first of what is left is taken
-pub taken : {A : Type 0} (f : ℕ → A) (from : ℕ) (old new : List A) (x : A) → old ≡ x ∷ new → IsFrom f from old → (x ≡ f from) × IsFrom f (from + 1) new
-taken f from old new x is all =
-    let these = subst (IsFrom f from) is all in
-    (these 0 x (omega arith) ∙ ap f (omega arith), λ k other h. these (suc k) other (omega arith) ∙ ap f (omega arith))
+pub taken : {A : Type 0} (P : ℕ → A → Type 0) (from : ℕ) (old new : List A) (x : A) → old ≡ x ∷ new → AllNumbered P from old → P from x × AllNumbered P (from + 1) new
+taken P from old new x is all = subst (AllNumbered P from) is all
+
+pushed : {A : Type 0} (P : ℕ → A → Type 0) (from : ℕ) (xs : List A) (x : A) → AllNumbered P from xs → P (from + length xs) x → AllNumbered P from (xs ++ x ∷ [])
+pushed P from [] x all last = (subst (λ k. P k x) (omega arith) last, tt)
+pushed P from (y ∷ ys) x all last = (all.0, pushed P (from + 1) ys x all.1 (subst (λ k. P k x) (omega arith) last))
 
 -- one more is added
-pub added : {A : Type 0} (P : ℕ → A → Type 0) (old new : List A) (x : A) → new ≡ old ++ x ∷ [] → AllAt P old → P (length old) x → AllAt P new
-added P old new x is all last k other h =
-    below_more (λ i. P i (get_or new i other)) (length old)
-    (λ i low. subst (P i) (sym (ap (λ l. get_or l i other) is ∙ get_or_append_left old (x ∷ []) other i low)) (all i other low))
-    (subst (P (length old)) (sym (ap (λ l. get_or l (length old) other) is ∙ get_or_push old x other (length old) refl)) last)
-    k (omega (arith, ap length is, length-append old (x ∷ [])))
+pub added : {A : Type 0} (P : ℕ → A → Type 0) (old new : List A) (x : A) → new ≡ old ++ x ∷ [] → AllNumbered P 0 old → P (length old) x → AllNumbered P 0 new
+added P old new x is all last = subst (AllNumbered P 0) (sym is) (pushed P 0 old x all (subst (λ k. P k x) (omega arith) last))
+
+-- what is so of a seat that began work is so of it by its number, whether a thread was started or not
+pub whichever : {H S : Type 0} (P : ℕ → Type 0) (number_of_handle : H → ℕ) (number_of_seat : S → ℕ) (n : ℕ) (begun : Result H S)
+    → IfOk begun (λ h. number_of_handle h ≡ n) → IfErr begun (λ s. number_of_seat s ≡ n) → IfOk begun (λ h. P (number_of_handle h)) → IfErr begun (λ s. P (number_of_seat s)) → P n
+whichever P number_of_handle number_of_seat n (Ok h) same _ so _ = subst P same so
+whichever P number_of_handle number_of_seat n (Err s) _ same _ so = subst P same so
 
 -- one goes from what is left to what is done, and so together there are as many
 pub as_many : {A B : Type 0} (n : ℕ) (done now : List A) (y : A) (old new : List B) (x : B) → now ≡ done ++ y ∷ [] → old ≡ x ∷ new → length done + length old ≡ n → (length now + length new ≡ n) × (length now ≡ length done + 1)

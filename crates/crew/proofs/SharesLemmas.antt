@@ -1,46 +1,49 @@
 -- What all workers hand back together.
-use Rattle.std.proofs.Common.{◌≡◌, ℕ, suc, ◌+◌, ◌<◌, ◌≤◌, true, List, [], ◌∷◌, ◌++◌, length, get_or, map, All, refl, sym, ap, ◌∙◌, subst, arith}
-use Rattle.std.specs.Prelude.{Any, flat_map, IsPermutation, Ok, IfOk}
+use Rattle.std.proofs.Common.{◌≡◌, ℕ, ◌+◌, ◌<◌, ◌≤◌, true, List, [], ◌∷◌, ◌++◌, length, map, All, refl, sym, ap, ◌∙◌, subst, arith}
+use Rattle.std.specs.Prelude.{Any, flat_map, IsPermutation, Result, Ok, IfOk, OnOk}
 use Rattle.std.specs.List.{AllByRecursion, AllZip, concat, range_with_len}
-use Rattle.std.proofs.lemmas.List.Elements.{All-map, All-head, All-tail}
+use Rattle.std.proofs.lemmas.List.Elements.{All-map, All-head, All-tail, All-nil, All-cons}
 use Rattle.std.proofs.lemmas.List.Sorted.{IsPermutation-refl}
 use Rattle.crew.specs.Draws.{PlacesRise}
 use Rattle.crew.specs.Seats.{DealValue, SeatValue, IsSeatOf, drawn_by, is_finished, number_of}
 use Rattle.crew.specs.Shares.{AreShared}
 use Rattle.crew.specs.Tasks.{IsShare}
-use Rattle.crew.specs.Works.{AllWorked, given_of, seat_of}
+use Rattle.cells.specs.declared.refused.Refused.{Refused}
+use Rattle.crew.specs.Works.{AllNumbered, AreBack, IsBack, given_of, seat_of}
 use Rattle.crew.specs.declared.worker.Worked.{Worked}
 
 module _ {Given : Type 0} (deal : DealValue) (gives : List ℕ → Given → Type 0) where
-  -- what a worker hands back, whatever its number
-  record IsDone (worked : Worked Given) : Type 0 where
-    pub ours : IsSeatOf deal worked.seat
-    pub finished : is_finished worked.seat ≡ true
-    pub given : IfOk worked.given (gives (drawn_by worked.seat))
+  -- what comes back, whatever its number
+  record IsDone (back : Worked Given) : Type 0 where
+    pub ours : IsSeatOf deal back.seat
+    pub finished : OnOk back.given (is_finished back.seat ≡ true)
+    pub given : IfOk back.given (gives (drawn_by back.seat))
 
-  all_done : (all : List (Worked Given)) → AllWorked deal gives all → All IsDone all
-  all_done all worked i other h =
-      let one = worked.each i other (omega (arith, worked.many)) in
-      record { ours = one.ours; finished = one.finished; given = one.given }
+  all_done : (from : ℕ) (all : List (Worked Given)) → AllNumbered (IsBack deal gives) from all → All IsDone all
+  all_done from [] back = All-nil IsDone
+  all_done from (w ∷ ws) back = All-cons IsDone w ws (record { ours = back.0.ours; finished = back.0.finished; given = back.0.given }) (all_done (from + 1) ws back.1)
 
-  pub seats_ours : (all : List (Worked Given)) → AllWorked deal gives all → All (IsSeatOf deal) (map seat_of all)
-  seats_ours all worked = All-map (IsSeatOf deal) seat_of all (λ i other h. (all_done all worked i other h).ours)
+  numbers_from : (from : ℕ) (all : List (Worked Given)) → AllNumbered (IsBack deal gives) from all → map number_of (map seat_of all) ≡ range_with_len from (length all)
+  numbers_from from [] back = refl
+  numbers_from from (w ∷ ws) back =
+      let rest = numbers_from (from + 1) ws back.1 in
+      λ i. back.0.same i ∷ rest i
 
-  numbers_from : (from : ℕ) (all : List (Worked Given)) → ((i : ℕ) (other : Worked Given) → i < length all → (get_or all i other).seat.number ≡ from + i) → map number_of (map seat_of all) ≡ range_with_len from (length all)
-  numbers_from from [] numbered = refl
-  numbers_from from (w ∷ ws) numbered =
-      let first : w.seat.number ≡ from = numbered 0 w (omega arith) ∙ omega arith in
-      let rest = numbers_from (from + 1) ws (λ i other h. numbered (suc i) other (omega arith) ∙ omega arith) in
-      λ i. first i ∷ rest i
+  pub seats_ours : (seats : List SeatValue) (given : List (Result Given Refused)) → AreBack deal gives seats given → All (IsSeatOf deal) seats
+  seats_ours seats given back =
+      subst (All (IsSeatOf deal)) (sym back.seats_are) (All-map (IsSeatOf deal) seat_of back.all (λ i other h. (all_done 0 back.all back.each i other h).ours))
 
-  pub numbers : (all : List (Worked Given)) → AllWorked deal gives all → IsPermutation (map number_of (map seat_of all)) (range_with_len 0 deal.seats)
-  numbers all worked =
-      let is = numbers_from 0 all (λ i other h. (worked.each i other (omega (arith, worked.many))).same ∙ omega arith) in
-      rw (is, worked.many) (IsPermutation-refl (range_with_len 0 deal.seats))
+  pub numbers : (seats : List SeatValue) (given : List (Result Given Refused)) → AreBack deal gives seats given → IsPermutation (map number_of seats) (range_with_len 0 deal.seats)
+  numbers seats given back =
+      let is : map number_of seats ≡ range_with_len 0 deal.seats = ap (map number_of) back.seats_are ∙ (numbers_from 0 back.all back.each ∙ ap (range_with_len 0) back.many) in
+      rw is (IsPermutation-refl (range_with_len 0 deal.seats))
 
-  some_finished : (all : List (Worked Given)) → All IsDone all → 0 < length all → Any (λ seat. is_finished seat ≡ true) (map seat_of all)
-  some_finished [] done some_there = absurd (omega arith)
-  some_finished (w ∷ ws) done some_there = (0, w.seat, omega arith, refl, (All-head IsDone w ws done).finished)
+  some_finished : (all : List (Worked Given)) (given : List Given) → All IsDone all → map given_of all ≡ map Ok given → 0 < length all → Any (λ seat. is_finished seat ≡ true) (map seat_of all)
+  some_finished [] given done is some_there = absurd (omega arith)
+  some_finished (w ∷ ws) [] done is some_there = absurd (cc)
+  some_finished (w ∷ ws) (g ∷ gs) done is some_there =
+      let here : w.given ≡ Ok g = cc in
+      (0, w.seat, omega arith, refl, subst (λ r. OnOk r (is_finished w.seat ≡ true)) here (All-head IsDone w ws done).finished)
 
   abbrev shares : List (Worked Given) → List (List ℕ)
   shares all = map drawn_by (map seat_of all)
@@ -68,15 +71,19 @@ module _ {Given : Type 0} (deal : DealValue) (gives : List ℕ → Given → Typ
         (record { rising = rising w.seat; below = subst (λ n. AllByRecursion (λ piece. piece < n) (drawn_by w.seat)) pieces (below w.seat) }, all_shares ws (All-tail IsDone w ws done))
 
     -- all was drawn, so that all is shared
-    pub shared : (all : List (Worked Given)) (given : List Given) (drawn : ℕ) → AllWorked deal gives all → map given_of all ≡ map Ok given → 1 ≤ deal.seats
-        → (Any (λ seat. is_finished seat ≡ true) (map seat_of all) → drawn ≡ deal.pieces) → IsPermutation (flat_map drawn_by (map seat_of all)) (range_with_len 0 drawn)
+    pub shared : (seats : List SeatValue) (results : List (Result Given Refused)) (given : List Given) (drawn : ℕ) → AreBack deal gives seats results → results ≡ map Ok given → 1 ≤ deal.seats
+        → (Any (λ seat. is_finished seat ≡ true) seats → drawn ≡ deal.pieces) → IsPermutation (flat_map drawn_by seats) (range_with_len 0 drawn)
         → AreShared gives deal.pieces given
-    shared all given drawn worked is some_seat full whole =
-        let done = all_done all worked in
-        let everything : drawn ≡ deal.pieces = full (some_finished all done (omega (arith, worked.many))) in
+    shared seats results given drawn back is some_seat full whole =
+        let all = back.all in
+        let done = all_done 0 all back.each in
+        let all_given : map given_of all ≡ map Ok given = sym back.given_are ∙ is in
+        let finished = subst (Any (λ seat. is_finished seat ≡ true)) (sym back.seats_are) (some_finished all given done all_given (omega (arith, back.many))) in
+        let everything : drawn ≡ deal.pieces = full finished in
+        let these = subst (λ l. IsPermutation (flat_map drawn_by l) (range_with_len 0 drawn)) back.seats_are whole in
         record {
           shares = shares all;
           are_shares = all_shares all done;
-          whole = subst (IsPermutation (concat (shares all))) (ap (range_with_len 0) everything) (subst (λ l. IsPermutation l (range_with_len 0 drawn)) (sym (together (map seat_of all))) whole);
-          given_for = each all given done is;
+          whole = subst (IsPermutation (concat (shares all))) (ap (range_with_len 0) everything) (subst (λ l. IsPermutation l (range_with_len 0 drawn)) (sym (together (map seat_of all))) these);
+          given_for = each all given done all_given;
         }

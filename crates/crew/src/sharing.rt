@@ -3,14 +3,12 @@ ghost use Rattle.std.specs.Prelude.{◌≡◌, ◌≤◌, ◌⊎◌, [], map, mi
 ghost use Rattle.cells.specs.declared.refused.Refused.TheVariants as Refused;
 ghost use Rattle.crew.specs.Limits.{piece_limit, seat_limit};
 ghost use Rattle.crew.specs.Shares.{AreShared};
-ghost use Rattle.crew.specs.Works.{given_of, seat_of};
 
-use crate::deal::{Deal, Seat, draws_rise};
-use crate::running::run_all;
+use crate::deal::{Deal, draws_rise};
+use crate::running::{Returned, run_all};
 use crate::task::Task;
-use crate::worker::Worked;
 use cells::Refused;
-use std::alloc::{AllocError, Global};
+use std::alloc::Global;
 use std::sync::Wait;
 use std::thread::Threads;
 
@@ -40,45 +38,30 @@ pub fn share_out<K: Task, R: Threads + Wait>(
     }
     draws_rise();
     let (deal, seats) = Deal::new(alloc, count, workers.min(count))?;
-    // Room for what comes back is taken before a thread starts, so that the deal is closed by all its seats before a want
-    // of memory is looked for.
-    let back = Vec::with_capacity(alloc, seats.len())?;
-    let results = Vec::with_capacity(alloc, seats.len())?;
-    let worked = run_all(rt, alloc, &deal, seats, task)?;
-    let (seats, results) = parted(worked, back, results);
+    // The lists are made before a thread is started, so that none is wanted between the work and the end of the deal.
+    let all = Vec::with_capacity(alloc, seats.len())?;
+    let Returned { seats, given } = run_all(rt, alloc, &deal, seats, task)?;
     deal.close(seats);
-    Ok(all_given(alloc, results)?)
+    all_given(all, given)
 }
 
-// The seats, and what was given at each, in lists that have room for them.
-fn parted<T: Drop>(
-    worked: Vec<Worked<T>>,
-    mut seats: Vec<Seat>,
-    mut results: Vec<Result<T, AllocError>>,
-) -> (Vec<Seat>, Vec<Result<T, AllocError>>)
-    requires empty { (seats.items ≡ []) × (results.items ≡ []) }
-    requires room { (vec_len worked ≤ vec_capacity seats) × (vec_len worked ≤ vec_capacity results) }
-    ensures seats { result.0.items ≡ map seat_of worked.items }
-    ensures given { result.1.items ≡ map given_of worked.items }
+// What was given at all seats, put into a list that has room for it. Want of a worker goes before want of memory.
+fn all_given<T: Drop>(mut all: Vec<T>, given: Vec<Result<T, Refused>>) -> Result<Vec<T>, Refused>
+    requires { (all.items ≡ []) × (vec_len given ≤ vec_capacity all) }
+    ensures given { IfOk result (λ v. given.items ≡ map Ok v.items) }
+    ensures refused { IfErr result (λ e. (e ≡ Refused.NoWorker) ⊎ (e ≡ Refused.OutOfMemory)) }
 {
-    for one in worked {
-        let Worked { seat, given } = one;
-        seats.push_reserved(seat);
-        results.push_reserved(given);
+    if given
+        .iter()
+        .any(|one| matches!(one, Err(Refused::NoWorker)))
+    {
+        return Err(Refused::NoWorker);
     }
-    (seats, results)
-}
-
-// What was given at all seats, or Err where there was no memory at one.
-fn all_given<T: Drop>(
-    alloc: Global,
-    results: Vec<Result<T, AllocError>>,
-) -> Result<Vec<T>, AllocError>
-    ensures { IfOk result (λ v. results.items ≡ map Ok v.items) }
-{
-    let mut all = Vec::with_capacity(alloc, results.len())?;
-    for one in results {
-        all.push_reserved(one?);
+    for one in given {
+        let Ok(one) = one else {
+            return Err(Refused::OutOfMemory);
+        };
+        all.push_reserved(one);
     }
     Ok(all)
 }

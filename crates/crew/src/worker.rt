@@ -5,28 +5,33 @@ ghost use Rattle.crew.specs.Works.{IsWorked};
 
 use crate::deal::{Deal, Seat, draws_rise};
 use crate::task::Task;
-use std::alloc::{AllocError, Global};
+use cells::Refused;
+use std::alloc::Global;
+use std::sync::atomic::AtomicBool;
+use std::sync::atomic::Ordering::SeqCst;
 
-/// What a worker hands back: its seat, and what the task gave for the places that the seat drew.
+/// What comes back of a seat: the seat itself, and what the task gave for the places that it drew. Nothing was given where
+/// there was no memory, or where the work was called off since a thread could not be started.
 #[derive(Drop)]
 pub(crate) struct Worked<T> {
     pub(crate) seat: Seat,
-    pub(crate) given: Result<T, AllocError>,
+    pub(crate) given: Result<T, Refused>,
 }
 
-/// Works at all places that the seat draws, until none are left. Where there is no memory, the worker goes on drawing
-/// and works no more, so that its seat comes back soon, and finished.
+/// Works at all places that the seat draws, until none are left. Where there is no memory or the work is called off, the
+/// worker goes on drawing and works no more, so that its seat comes back soon, and finished.
 pub(crate) fn work<K: Task>(
     alloc: Global,
     deal: &Deal,
     mut seat: Seat,
     task: &K,
+    called_off: &AtomicBool,
 ) -> Worked<K::Given>
     requires seat { IsSeatOf deal.now seat × (seat.seen ≡ []) }
     requires task { K.count task.now ≡ deal.now.pieces }
     ensures { IsWorked deal.now (K.gives task.now) seat.number result }
 {
-    let given = make(alloc, deal, &mut seat, task);
+    let given = make(alloc, deal, &mut seat, task, called_off);
     draw_on(deal, &mut seat);
     Worked { seat, given }
 }
@@ -37,7 +42,8 @@ fn make<K: Task>(
     deal: &Deal,
     seat: &mut Seat,
     task: &K,
-) -> Result<K::Given, AllocError>
+    called_off: &AtomicBool,
+) -> Result<K::Given, Refused>
     requires seat { IsSeatOf deal.now seat.old × (seat.old.seen ≡ []) }
     requires task { K.count task.now ≡ deal.now.pieces }
     ensures seat { IsSeatOf deal.now seat.new × (seat.new.number ≡ seat.old.number) }
@@ -47,9 +53,12 @@ fn make<K: Task>(
     draws_rise();
     let mut made = task.begin(alloc)?;
     while let Some(place) = deal.next(seat) {
+        if called_off.load(SeqCst) {
+            return Err(Refused::NoWorker);
+        }
         task.take(alloc, &mut made, place)?;
     }
-    task.end(alloc, made)
+    Ok(task.end(alloc, made)?)
 }
 
 // Draws until no places are left, and does nothing with them.
