@@ -25,7 +25,7 @@ use Rattle.groups.specs.contracts.aggregation.Aggregation as Aggregation
 use Rattle.groups.specs.contracts.bag.Bag as Bag
 use Rattle.groups.specs.contracts.folding.Folding as Folding
 use Rattle.groups.specs.contracts.partial.Partial as Partial
-use Rattle.groups.specs.contracts.pool.Folded as Folded
+use Rattle.groups.specs.contracts.pool.SetBag as SetBag
 use Rattle.query.specs.contracts.plan.Plan as Plan
 use Rattle.query.specs.contracts.predicate.Predicate as Predicate
 use Rattle.query.specs.contracts.predicate.Predicate.TheKnot as Knot
@@ -148,11 +148,11 @@ module _ (H : RattleType) (cells : KeyHash.Ghosts H.Denot Cell) (tuples : KeyHas
   bag_send : IsSend (Bag.the_field H cells).row
   bag_send = let key = tuple_send in let value = accumulators_send in search (HashMap-send, sendable, crosses) depth 40
 
-  folded_send : IsSend (Folded.the_field H cells).row
-  folded_send = let bag = bag_send in search (sendable, crosses) depth 40
+  set_bag_send : IsSend (SetBag.the_field H cells).row
+  set_bag_send = let bag = bag_send in search (sendable, crosses) depth 40
 
   pub folding_send : (life : NamedLft) → IsSend (Folding.the_field life H cells).row
-  folding_send life = let plan = plan_sync in let aggregation = aggregation_send in let folded = folded_send in search (sendable, crosses) depth 40
+  folding_send life = let plan = plan_sync in let aggregation = aggregation_send in let set_bag = set_bag_send in search (sendable, crosses) depth 40
 
   module _ (o : Ord.Ghosts Cell) (e : PartialEq.Ghosts Cell) (p : PartialOrd.Ghosts Cell) where
     piece_sync : IsSync (Piece.the_field CellType.the_row RowType.the_row H o e p cells).row

@@ -12,11 +12,11 @@ use Rattle.cells.specs.declared.cell.Cell.{Cell}
 use Rattle.cells.specs.declared.cell.Cell.TheVariants.{Null}
 use Rattle.groups.specs.Accumulators.{AllFit, accs_of, accs_together, no_rows}
 use Rattle.groups.specs.Coarsening.{CanCoarsen, Regroups, TakesGroup, coarser, picked_columns}
-use Rattle.groups.specs.Folding.{AreParts, AreWithin, CanCount, Covers, FitsRow, Group, IsFolded, IsPart, joined, picked}
+use Rattle.groups.specs.Bags.{AreParts, AreWithin, CanCount, Covers, FitsRow, Group, IsCounted, IsPart, joined, picked}
 use Rattle.groups.specs.Groups.{cell_at, tuple_of}
 use Rattle.groups.specs.Laws.{accs_join}
 use Rattle.groups.specs.declared.aggregation.Aggregation.{Aggregation}
-use Rattle.groups.proofs.FoldingLemmas.{all_in_order}
+use Rattle.groups.proofs.BagLemmas.{all_in_order}
 use Rattle.groups.proofs.LayingLemmas.{all_fit}
 use Rattle.groups.proofs.TuplesLemmas.{all_both, all_first, all_second}
 
@@ -240,15 +240,15 @@ module _ {H : Type 0} (aggregations : List Aggregation) (columns places : List �
     coarse_wide : (rows : List Entry) → Covers aggregations columns rows groups → AreWithin (length g.0) places
     coarse_wide rows covers = subst (λ n. AreWithin n places) (sym (wide_at aggregations columns groups covers.parts i g covers.each h is)) all
 
-    coarse_fit : (old : List (Group H)) → IsFolded aggregations columns groups →
+    coarse_fit : (old : List (Group H)) → IsCounted aggregations columns groups →
         Regroups aggregations (picked_columns columns places) (coarser places (take i groups)) old → AllByRecursion (λ x. AllFit x.1 g.1) old
-    coarse_fit old folded now =
-        let served = covers_coarser aggregations columns places all folded.rows groups folded.covers in
+    coarse_fit old counted now =
+        let served = covers_coarser aggregations columns places all counted.rows groups counted.covers in
         let split : coarser places groups ≡ coarser places (take (i + 1) groups) ++ coarser places (drop (i + 1) groups) =
         ap (coarser places) (sym (take-append-drop (i + 1) groups)) ∙ map-append (λ x. (picked places x.0, x.1)) (take (i + 1) groups) (drop (i + 1) groups) in
         let can : CanCount aggregations (joined served.parts) = record {
-          each = all_in_order _ folded.rows (joined served.parts) served.all (folded.can).each;
-          few = omega (arith, (folded.can).few, length_permutation folded.rows (joined served.parts) served.all);
+          each = all_in_order _ counted.rows (joined served.parts) served.all (counted.can).each;
+          few = omega (arith, (counted.can).few, length_permutation counted.rows (joined served.parts) served.all);
         } in
         let firsts = first_parts aggregations (picked_columns columns places) (coarser places (take (i + 1) groups)) (coarser places (drop (i + 1) groups)) served.parts
         (subst (λ gs. AreParts aggregations (picked_columns columns places) gs served.parts) split served.each) can.each in
@@ -277,10 +277,10 @@ module _ {H : Type 0} (places : List ℕ) (groups : List (Group H)) where
     here = subst (λ (l : List (Group H)). g ≡ get_or l i g) same is
 
     pub coarsening_wide : CanCoarsen places groups → AreWithin (length g.0) places
-    coarsening_wide can = coarse_wide can.aggregations can.columns places can.within groups i g within here (can.folded).rows (can.folded).covers
+    coarsening_wide can = coarse_wide can.aggregations can.columns places can.within groups i g within here (can.counted).rows (can.counted).covers
 
     pub coarsening_fit : (old : List (Group H)) → CanCoarsen places groups → Coarsening places groups i old → AllByRecursion (λ x. AllFit x.1 g.1) old
-    coarsening_fit old can now = coarse_fit can.aggregations can.columns places can.within groups i g within here old can.folded (now.regroups can.aggregations can.columns)
+    coarsening_fit old can now = coarse_fit can.aggregations can.columns places can.within groups i g within here old can.counted (now.regroups can.aggregations can.columns)
 
     pub coarsening_more : (old new : List (Group H)) → Coarsening places groups i old → TakesGroup (picked places g.0) g.1 old new → Coarsening places groups (i + 1) new
     coarsening_more old new now takes = record {

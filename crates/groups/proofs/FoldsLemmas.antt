@@ -8,16 +8,16 @@ use Rattle.cells.specs.Fitting.{IsRowOf}
 use Rattle.cells.specs.Values.{Entry}
 use Rattle.cells.specs.declared.cell.Cell.{Cell}
 use Rattle.groups.specs.Accumulators.{aggregations_of}
-use Rattle.groups.specs.Folding.{CanFoldSet, Covers, Group}
-use Rattle.groups.specs.Folds.{AllGoOn, Folds, GoesOn, MayAllGoOn, MayEnd, MayGoOn, MayTakeMore, kept_of}
+use Rattle.groups.specs.Bags.{CanFoldSet, Covers, Group}
+use Rattle.groups.specs.Folds.{FillsSources, Folds, FillsSource, MayFillSources, MayEnd, MayFillSource, MayTakeMore, kept_of}
 use Rattle.groups.specs.Groups.{kept}
 use Rattle.groups.specs.Partials.{MayFold, Stands, StandsEach, rows_of}
 use Rattle.groups.specs.Pools.{AreCounted, AreSources, HaveFiner, IsPool, has_all, has_finer, sets_of}
 use Rattle.groups.specs.declared.aggregation.Aggregation.{Aggregation}
 use Rattle.groups.specs.declared.folding.Folding.{Folding}
-use Rattle.groups.specs.declared.pool.Folded.{Folded}
+use Rattle.groups.specs.declared.pool.SetBag.{SetBag}
 use Rattle.groups.specs.declared.visiting.KeptRows.{KeptRows}
-use Rattle.groups.proofs.FoldingLemmas.{all_in_order}
+use Rattle.groups.proofs.BagLemmas.{all_in_order}
 use Rattle.groups.proofs.PlanLemmas.{CanFold, PlansFitRows, can_fold}
 use Rattle.groups.proofs.TuplesLemmas.{all_at, all_through}
 use Rattle.groups.proofs.VisitingLemmas.{can_count_kept}
@@ -25,9 +25,9 @@ use Rattle.query.specs.Plans.{PlanTree}
 
 -- ---- source by source
 module _ {H : Type 0} (rows : KeptRows H) where
-  pub goes_on : (columns : List ℕ) (was : List (Group H)) (old new : Folded H) → columns ≡ old.set.items → was ≡ old.bag → new.set.items ≡ old.set.items →
-      ((befores : List Entry) → Covers rows.aggregations.now columns befores was → Covers rows.aggregations.now columns (befores ++ kept_of rows) new.bag) → GoesOn rows old new
-  goes_on columns was old new same is stays serves = record {
+  pub fills_source : (columns : List ℕ) (was : List (Group H)) (old new : SetBag H) → columns ≡ old.set.items → was ≡ old.bag → new.set.items ≡ old.set.items →
+      ((befores : List Entry) → Covers rows.aggregations.now columns befores was → Covers rows.aggregations.now columns (befores ++ kept_of rows) new.bag) → FillsSource rows old new
+  fills_source columns was old new same is stays serves = record {
     set_stays = stays;
     serves = λ befores covers.
         subst (λ (s : List ℕ). Covers rows.aggregations.now s (befores ++ kept_of rows) new.bag) same
@@ -35,18 +35,18 @@ module _ {H : Type 0} (rows : KeptRows H) where
   }
 
   -- the rows have gone into the first i sources
-  abbrev pub GoneOn : ℕ → List (Folded H) → List (Folded H) → Type 0
+  abbrev pub GoneOn : ℕ → List (SetBag H) → List (SetBag H) → Type 0
   GoneOn i [] [] = ⊤
   GoneOn i [] (n ∷ new) = ⊥
   GoneOn i (o ∷ old) [] = ⊥
   GoneOn zero (o ∷ old) (n ∷ new) = (n ≡ o) × GoneOn zero old new
-  GoneOn (suc i) (o ∷ old) (n ∷ new) = GoesOn rows o n × GoneOn i old new
+  GoneOn (suc i) (o ∷ old) (n ∷ new) = FillsSource rows o n × GoneOn i old new
 
-  pub gone_none : (old : List (Folded H)) → GoneOn 0 old old
+  pub gone_none : (old : List (SetBag H)) → GoneOn 0 old old
   gone_none [] = tt
   gone_none (o ∷ old) = (refl, gone_none old)
 
-  pub gone_length : (i : ℕ) (old new : List (Folded H)) → GoneOn i old new → length new ≡ length old
+  pub gone_length : (i : ℕ) (old new : List (SetBag H)) → GoneOn i old new → length new ≡ length old
   gone_length i [] [] now = refl
   gone_length i [] (n ∷ new) now = absurd now
   gone_length i (o ∷ old) [] now = absurd now
@@ -54,30 +54,30 @@ module _ {H : Type 0} (rows : KeptRows H) where
   gone_length (suc i) (o ∷ old) (n ∷ new) now = ap suc (gone_length i old new now.1)
 
   -- the next source is as it was
-  pub gone_at : (i : ℕ) (old new : List (Folded H)) (d : Folded H) → GoneOn i old new → get_or new i d ≡ get_or old i d
+  pub gone_at : (i : ℕ) (old new : List (SetBag H)) (d : SetBag H) → GoneOn i old new → get_or new i d ≡ get_or old i d
   gone_at i [] [] d now = refl
   gone_at i [] (n ∷ new) d now = absurd now
   gone_at i (o ∷ old) [] d now = absurd now
   gone_at zero (o ∷ old) (n ∷ new) d now = now.0
   gone_at (suc i) (o ∷ old) (n ∷ new) d now = gone_at i old new d now.1
 
-  gone_more : (i : ℕ) (old new : List (Folded H)) (f d : Folded H) → i < length old → GoneOn i old new → GoesOn rows (get_or old i d) f → GoneOn (suc i) old (set new i f)
+  gone_more : (i : ℕ) (old new : List (SetBag H)) (f d : SetBag H) → i < length old → GoneOn i old new → FillsSource rows (get_or old i d) f → GoneOn (suc i) old (set new i f)
   gone_more i [] [] f d h now goes = absurd (omega (arith, h))
   gone_more i [] (n ∷ new) f d h now goes = absurd now
   gone_more i (o ∷ old) [] f d h now goes = absurd now
   gone_more zero (o ∷ old) (n ∷ new) f d h now goes = (goes, now.1)
   gone_more (suc i) (o ∷ old) (n ∷ new) f d h now goes = (now.0, gone_more i old new f d (omega (arith, h)) now.1 goes)
 
-  gone_sets : (i : ℕ) (old new : List (Folded H)) → length old ≤ i → GoneOn i old new → sets_of new ≡ sets_of old
+  gone_sets : (i : ℕ) (old new : List (SetBag H)) → length old ≤ i → GoneOn i old new → sets_of new ≡ sets_of old
   gone_sets i [] [] h now = refl
   gone_sets i [] (n ∷ new) h now = absurd now
   gone_sets i (o ∷ old) [] h now = absurd now
   gone_sets zero (o ∷ old) (n ∷ new) h now = absurd (omega (arith, h))
   gone_sets (suc i) (o ∷ old) (n ∷ new) h now = ap₂ (λ (s : List ℕ) (rest : List (List ℕ)). s ∷ rest) (now.0).set_stays (gone_sets i old new (omega (arith, h)) now.1)
 
-  gone_covers : (befores : List Entry) (i : ℕ) (old new : List (Folded H)) → length old ≤ i → GoneOn i old new →
-      AllByRecursion (λ (f : Folded H). Covers rows.aggregations.now f.set.items befores f.bag) old →
-      AllByRecursion (λ (f : Folded H). Covers rows.aggregations.now f.set.items (befores ++ kept_of rows) f.bag) new
+  gone_covers : (befores : List Entry) (i : ℕ) (old new : List (SetBag H)) → length old ≤ i → GoneOn i old new →
+      AllByRecursion (λ (f : SetBag H). Covers rows.aggregations.now f.set.items befores f.bag) old →
+      AllByRecursion (λ (f : SetBag H). Covers rows.aggregations.now f.set.items (befores ++ kept_of rows) f.bag) new
   gone_covers befores i [] [] h now all = tt
   gone_covers befores i [] (n ∷ new) h now all = absurd now
   gone_covers befores i (o ∷ old) [] h now all = absurd now
@@ -87,21 +87,21 @@ module _ {H : Type 0} (rows : KeptRows H) where
     gone_covers befores i old new (omega (arith, h)) now.1 all.1,
   )
 
-  pub gone_all : (i : ℕ) (old new : List (Folded H)) → length old ≤ i → GoneOn i old new → AllGoOn rows old new
+  pub gone_all : (i : ℕ) (old new : List (SetBag H)) → length old ≤ i → GoneOn i old new → FillsSources rows old new
   gone_all i old new h now = record {
     sets_stay = gone_sets i old new h now;
     serves = λ befores pool. record { each = gone_covers befores i old new h now pool.each };
   }
 
-  pub may_go_at : (i : ℕ) (old new : List (Folded H)) (f : Folded H) → i < length old → MayAllGoOn rows old → GoneOn i old new → f ≡ get_or new i f → MayGoOn rows f
-  may_go_at i old new f h may now is = subst (MayGoOn rows) (sym (is ∙ gone_at i old new f now)) (all_at (MayGoOn rows) old i f may.each h)
+  pub may_go_at : (i : ℕ) (old new : List (SetBag H)) (f : SetBag H) → i < length old → MayFillSources rows old → GoneOn i old new → f ≡ get_or new i f → MayFillSource rows f
+  may_go_at i old new f h may now is = subst (MayFillSource rows) (sym (is ∙ gone_at i old new f now)) (all_at (MayFillSource rows) old i f may.each h)
 
-  pub gone_step : (i : ℕ) (old now new : List (Folded H)) (f g : Folded H) → i < length old → GoneOn i old now → f ≡ get_or now i f → GoesOn rows f g → new ≡ set now i g →
+  pub gone_step : (i : ℕ) (old now new : List (SetBag H)) (f g : SetBag H) → i < length old → GoneOn i old now → f ≡ get_or now i f → FillsSource rows f g → new ≡ set now i g →
       GoneOn (i + 1) old new
   gone_step i old now new f g h gone is goes e =
       let next : suc i ≡ i + 1 = omega arith in
       subst (GoneOn (i + 1) old) (sym e)
-      (subst (λ n. GoneOn n old (set now i g)) next (gone_more i old now g f h gone (subst (λ x. GoesOn rows x g) (is ∙ gone_at i old now f gone) goes)))
+      (subst (λ n. GoneOn n old (set now i g)) next (gone_more i old now g f h gone (subst (λ x. FillsSource rows x g) (is ∙ gone_at i old now f gone) goes)))
 
 -- ---- the sources of a plan
 pub may_fold_any_order : (plan : PlanTree) (xs ys : List Entry) → IsPermutation xs ys → MayFold plan xs → MayFold plan ys
@@ -119,10 +119,10 @@ can_by laws plan rows columns may contains =
     (all_at (λ s. CanFoldSet plan.condition (aggregations_of plan.items) s rows) plan.sets contains.0 columns can.each contains.1)
 
 module _ {H : Type 0} where
-  finer_by_sets : (set : List ℕ) (old new : List (Folded H)) → sets_of new ≡ sets_of old → has_finer new set ≡ has_finer old set
+  finer_by_sets : (set : List ℕ) (old new : List (SetBag H)) → sets_of new ≡ sets_of old → has_finer new set ≡ has_finer old set
   finer_by_sets set old new e = by_sets new ∙ ap (list_any (λ s. has_all s set)) e ∙ sym (by_sets old)
     where
-      by_sets : (pool : List (Folded H)) → has_finer pool set ≡ list_any (λ s. has_all s set) (sets_of pool)
+      by_sets : (pool : List (SetBag H)) → has_finer pool set ≡ list_any (λ s. has_all s set) (sets_of pool)
       by_sets [] = refl
       by_sets (f ∷ pool) = ap (λ b. has_all f.set.items set || b) (by_sets pool)
 
@@ -138,7 +138,7 @@ module _ {H : Type 0} where
 
   pub folds_more : (plan : PlanTree) (befores : List Entry) (old new : Folding H) (rows : KeptRows H) → Folds plan befores old → new.plan.now ≡ old.plan.now →
       new.aggregations.items ≡ old.aggregations.items → rows.plan.now ≡ old.plan.now → rows.aggregations.now ≡ old.aggregations.items →
-      AllGoOn rows old.sources.items new.sources.items → Folds plan (befores ++ kept plan.condition (rows_of rows.piece.now)) new
+      FillsSources rows old.sources.items new.sources.items → Folds plan (befores ++ kept plan.condition (rows_of rows.piece.now)) new
   folds_more plan befores old new rows folds same_plan same_aggregations by with all = record {
     planned = same_plan ∙ folds.planned;
     aggregations = same_aggregations ∙ folds.aggregations;
@@ -160,17 +160,17 @@ module _ {H : Type 0} where
           (all.serves befores (subst (λ a. IsPool a befores old.sources.items) (sym are) folds.covers)))
 
   go_each : (rows : KeptRows H) (plan : PlanTree) (taken : List Entry) → ((set : List ℕ) → Contains plan.sets set → CanFoldSet rows.plan.now.condition rows.aggregations.now set (taken ++ rows_of rows.piece.now)) →
-      (sources : List (Folded H)) → AllByRecursion (Contains plan.sets) (sets_of sources) →
-      AllByRecursion (λ (f : Folded H). Covers rows.aggregations.now f.set.items (kept rows.plan.now.condition taken) f.bag) sources → AllByRecursion (MayGoOn rows) sources
+      (sources : List (SetBag H)) → AllByRecursion (Contains plan.sets) (sets_of sources) →
+      AllByRecursion (λ (f : SetBag H). Covers rows.aggregations.now f.set.items (kept rows.plan.now.condition taken) f.bag) sources → AllByRecursion (MayFillSource rows) sources
   go_each rows plan taken can [] among covers = tt
   go_each rows plan taken can (f ∷ sources) among covers = (
     record { taken = taken; covers = covers.0; can = can f.set.items among.0 },
     go_each rows plan taken can sources among.1 covers.1,
   )
 
-  pub may_all_go : (laws : PlansFitRows) (folding : Folding H) (rows : KeptRows H) → rows.plan.now ≡ folding.plan.now → rows.aggregations.now ≡ folding.aggregations.items →
-      MayTakeMore folding (rows_of rows.piece.now) → MayAllGoOn rows folding.sources.items
-  may_all_go laws folding rows by with may =
+  pub may_fill_sources : (laws : PlansFitRows) (folding : Folding H) (rows : KeptRows H) → rows.plan.now ≡ folding.plan.now → rows.aggregations.now ≡ folding.aggregations.items →
+      MayTakeMore folding (rows_of rows.piece.now) → MayFillSources rows folding.sources.items
+  may_fill_sources laws folding rows by with may =
       let is_plan : rows.plan.now ≡ may.plan = by ∙ (may.folds).planned in
       let are : rows.aggregations.now ≡ aggregations_of (may.plan).items = with ∙ (may.folds).aggregations in
       record {

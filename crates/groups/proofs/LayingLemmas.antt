@@ -16,13 +16,13 @@ use Rattle.cells.specs.TupleOrder.{tuple_cmp, tuple_cmp-total, tuple_eq}
 use Rattle.cells.specs.Values.{Entry}
 use Rattle.cells.specs.declared.cell.Cell.{Cell}
 use Rattle.groups.specs.Accumulators.{AllFit, accs_of, both, group, group_or, is_start, no_rows}
-use Rattle.groups.specs.Folding.{AreParts, Covers, FitsRow, Group, IsFolded, IsPart, joined}
+use Rattle.groups.specs.Bags.{AreParts, Covers, FitsRow, Group, IsCounted, IsPart, joined}
 use Rattle.groups.specs.Groups.{cell_at, column_of, members, tuple_of}
 use Rattle.groups.specs.Laws.{all_kept, kept_short}
 use Rattle.groups.specs.Laying.{CanMeet, IsLaid, Lays, found, given, met_from}
 use Rattle.groups.specs.Partials.{StandsAt}
 use Rattle.groups.specs.declared.aggregation.Aggregation.{Aggregation}
-use Rattle.groups.proofs.FoldingLemmas.{all_in_order, covers_none, met_covers, met_joined, stored_column}
+use Rattle.groups.proofs.BagLemmas.{all_in_order, covers_none, met_covers, met_joined, stored_column}
 use Rattle.groups.proofs.TuplesLemmas.{all_both, all_first, all_second}
 use Rattle.trie.specs.Digits.{digit_order}
 use Rattle.trie.specs.Entries.{with_pair}
@@ -196,17 +196,17 @@ module _ {H : Type 0} where
         one true = tt
         one false = fit
 
-    pub can_meet : (groups : List (Group H)) → IsFolded aggregations columns groups → CanMeet aggregations columns groups
-    can_meet groups folded = let covers = folded.covers in record {
+    pub can_meet : (groups : List (Group H)) → IsCounted aggregations columns groups → CanMeet aggregations columns groups
+    can_meet groups counted = let covers = counted.covers in record {
       fit = λ before after g e.
           let split = split_at before after g covers.parts (subst (λ gs. AreParts aggregations columns gs covers.parts) e covers.each)
-          (all_in_order _ folded.rows (joined covers.parts) covers.all (folded.can).each) in
+          (all_in_order _ counted.rows (joined covers.parts) covers.all (counted.can).each) in
           let ms = members columns g.0 (joined split.firsts) in
           let test : Entry → Bool = λ r. tuple_eq (tuple_of columns r) g.0 in
           subst (λ o. IfSome o (λ old. AllFit old g.1)) (sym (met_joined aggregations columns before split.firsts [] g.0 split.are))
           (fits_group (is_start columns g.0) ms g.1 (subst (AllFit (accs_of aggregations ms)) (sym split.is.accs)
           (all_fit H aggregations ms split.part (all_kept _ test (joined split.firsts) split.fit) split.fits
-          (omega (arith, kept_short test (joined split.firsts), split.short, (folded.can).few, length_permutation folded.rows (joined covers.parts) covers.all)))));
+          (omega (arith, kept_short test (joined split.firsts), split.short, (counted.can).few, length_permutation counted.rows (joined covers.parts) covers.all)))));
     }
 
     pub stands : (hash : List Cell → ℕ) (rows : List Entry) (groups entries : List (Group H)) → Covers aggregations columns rows groups →
@@ -217,8 +217,8 @@ module _ {H : Type 0} where
     start_stands hash entries laid = stands hash [] [] entries (covers_none aggregations columns) laid
 
   module _ (aggregations : List Aggregation) (columns : List ℕ) (its groups : List (Group H)) (same : its ≡ groups) where
-    pub bag_meets : IsFolded aggregations columns groups → CanMeet aggregations columns its
-    bag_meets folded = subst (CanMeet aggregations columns) (sym same) (can_meet aggregations columns groups folded)
+    pub bag_meets : IsCounted aggregations columns groups → CanMeet aggregations columns its
+    bag_meets counted = subst (CanMeet aggregations columns) (sym same) (can_meet aggregations columns groups counted)
 
     pub bag_stands : (hash : List Cell → ℕ) (rows : List Entry) (entries : List (Group H)) → Covers aggregations columns rows groups →
         IsLaid hash aggregations columns its entries → StandsAt hash aggregations columns rows entries

@@ -1,7 +1,7 @@
 pub mod AccumulatorsLemmas
 pub mod CoarseningLemmas
 pub mod FinishLemmas
-pub mod FoldingLemmas
+pub mod BagLemmas
 pub mod FoldsLemmas
 pub mod JoinLemmas
 pub mod LayingLemmas

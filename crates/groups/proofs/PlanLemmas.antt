@@ -12,7 +12,7 @@ use Rattle.cells.specs.declared.cell.Cell.TheVariants as cell
 use Rattle.cells.specs.declared.schema.Column.{Column}
 use Rattle.cells.specs.declared.schema.ColumnType.TheVariants as column
 use Rattle.groups.specs.Accumulators.{aggregations_of}
-use Rattle.groups.specs.Folding.{AreWithin, CanFoldSet, FitsSet, MayTake}
+use Rattle.groups.specs.Bags.{AreWithin, CanFoldSet, FitsSet, MayTake}
 use Rattle.groups.specs.Groups.{cell_at}
 use Rattle.groups.specs.Partials.{MayFold}
 use Rattle.groups.specs.declared.aggregation.Aggregation.{Aggregation}

@@ -9,13 +9,13 @@ use Rattle.std.proofs.lemmas.List.Quantifiers.{position-Some}
 use Rattle.cells.specs.Values.{Entry}
 use Rattle.cells.specs.declared.cell.Cell.{Cell}
 use Rattle.groups.specs.Coarsening.{ArePlaces, CanCoarsen}
-use Rattle.groups.specs.Folding.{Covers, Group, IsFolded}
+use Rattle.groups.specs.Bags.{Covers, Group, IsCounted}
 use Rattle.groups.specs.Groups.{place_in}
 use Rattle.groups.specs.Laying.{IsLaid}
 use Rattle.groups.specs.Partials.{StandsAt, StandsEach}
 use Rattle.groups.specs.Pools.{AreCounted, Grows, HaveFiner, HaveSetsAbove, HaveSetsOf, IsPool, MayCoarsen, MayCoarsenAll, has_finer, has_set}
 use Rattle.groups.specs.declared.aggregation.Aggregation.{Aggregation}
-use Rattle.groups.specs.declared.pool.Folded.{Folded}
+use Rattle.groups.specs.declared.pool.SetBag.{SetBag}
 use Rattle.groups.proofs.LayingLemmas.{start_stands}
 use Rattle.groups.proofs.SourcesLemmas.{finer_stays, set_here, set_stays}
 use Rattle.groups.proofs.TuplesLemmas.{all_at, all_push, all_through}
@@ -39,45 +39,45 @@ places_all finer columns places i h now = subst (λ cs. ArePlaces finer cs place
 
 -- ---- the pool
 module _ {H : Type 0} where
-  pub pool_none : (aggregations : List Aggregation) (rows : List Entry) (pool : List (Folded H)) → pool ≡ [] → IsPool aggregations rows pool
+  pub pool_none : (aggregations : List Aggregation) (rows : List Entry) (pool : List (SetBag H)) → pool ≡ [] → IsPool aggregations rows pool
   pool_none aggregations rows pool e = subst (IsPool aggregations rows) (sym e) (record { each = tt })
 
-  pub pool_more : (aggregations : List Aggregation) (rows : List Entry) (pool new : List (Folded H)) (f : Folded H) → IsPool aggregations rows pool →
+  pub pool_more : (aggregations : List Aggregation) (rows : List Entry) (pool new : List (SetBag H)) (f : SetBag H) → IsPool aggregations rows pool →
       Covers aggregations f.set.items rows f.bag → new ≡ pool ++ f ∷ [] → IsPool aggregations rows new
   pool_more aggregations rows pool new f now covers e = subst (IsPool aggregations rows) (sym e) (record { each = all_push _ pool f now.each covers })
 
-  pub pool_at : (aggregations : List Aggregation) (rows : List Entry) (pool : List (Folded H)) (i : ℕ) (f : Folded H) → IsPool aggregations rows pool → i < length pool →
+  pub pool_at : (aggregations : List Aggregation) (rows : List Entry) (pool : List (SetBag H)) (i : ℕ) (f : SetBag H) → IsPool aggregations rows pool → i < length pool →
       f ≡ get_or pool i f → Covers aggregations f.set.items rows f.bag
-  pool_at aggregations rows pool i f now h is = subst (λ (g : Folded H). Covers aggregations g.set.items rows g.bag) (sym is)
-      (all_at (λ (g : Folded H). Covers aggregations g.set.items rows g.bag) pool i f now.each h)
+  pool_at aggregations rows pool i f now h is = subst (λ (g : SetBag H). Covers aggregations g.set.items rows g.bag) (sym is)
+      (all_at (λ (g : SetBag H). Covers aggregations g.set.items rows g.bag) pool i f now.each h)
 
-  pub counted_at : (aggregations : List Aggregation) (pool : List (Folded H)) (set : List ℕ) (groups : List (Group H)) → (counted : AreCounted aggregations pool) →
-      ((rows : List Entry) → IsPool aggregations rows pool → Covers aggregations set rows groups) → IsFolded aggregations set groups
+  pub counted_at : (aggregations : List Aggregation) (pool : List (SetBag H)) (set : List ℕ) (groups : List (Group H)) → (counted : AreCounted aggregations pool) →
+      ((rows : List Entry) → IsPool aggregations rows pool → Covers aggregations set rows groups) → IsCounted aggregations set groups
   counted_at aggregations pool set groups counted covers = record { rows = counted.rows; covers = covers counted.rows counted.covers; can = counted.can }
 
-  pub may_coarsen_at : (pool : List (Folded H)) (i : ℕ) (f : Folded H) → MayCoarsenAll pool → i < length pool → f ≡ get_or pool i f → MayCoarsen f
+  pub may_coarsen_at : (pool : List (SetBag H)) (i : ℕ) (f : SetBag H) → MayCoarsenAll pool → i < length pool → f ≡ get_or pool i f → MayCoarsen f
   may_coarsen_at pool i f may h is = record {
     aggregations = may.aggregations;
-    folded = counted_at may.aggregations pool f.set.items f.bag may.counted (λ rows now. pool_at may.aggregations rows pool i f now h is);
+    counted = counted_at may.aggregations pool f.set.items f.bag may.counted (λ rows now. pool_at may.aggregations rows pool i f now h is);
   }
 
-  pub can_coarsen : (aggregations : List Aggregation) (finer set places : List ℕ) (groups : List (Group H)) → ArePlaces finer set places → IsFolded aggregations finer groups →
+  pub can_coarsen : (aggregations : List Aggregation) (finer set places : List ℕ) (groups : List (Group H)) → ArePlaces finer set places → IsCounted aggregations finer groups →
       CanCoarsen places groups
-  can_coarsen aggregations finer set places groups are folded = record { aggregations = aggregations; columns = finer; within = are.within; folded = folded }
+  can_coarsen aggregations finer set places groups are counted = record { aggregations = aggregations; columns = finer; within = are.within; counted = counted }
 
 -- ---- a pool that grows
 module _ {H : Type 0} where
-  pub grows_not : (old new : List (Folded H)) → new ≡ old → Grows old new
+  pub grows_not : (old new : List (SetBag H)) → new ≡ old → Grows old new
   grows_not old new e = rw e (record { covers = λ aggregations rows now. now; finer = λ set h. h; stay = λ set h. h })
 
-  pub grows_more : (old mid new : List (Folded H)) → Grows old mid → Grows mid new → Grows old new
+  pub grows_more : (old mid new : List (SetBag H)) → Grows old mid → Grows mid new → Grows old new
   grows_more old mid new first second = record {
     covers = λ aggregations rows now. second.covers aggregations rows (first.covers aggregations rows now);
     finer = λ set h. second.finer set (first.finer set h);
     stay = λ set h. second.stay set (first.stay set h);
   }
 
-  pub grows_by : (old new : List (Folded H)) (f : Folded H) → ((aggregations : List Aggregation) (rows : List Entry) → IsPool aggregations rows old → Covers aggregations f.set.items rows f.bag) →
+  pub grows_by : (old new : List (SetBag H)) (f : SetBag H) → ((aggregations : List Aggregation) (rows : List Entry) → IsPool aggregations rows old → Covers aggregations f.set.items rows f.bag) →
       new ≡ old ++ f ∷ [] → Grows old new
   grows_by old new f covers e = rw e (record {
     covers = λ aggregations rows now. pool_more aggregations rows old (old ++ f ∷ []) f now (covers aggregations rows now) refl;
@@ -85,24 +85,24 @@ module _ {H : Type 0} where
     stay = set_stays old f;
   })
 
-  pub grows_by_set : (old slice new : List (Folded H)) (set : List ℕ) (f : Folded H) → slice ≡ old → f.set.items ≡ set →
+  pub grows_by_set : (old slice new : List (SetBag H)) (set : List ℕ) (f : SetBag H) → slice ≡ old → f.set.items ≡ set →
       ((aggregations : List Aggregation) (rows : List Entry) → IsPool aggregations rows slice → Covers aggregations set rows f.bag) → new ≡ old ++ f ∷ [] → Grows old new
   grows_by_set old slice new set f same is covers e = grows_by old new f (λ aggregations rows now.
       rw is (covers aggregations rows (rw same now))) e
 
-  pub set_pushed : (old new : List (Folded H)) (set : List ℕ) (f : Folded H) → f.set.items ≡ set → new ≡ old ++ f ∷ [] → has_set new set ≡ true
+  pub set_pushed : (old new : List (SetBag H)) (set : List ℕ) (f : SetBag H) → f.set.items ≡ set → new ≡ old ++ f ∷ [] → has_set new set ≡ true
   set_pushed old new set f is e = rw e (subst (λ s. has_set (old ++ f ∷ []) s ≡ true) is (set_here old f))
 
-  pub grown_counted : (aggregations : List Aggregation) (old new : List (Folded H)) → Grows old new → AreCounted aggregations old → AreCounted aggregations new
+  pub grown_counted : (aggregations : List Aggregation) (old new : List (SetBag H)) → Grows old new → AreCounted aggregations old → AreCounted aggregations new
   grown_counted aggregations old new grows counted = record { rows = counted.rows; covers = grows.covers aggregations counted.rows counted.covers; can = counted.can }
 
-  pub grown_may : (old new : List (Folded H)) → Grows old new → MayCoarsenAll old → MayCoarsenAll new
+  pub grown_may : (old new : List (SetBag H)) → Grows old new → MayCoarsenAll old → MayCoarsenAll new
   grown_may old new grows may = record { aggregations = may.aggregations; counted = grown_counted may.aggregations old new grows may.counted }
 
-  pub grown_finer : (old new : List (Folded H)) (sets : List (List ℕ)) → Grows old new → HaveFiner old sets → HaveFiner new sets
+  pub grown_finer : (old new : List (SetBag H)) (sets : List (List ℕ)) → Grows old new → HaveFiner old sets → HaveFiner new sets
   grown_finer old new sets grows finer = all_through _ _ grows.finer sets finer
 
-  pub finer_at : (pool : List (Folded H)) (sets its : List (List ℕ)) (i : ℕ) (s set : List ℕ) → HaveFiner pool sets → its ≡ sets → i < length its → s ≡ get_or its i s → set ≡ s →
+  pub finer_at : (pool : List (SetBag H)) (sets its : List (List ℕ)) (i : ℕ) (s set : List ℕ) → HaveFiner pool sets → its ≡ sets → i < length its → s ≡ get_or its i s → set ≡ s →
       has_finer pool set ≡ true
   finer_at pool sets its i s set finer same h is e =
       rw (e, is, same) (all_at (λ (x : List ℕ). has_finer pool x ≡ true) sets i s finer (subst (λ l. i < length l) same h))
@@ -110,14 +110,14 @@ module _ {H : Type 0} where
 -- ---- sets whose groups the pool has
 module _ {H : Type 0} (sets : List (List ℕ)) (columns : ℕ) where
   -- those of so many columns before a place, in a pool that has grown
-  pub record AddsTo (i : ℕ) (old new : List (Folded H)) : Type 0 where
+  pub record AddsTo (i : ℕ) (old new : List (SetBag H)) : Type 0 where
     pub grows : Grows old new
     pub there : HaveSetsOf columns new (take i sets)
 
-  pub adds_to_none : (old new : List (Folded H)) → new ≡ old → AddsTo 0 old new
+  pub adds_to_none : (old new : List (SetBag H)) → new ≡ old → AddsTo 0 old new
   adds_to_none old new e = record { grows = grows_not old new e; there = tt }
 
-  pub adds_to_more : (its : List (List ℕ)) (i : ℕ) (s : List ℕ) (old mid new : List (Folded H)) → its ≡ sets → i < length its → s ≡ get_or its i s → Grows mid new →
+  pub adds_to_more : (its : List (List ℕ)) (i : ℕ) (s : List ℕ) (old mid new : List (SetBag H)) → its ≡ sets → i < length its → s ≡ get_or its i s → Grows mid new →
       (length s ≡ columns → has_set new s ≡ true) → AddsTo i old mid → AddsTo (i + 1) old new
   adds_to_more its i s old mid new same h is grows here now =
       let within : i < length sets = subst (λ l. i < length l) same h in
@@ -128,22 +128,22 @@ module _ {H : Type 0} (sets : List (List ℕ)) (columns : ℕ) where
             (all_push _ (take i sets) s (all_through _ _ (λ x f many. grows.stay x (f many)) (take i sets) now.there) here);
       }
 
-  pub adds_to_all : (i : ℕ) (old new : List (Folded H)) → length sets ≤ i → AddsTo i old new → HaveSetsOf columns new sets
+  pub adds_to_all : (i : ℕ) (old new : List (SetBag H)) → length sets ≤ i → AddsTo i old new → HaveSetsOf columns new sets
   adds_to_all i old new h now = subst (HaveSetsOf columns new) (take_all i sets h) now.there
 
   -- those of more columns, in a pool that has grown
-  pub record GrownTo (old new : List (Folded H)) : Type 0 where
+  pub record GrownTo (old new : List (SetBag H)) : Type 0 where
     pub grows : Grows old new
     pub there : HaveSetsAbove columns new sets
 
-  pub grown_none : (old new : List (Folded H)) → new ≡ old → AllByRecursion (λ (s : List ℕ). length s ≤ columns) sets → GrownTo old new
+  pub grown_none : (old new : List (SetBag H)) → new ≡ old → AllByRecursion (λ (s : List ℕ). length s ≤ columns) sets → GrownTo old new
   grown_none old new e few = record {
     grows = grows_not old new e;
     there = all_through _ _ (λ s less more. absurd (omega (arith, less, more))) sets few;
   }
 
 module _ {H : Type 0} where
-  both_there : (columns less : ℕ) (mid new : List (Folded H)) (sets : List (List ℕ)) → columns ≡ less + 1 → Grows mid new → HaveSetsAbove columns mid sets →
+  both_there : (columns less : ℕ) (mid new : List (SetBag H)) (sets : List (List ℕ)) → columns ≡ less + 1 → Grows mid new → HaveSetsAbove columns mid sets →
       HaveSetsOf columns new sets → HaveSetsAbove less new sets
   both_there columns less mid new [] e grows above of = tt
   both_there columns less mid new (s ∷ sets) e grows above of = (one (nat_lt columns (length s)) refl, both_there columns less mid new sets e grows above.1 of.1)
@@ -152,7 +152,7 @@ module _ {H : Type 0} where
       one true f more = grows.stay s (above.0 (ltb-true _ _ f))
       one false f more = let most : length s ≤ columns = ltb-false _ _ f in of.0 (omega (arith, e, more, most))
 
-  pub grown_more : (sets : List (List ℕ)) (columns less : ℕ) (old mid new : List (Folded H)) → columns ≡ less + 1 → GrownTo sets columns old mid → Grows mid new →
+  pub grown_more : (sets : List (List ℕ)) (columns less : ℕ) (old mid new : List (SetBag H)) → columns ≡ less + 1 → GrownTo sets columns old mid → Grows mid new →
       HaveSetsOf columns new sets → GrownTo sets less old new
   grown_more sets columns less old mid new e now grows of = record {
     grows = grows_more old mid new now.grows grows;
@@ -191,7 +191,7 @@ module _ {H : Type 0} (hash : List Cell → ℕ) (aggregations : List Aggregatio
       stands_more sets i s tries new trie (subst (λ l. i < length l) same h) (subst (λ (l : List (List ℕ)). s ≡ get_or l i s) same is) now
       (subst (λ u. StandsAt hash aggregations u rows trie) e one) f
 
-module _ {H : Type 0} (hash : List Cell → ℕ) (aggregations : List Aggregation) (pool : List (Folded H)) where
+module _ {H : Type 0} (hash : List Cell → ℕ) (aggregations : List Aggregation) (pool : List (SetBag H)) where
   -- for whatever rows went into the pool
   pub record StandsFor (sets : List (List ℕ)) (i : ℕ) (tries : List (List (Group H))) : Type 0 where
     pub each : (rows : List Entry) → IsPool aggregations rows pool → StandsTo hash aggregations rows sets i tries

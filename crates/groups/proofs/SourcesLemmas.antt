@@ -11,8 +11,8 @@ use Rattle.std.proofs.lemmas.List.Folds.{list_all_at, list_any-append, list_any_
 use Rattle.std.proofs.lemmas.List.Sums.{fails_before_first}
 use Rattle.groups.specs.Groups.{place_in}
 use Rattle.groups.specs.Pools.{AddsSource, ArePlanned, AreSources, has_all, has_finer, has_set, sets_of}
-use Rattle.groups.specs.declared.pool.Folded.{Folded}
-use Rattle.groups.proofs.FoldingLemmas.{covers_none}
+use Rattle.groups.specs.declared.pool.SetBag.{SetBag}
+use Rattle.groups.proofs.BagLemmas.{covers_none}
 use Rattle.groups.proofs.TuplesLemmas.{all_push, all_through}
 
 -- ---- a set has all its own columns
@@ -48,10 +48,10 @@ not_found {X} p xs e = go (nat_lt (position_or_len p xs) (length xs)) refl
         let past : length xs ≤ position_or_len p xs = ltb-false _ _ f in
         list_any_none p xs (λ k d h. fails_before_first p xs k d (omega (arith, h, past)))
 
-pub finer_is_there : {H : Type 0} (pool : List (Folded H)) (set : List ℕ) (found : Option ℕ) → has_finer pool set ≡ true →
-    found ≡ position (λ (f : Folded H). has_all f.set.items set) pool → found ≡ None → ⊥
+pub finer_is_there : {H : Type 0} (pool : List (SetBag H)) (set : List ℕ) (found : Option ℕ) → has_finer pool set ≡ true →
+    found ≡ position (λ (f : SetBag H). has_all f.set.items set) pool → found ≡ None → ⊥
 finer_is_there {H} pool set found has is none =
-    let e : has_finer pool set ≡ false = not_found (λ (f : Folded H). has_all f.set.items set) pool (sym is ∙ none) in
+    let e : has_finer pool set ≡ false = not_found (λ (f : SetBag H). has_all f.set.items set) pool (sym is ∙ none) in
     cc
 
 pub column_is_there : (finer set : List ℕ) (i : ℕ) (found : Option ℕ) → has_all finer set ≡ true → i < length set → found ≡ place_in finer (get_or set i 0) → found ≡ None → ⊥
@@ -68,33 +68,33 @@ either_second true b e = refl
 either_second false b e = e
 
 module _ {H : Type 0} where
-  pub finer_stays : (pool : List (Folded H)) (f : Folded H) (set : List ℕ) → has_finer pool set ≡ true → has_finer (pool ++ f ∷ []) set ≡ true
+  pub finer_stays : (pool : List (SetBag H)) (f : SetBag H) (set : List ℕ) → has_finer pool set ≡ true → has_finer (pool ++ f ∷ []) set ≡ true
   finer_stays pool f set e =
-      list_any-append (λ (g : Folded H). has_all g.set.items set) pool (f ∷ []) ∙ either_first (has_finer pool set) (has_finer (f ∷ []) set) e
+      list_any-append (λ (g : SetBag H). has_all g.set.items set) pool (f ∷ []) ∙ either_first (has_finer pool set) (has_finer (f ∷ []) set) e
 
-  pub finer_here : (pool : List (Folded H)) (f : Folded H) → has_finer (pool ++ f ∷ []) f.set.items ≡ true
+  pub finer_here : (pool : List (SetBag H)) (f : SetBag H) → has_finer (pool ++ f ∷ []) f.set.items ≡ true
   finer_here pool f =
-      list_any-append (λ (g : Folded H). has_all g.set.items f.set.items) pool (f ∷ [])
+      list_any-append (λ (g : SetBag H). has_all g.set.items f.set.items) pool (f ∷ [])
       ∙ either_second (has_finer pool f.set.items) (has_finer (f ∷ []) f.set.items) (either_first _ false (has_itself f.set.items))
 
-  pub set_stays : (pool : List (Folded H)) (f : Folded H) (set : List ℕ) → has_set pool set ≡ true → has_set (pool ++ f ∷ []) set ≡ true
+  pub set_stays : (pool : List (SetBag H)) (f : SetBag H) (set : List ℕ) → has_set pool set ≡ true → has_set (pool ++ f ∷ []) set ≡ true
   set_stays pool f set e =
-      list_any-append (λ (g : Folded H). pointwise nat_eq g.set.items set) pool (f ∷ []) ∙ either_first (has_set pool set) (has_set (f ∷ []) set) e
+      list_any-append (λ (g : SetBag H). pointwise nat_eq g.set.items set) pool (f ∷ []) ∙ either_first (has_set pool set) (has_set (f ∷ []) set) e
 
-  pub set_here : (pool : List (Folded H)) (f : Folded H) → has_set (pool ++ f ∷ []) f.set.items ≡ true
+  pub set_here : (pool : List (SetBag H)) (f : SetBag H) → has_set (pool ++ f ∷ []) f.set.items ≡ true
   set_here pool f =
-      list_any-append (λ (g : Folded H). pointwise nat_eq g.set.items f.set.items) pool (f ∷ [])
+      list_any-append (λ (g : SetBag H). pointwise nat_eq g.set.items f.set.items) pool (f ∷ [])
       ∙ either_second (has_set pool f.set.items) (has_set (f ∷ []) f.set.items) (either_first _ false (nat_list_eq_equiv.refl f.set.items))
 
-  pub adds_nothing : (set : List ℕ) (old new : List (Folded H)) → has_finer old set ≡ true → new ≡ old → AddsSource set old new
+  pub adds_nothing : (set : List ℕ) (old new : List (SetBag H)) → has_finer old set ≡ true → new ≡ old → AddsSource set old new
   adds_nothing set old new e same = rw same (record { finer = e; stay = λ other h. h; planned = λ sets contains now. now })
 
-  pub adds_source : (set : List ℕ) (old new : List (Folded H)) (f : Folded H) → f.set.items ≡ set → f.bag ≡ [] → new ≡ old ++ f ∷ [] → AddsSource set old new
+  pub adds_source : (set : List ℕ) (old new : List (SetBag H)) (f : SetBag H) → f.set.items ≡ set → f.bag ≡ [] → new ≡ old ++ f ∷ [] → AddsSource set old new
   adds_source set old new f is empty e = rw e (record {
     finer = subst (λ s. has_finer (old ++ f ∷ []) s ≡ true) is (finer_here old f);
     stay = finer_stays old f;
     planned = λ sets contains now. record {
-      among = subst (AllByRecursion (Contains sets)) (sym (map-append (λ (g : Folded H). g.set.items) old (f ∷ [])))
+      among = subst (AllByRecursion (Contains sets)) (sym (map-append (λ (g : SetBag H). g.set.items) old (f ∷ [])))
           (all_push (Contains sets) (sets_of old) f.set.items now.among (subst (Contains sets) (sym is) contains));
       none = λ aggregations. record {
         each = all_push _ old f (now.none aggregations).each (rw empty (covers_none aggregations f.set.items));
@@ -102,18 +102,18 @@ module _ {H : Type 0} where
     };
   })
 
-  pub none_planned : (sets : List (List ℕ)) (sources : List (Folded H)) → sources ≡ [] → ArePlanned sets sources
+  pub none_planned : (sets : List (List ℕ)) (sources : List (SetBag H)) → sources ≡ [] → ArePlanned sets sources
   none_planned sets sources e = rw e (record { among = tt; none = λ aggregations. record { each = tt } })
 
   -- the sets before a place that have so many columns have a source
-  pub record Sourced (sets : List (List ℕ)) (columns i : ℕ) (sources : List (Folded H)) : Type 0 where
+  pub record Sourced (sets : List (List ℕ)) (columns i : ℕ) (sources : List (SetBag H)) : Type 0 where
     pub planned : ArePlanned sets sources
     pub finer : AllByRecursion (λ (set : List ℕ). columns ≤ length set → has_finer sources set ≡ true) (take i sets)
 
-  pub sourced_none : (sets : List (List ℕ)) (columns : ℕ) (sources : List (Folded H)) → ArePlanned sets sources → Sourced sets columns 0 sources
+  pub sourced_none : (sets : List (List ℕ)) (columns : ℕ) (sources : List (SetBag H)) → ArePlanned sets sources → Sourced sets columns 0 sources
   sourced_none sets columns sources planned = record { planned = planned; finer = tt }
 
-  sourced_push : (sets : List (List ℕ)) (columns i : ℕ) (set : List ℕ) (sources new : List (Folded H)) → i < length sets → set ≡ get_or sets i set → ArePlanned sets new →
+  sourced_push : (sets : List (List ℕ)) (columns i : ℕ) (set : List ℕ) (sources new : List (SetBag H)) → i < length sets → set ≡ get_or sets i set → ArePlanned sets new →
       ((other : List ℕ) → has_finer sources other ≡ true → has_finer new other ≡ true) → (columns ≤ length set → has_finer new set ≡ true) → Sourced sets columns i sources →
       Sourced sets columns (i + 1) new
   sourced_push sets columns i set sources new h is planned stay here now = record {
@@ -122,7 +122,7 @@ module _ {H : Type 0} where
         (all_push _ (take i sets) set (all_through _ _ (λ s f few. stay s (f few)) (take i sets) now.finer) here);
   }
 
-  pub sourced_more : (sets its : List (List ℕ)) (columns i : ℕ) (s set : List ℕ) (sources new : List (Folded H)) → its ≡ sets → i < length its → s ≡ get_or its i s → set ≡ s →
+  pub sourced_more : (sets its : List (List ℕ)) (columns i : ℕ) (s set : List ℕ) (sources new : List (SetBag H)) → its ≡ sets → i < length its → s ≡ get_or its i s → set ≡ s →
       AddsSource set sources new → Sourced sets columns i sources → Sourced sets columns (i + 1) new
   sourced_more sets its columns i s set sources new same h is e adds now =
       let within : i < length sets = subst (λ l. i < length l) same h in
@@ -130,16 +130,16 @@ module _ {H : Type 0} where
       let added : AddsSource s sources new = subst (λ x. AddsSource x sources new) e adds in
       sourced_push sets columns i s sources new within at (added.planned sets (i, within, sym at) now.planned) added.stay (λ few. added.finer) now
 
-  pub sourced_fewer : (sets its : List (List ℕ)) (columns i count : ℕ) (s : List ℕ) (sources : List (Folded H)) → its ≡ sets → i < length its → s ≡ get_or its i s →
+  pub sourced_fewer : (sets its : List (List ℕ)) (columns i count : ℕ) (s : List ℕ) (sources : List (SetBag H)) → its ≡ sets → i < length its → s ≡ get_or its i s →
       count ≡ length s → count < columns → Sourced sets columns i sources → Sourced sets columns (i + 1) sources
   sourced_fewer sets its columns i count s sources same h is e less now =
       sourced_push sets columns i s sources sources (subst (λ l. i < length l) same h) (subst (λ (l : List (List ℕ)). s ≡ get_or l i s) same is) now.planned (λ other f. f)
       (λ few. absurd (omega (arith, e, less, few))) now
 
-  pub sourced_all : (sets : List (List ℕ)) (columns i : ℕ) (sources : List (Folded H)) → length sets ≤ i → Sourced sets columns i sources →
+  pub sourced_all : (sets : List (List ℕ)) (columns i : ℕ) (sources : List (SetBag H)) → length sets ≤ i → Sourced sets columns i sources →
       AllByRecursion (λ (set : List ℕ). columns ≤ length set → has_finer sources set ≡ true) sets
   sourced_all sets columns i sources h now = subst (AllByRecursion (λ (s : List ℕ). columns ≤ length s → has_finer sources s ≡ true)) (take_all i sets h) now.finer
 
-  pub are_sources : (sets : List (List ℕ)) (sources : List (Folded H)) → ArePlanned sets sources →
+  pub are_sources : (sets : List (List ℕ)) (sources : List (SetBag H)) → ArePlanned sets sources →
       AllByRecursion (λ (set : List ℕ). 0 ≤ length set → has_finer sources set ≡ true) sets → AreSources sets sources
   are_sources sets sources planned finer = record { planned = planned; finer = all_through _ _ (λ s f. f (omega arith)) sets finer }

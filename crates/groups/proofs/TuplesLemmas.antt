@@ -6,7 +6,7 @@ use Rattle.std.proofs.lemmas.List.{get_or-map, get_or_read, length-map, take_mor
 use Rattle.cells.specs.CellOrder.{cell_eq, cell_eq-equiv}
 use Rattle.cells.specs.declared.cell.Cell.{Cell}
 use Rattle.cells.specs.declared.cell.Cell.TheVariants.{Null}
-use Rattle.groups.specs.Folding.{picked}
+use Rattle.groups.specs.Bags.{picked}
 
 pub one_picked_more : (from : List Cell) (places : List ℕ) (cells : List Cell) (i : ℕ) (x y : Cell) (place : ℕ) → length cells ≡ length places → i < length places →
     take i cells ≡ take i (picked places from) → x ≡ get_or cells i x → place ≡ get_or places i 0 → place < length from →

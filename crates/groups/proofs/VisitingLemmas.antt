@@ -5,13 +5,13 @@ use Rattle.std.proofs.Common.{ap, sym, ◌∙◌, subst, arith}
 use Rattle.std.proofs.lemmas.List.{append_assoc, append-nil, length-append, map-append}
 use Rattle.cells.specs.Values.{Entry}
 use Rattle.cells.specs.declared.cell.Cell.{Cell}
-use Rattle.groups.specs.Folding.{CanCount, CanFoldSet, Covers, FitsRow, FitsSet, Group, HasRoom, Takes}
+use Rattle.groups.specs.Bags.{CanCount, CanFoldSet, Covers, FitsRow, FitsSet, Group, HasRoom, Takes}
 use Rattle.groups.specs.Groups.{keeps, kept}
 use Rattle.groups.specs.Laws.{all_kept, kept_join, kept_short}
 use Rattle.groups.specs.Partials.{rows_of}
 use Rattle.groups.specs.Visiting.{MayVisit, TakesKept, Visits}
 use Rattle.groups.specs.declared.aggregation.Aggregation.{Aggregation}
-use Rattle.groups.proofs.FoldingLemmas.{covers_more}
+use Rattle.groups.proofs.BagLemmas.{covers_more}
 use Rattle.groups.proofs.TuplesLemmas.{all_first, all_push, all_second, all_through}
 use Rattle.query.specs.Trees.{PredicateTree}
 use Rattle.query.specs.declared.test.Test.{Test}

@@ -4,7 +4,7 @@ use Rattle.aggs.specs.declared.acc.Acc.{Acc}
 use Rattle.cells.specs.Values.{Entry}
 use Rattle.cells.specs.declared.cell.Cell.{Cell}
 use Rattle.groups.specs.Accumulators.{accs_together}
-use Rattle.groups.specs.Folding.{AreParts, AreWithin, Covers, Group, IsFolded, joined, picked}
+use Rattle.groups.specs.Bags.{AreParts, AreWithin, Covers, Group, IsCounted, joined, picked}
 use Rattle.groups.specs.declared.aggregation.Aggregation.{Aggregation}
 
 -- the columns at some places of a grouping set
@@ -50,4 +50,4 @@ pub record CanCoarsen {H : Type 0} (places : List ℕ) (groups : List (Group H))
   pub aggregations : List Aggregation
   pub columns : List ℕ
   pub within : AreWithin (length columns) places
-  pub folded : IsFolded aggregations columns groups
+  pub counted : IsCounted aggregations columns groups

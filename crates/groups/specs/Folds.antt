@@ -3,12 +3,12 @@ use Rattle.std.specs.Prelude.{◌≡◌, ℕ, List, ◌++◌}
 use Rattle.std.specs.List.{AllByRecursion, Contains}
 use Rattle.cells.specs.Values.{Entry}
 use Rattle.groups.specs.Accumulators.{aggregations_of}
-use Rattle.groups.specs.Folding.{CanFoldSet, Covers, Group}
+use Rattle.groups.specs.Bags.{CanFoldSet, Covers, Group}
 use Rattle.groups.specs.Groups.{kept}
 use Rattle.groups.specs.Partials.{MayFold, rows_of}
 use Rattle.groups.specs.Pools.{HaveFiner, IsPool, sets_of}
 use Rattle.groups.specs.declared.folding.Folding.{Folding}
-use Rattle.groups.specs.declared.pool.Folded.{Folded}
+use Rattle.groups.specs.declared.pool.SetBag.{SetBag}
 use Rattle.groups.specs.declared.visiting.KeptRows.{KeptRows}
 use Rattle.query.specs.Plans.{PlanTree}
 
@@ -20,26 +20,26 @@ module _ {H : Type 0} where
   kept_of rows = kept rows.plan.now.condition (rows_of rows.piece.now)
 
   -- what is kept of some rows went into the groups, and the piece's can be folded behind them
-  pub record MayFoldBehind (rows : KeptRows H) (set : List ℕ) (groups : List (Group H)) : Type 0 where
+  pub record MayFill (rows : KeptRows H) (set : List ℕ) (groups : List (Group H)) : Type 0 where
     pub taken : List Entry
     pub covers : Covers rows.aggregations.now set (kept rows.plan.now.condition taken) groups
     pub can : CanFoldSet rows.plan.now.condition rows.aggregations.now set (taken ++ rows_of rows.piece.now)
 
-  abbrev pub MayGoOn : KeptRows H → Folded H → Type 0
-  MayGoOn rows source = MayFoldBehind rows source.set.items source.bag
+  abbrev pub MayFillSource : KeptRows H → SetBag H → Type 0
+  MayFillSource rows source = MayFill rows source.set.items source.bag
 
   -- the rows went behind whatever rows went into the source's groups
-  pub record GoesOn (rows : KeptRows H) (old new : Folded H) : Type 0 where
+  pub record FillsSource (rows : KeptRows H) (old new : SetBag H) : Type 0 where
     pub set_stays : new.set.items ≡ old.set.items
     pub serves : (befores : List Entry) → Covers rows.aggregations.now old.set.items befores old.bag →
         Covers rows.aggregations.now old.set.items (befores ++ kept_of rows) new.bag
 
   -- ---- each source
 
-  pub record MayAllGoOn (rows : KeptRows H) (sources : List (Folded H)) : Type 0 where
-    pub each : AllByRecursion (MayGoOn rows) sources
+  pub record MayFillSources (rows : KeptRows H) (sources : List (SetBag H)) : Type 0 where
+    pub each : AllByRecursion (MayFillSource rows) sources
 
-  pub record AllGoOn (rows : KeptRows H) (old new : List (Folded H)) : Type 0 where
+  pub record FillsSources (rows : KeptRows H) (old new : List (SetBag H)) : Type 0 where
     pub sets_stay : sets_of new ≡ sets_of old
     pub serves : (befores : List Entry) → IsPool rows.aggregations.now befores old → IsPool rows.aggregations.now (befores ++ kept_of rows) new
 

@@ -4,7 +4,7 @@ use Rattle.aggs.specs.declared.acc.Acc.{Acc}
 use Rattle.cells.specs.TupleOrder.{tuple_cmp, tuple_eq}
 use Rattle.cells.specs.declared.cell.Cell.{Cell}
 use Rattle.groups.specs.Accumulators.{AllFit, both, group}
-use Rattle.groups.specs.Folding.{Group}
+use Rattle.groups.specs.Bags.{Group}
 use Rattle.groups.specs.declared.aggregation.Aggregation.{Aggregation}
 use Rattle.trie.specs.Digits.{digit_order}
 use Rattle.trie.specs.Entries.{value_at}

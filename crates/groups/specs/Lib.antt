@@ -2,7 +2,7 @@ pub mod Groups
 pub mod Accumulators
 pub mod Partials
 pub mod Codes
-pub mod Folding
+pub mod Bags
 pub mod Visiting
 pub mod Pools
 pub mod Folds

@@ -4,10 +4,10 @@ use Rattle.std.specs.Cmp.Lexicographic.{pointwise}
 use Rattle.std.specs.List.{AllByRecursion, Contains, list_all, list_any}
 use Rattle.std.specs.Option.{is_some}
 use Rattle.cells.specs.Values.{Entry}
-use Rattle.groups.specs.Folding.{CanCount, Covers, IsFolded}
+use Rattle.groups.specs.Bags.{CanCount, Covers, IsCounted}
 use Rattle.groups.specs.Groups.{place_in}
 use Rattle.groups.specs.declared.aggregation.Aggregation.{Aggregation}
-use Rattle.groups.specs.declared.pool.Folded.{Folded}
+use Rattle.groups.specs.declared.pool.SetBag.{SetBag}
 
 -- all columns of the set are among the finer ones
 abbrev pub has_all : List ℕ → List ℕ → Bool
@@ -15,50 +15,50 @@ has_all finer set = list_all (λ c. is_some (place_in finer c)) set
 
 module _ {H : Type 0} where
   -- the sets whose groups are there
-  abbrev pub sets_of : List (Folded H) → List (List ℕ)
+  abbrev pub sets_of : List (SetBag H) → List (List ℕ)
   sets_of pool = map (λ f. f.set.items) pool
 
   -- the pool has groups of a set that has all columns of this one
-  abbrev pub has_finer : List (Folded H) → List ℕ → Bool
+  abbrev pub has_finer : List (SetBag H) → List ℕ → Bool
   has_finer pool set = list_any (λ f. has_all f.set.items set) pool
 
   -- the pool has the groups of this very set
-  abbrev pub has_set : List (Folded H) → List ℕ → Bool
+  abbrev pub has_set : List (SetBag H) → List ℕ → Bool
   has_set pool set = list_any (λ f. pointwise nat_eq f.set.items set) pool
 
   -- of each set
-  abbrev pub HaveFiner : List (Folded H) → List (List ℕ) → Type 0
+  abbrev pub HaveFiner : List (SetBag H) → List (List ℕ) → Type 0
   HaveFiner pool sets = AllByRecursion (λ set. has_finer pool set ≡ true) sets
 
   -- those of each set of so many columns
-  abbrev pub HaveSetsOf : ℕ → List (Folded H) → List (List ℕ) → Type 0
+  abbrev pub HaveSetsOf : ℕ → List (SetBag H) → List (List ℕ) → Type 0
   HaveSetsOf columns pool sets = AllByRecursion (λ set. length set ≡ columns → has_set pool set ≡ true) sets
 
   -- those of each set of more columns
-  abbrev pub HaveSetsAbove : ℕ → List (Folded H) → List (List ℕ) → Type 0
+  abbrev pub HaveSetsAbove : ℕ → List (SetBag H) → List (List ℕ) → Type 0
   HaveSetsAbove columns pool sets = AllByRecursion (λ set. columns < length set → has_set pool set ≡ true) sets
 
   -- the rows went into the groups of each set of the pool
-  pub record IsPool (aggregations : List Aggregation) (rows : List Entry) (pool : List (Folded H)) : Type 0 where
+  pub record IsPool (aggregations : List Aggregation) (rows : List Entry) (pool : List (SetBag H)) : Type 0 where
     pub each : AllByRecursion (λ f. Covers aggregations f.set.items rows f.bag) pool
 
   -- rows that may be counted went into these groups
-  pub record MayCoarsen (finer : Folded H) : Type 0 where
+  pub record MayCoarsen (finer : SetBag H) : Type 0 where
     pub aggregations : List Aggregation
-    pub folded : IsFolded aggregations finer.set.items finer.bag
+    pub counted : IsCounted aggregations finer.set.items finer.bag
 
   -- rows that may be counted went into the groups of each set of the pool
-  pub record AreCounted (aggregations : List Aggregation) (pool : List (Folded H)) : Type 0 where
+  pub record AreCounted (aggregations : List Aggregation) (pool : List (SetBag H)) : Type 0 where
     pub rows : List Entry
     pub covers : IsPool aggregations rows pool
     pub can : CanCount aggregations rows
 
-  pub record MayCoarsenAll (pool : List (Folded H)) : Type 0 where
+  pub record MayCoarsenAll (pool : List (SetBag H)) : Type 0 where
     pub aggregations : List Aggregation
     pub counted : AreCounted aggregations pool
 
   -- groups of more sets are there beside those of the old ones, over whatever rows went into the pool
-  pub record Grows (old new : List (Folded H)) : Type 0 where
+  pub record Grows (old new : List (SetBag H)) : Type 0 where
     pub covers : (aggregations : List Aggregation) (rows : List Entry) → IsPool aggregations rows old → IsPool aggregations rows new
     pub finer : (set : List ℕ) → has_finer old set ≡ true → has_finer new set ≡ true
     pub stay : (set : List ℕ) → has_set old set ≡ true → has_set new set ≡ true
@@ -66,17 +66,17 @@ module _ {H : Type 0} where
   -- ---- sources
 
   -- each is one of the sets, and no rows went into it
-  pub record ArePlanned (sets : List (List ℕ)) (sources : List (Folded H)) : Type 0 where
+  pub record ArePlanned (sets : List (List ℕ)) (sources : List (SetBag H)) : Type 0 where
     pub among : AllByRecursion (Contains sets) (sets_of sources)
     pub none : (aggregations : List Aggregation) → IsPool aggregations [] sources
 
   -- and each of the sets has one with all its columns
-  pub record AreSources (sets : List (List ℕ)) (sources : List (Folded H)) : Type 0 where
+  pub record AreSources (sets : List (List ℕ)) (sources : List (SetBag H)) : Type 0 where
     pub planned : ArePlanned sets sources
     pub finer : HaveFiner sources sets
 
   -- there is one with all columns of the set: the set itself, where there was none
-  pub record AddsSource (set : List ℕ) (old new : List (Folded H)) : Type 0 where
+  pub record AddsSource (set : List ℕ) (old new : List (SetBag H)) : Type 0 where
     pub finer : has_finer new set ≡ true
     pub stay : (other : List ℕ) → has_finer old other ≡ true → has_finer new other ≡ true
     pub planned : (sets : List (List ℕ)) → Contains sets set → ArePlanned sets old → ArePlanned sets new

@@ -1,8 +1,8 @@
--- Rows that a walk lends, folded one after another.
+-- Rows that a walk lends, put into a bag one after another.
 use Rattle.std.specs.Prelude.{◌≡◌, ℕ, List, [], ◌∷◌, ◌++◌, Option}
 use Rattle.cells.specs.Values.{Entry}
 use Rattle.cells.specs.declared.cell.Cell.{Cell}
-use Rattle.groups.specs.Folding.{Covers, FitsSet, Group, HasRoom}
+use Rattle.groups.specs.Bags.{Covers, FitsSet, Group, HasRoom}
 use Rattle.groups.specs.Groups.{kept}
 use Rattle.groups.specs.declared.aggregation.Aggregation.{Aggregation}
 use Rattle.query.specs.Trees.{PredicateTree}
@@ -15,9 +15,9 @@ pub record TakesKept {H : Type 0} (condition : Option (PredicateTree (Test ℕ))
 -- what folds rows, as a value of any type: its predicate, its aggregates, its set and its groups
 module _ {S H : Type 0} (condition : S → Option (PredicateTree (Test ℕ))) (aggregations : S → List Aggregation) (set : S → List ℕ) (groups : S → List (Group H)) where
   -- it may be lent the row
-  pub record MayVisit (fold : S) (key : Cell) (row : Entry) : Type 0 where
-    pub fits : FitsSet (condition fold) (aggregations fold) (set fold) row
-    pub room : HasRoom (aggregations fold) (set fold) row (groups fold)
+  pub record MayVisit (filler : S) (key : Cell) (row : Entry) : Type 0 where
+    pub fits : FitsSet (condition filler) (aggregations filler) (set filler) row
+    pub room : HasRoom (aggregations filler) (set filler) row (groups filler)
 
   -- it takes the row, and nothing but its groups changes
   pub record Visits (old : S) (key : Cell) (row : Entry) (new : S) : Type 0 where

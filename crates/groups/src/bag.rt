@@ -1,9 +1,9 @@
-//! Groups while they are folded.
+//! Bags: groups of rows, found by hash.
 ghost use Rattle.std.specs.Prelude.{◌≡◌, ◌<◌, ◌^◌, [], ◌∷◌, ◌++◌, IfOk, IfSome, length, slice_index_or};
 ghost use Rattle.std.specs.List.{AllByRecursion};
 ghost use Rattle.groups.specs.Accumulators.{AllFit};
 ghost use Rattle.groups.specs.Coarsening.{JoinsAt, TakesGroup};
-ghost use Rattle.groups.specs.Folding.{AreWithin, CanTake, Takes, picked};
+ghost use Rattle.groups.specs.Bags.{AreWithin, CanTake, Takes, picked};
 
 use crate::accumulators::Accumulators;
 use crate::aggregation::Aggregation;
@@ -23,7 +23,7 @@ pub struct Bag<H: KeyHash<Cell>> {
 
 impl<H: KeyHash<Cell>> Model for Bag<H> {
     ghost use Rattle.std.specs.Prelude.{List};
-    ghost use Rattle.groups.specs.Folding.{Group};
+    ghost use Rattle.groups.specs.Bags.{Group};
 
     ghost Value = { List (Group H) };
 

@@ -2,7 +2,7 @@
 ghost use Rattle.std.specs.Prelude.{ℕ, List, IfOk, length};
 ghost use Rattle.cells.specs.Values.{Entry};
 ghost use Rattle.groups.specs.Coarsening.{CanCoarsen, picked_columns};
-ghost use Rattle.groups.specs.Folding.{AreWithin, Covers};
+ghost use Rattle.groups.specs.Bags.{AreWithin, Covers};
 ghost use Rattle.groups.specs.declared.aggregation.Aggregation.{Aggregation};
 
 use crate::bag::Bag;

@@ -119,7 +119,7 @@ fn add_rows(rows: &mut Vec<ReportRow>, more: Vec<ReportRow>) -> Result<(), Alloc
 }
 
 /// The report's rows for a grouping set behind those of others, for each list of rows that its groups stand for.
-pub(crate) fn add_set<H: KeyHash<Cell> + KeyHash<Tuple>>(
+pub(crate) fn add_rows_of_set<H: KeyHash<Cell> + KeyHash<Tuple>>(
     alloc: Global,
     rows: &mut Vec<ReportRow>,
     plan: &Plan,

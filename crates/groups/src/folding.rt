@@ -1,17 +1,17 @@
 //! Rows folded piece by piece.
 ghost use Rattle.std.specs.Prelude.{[], List, ◌++◌, IfOk};
 ghost use Rattle.cells.specs.Values.{Entry};
-ghost use Rattle.groups.specs.Folds.{AllGoOn, Folds, MayAllGoOn, MayEnd, MayTakeMore};
+ghost use Rattle.groups.specs.Folds.{FillsSources, Folds, MayFillSources, MayEnd, MayTakeMore};
 ghost use Rattle.groups.specs.Groups.{kept};
 ghost use Rattle.groups.specs.Partials.{Stands, rows_of};
 ghost use Rattle.query.specs.Plans.{PlanTree};
 
 use crate::aggregation::{Aggregation, aggregations};
 use crate::partial::Partial;
-use crate::pool::Folded;
+use crate::pool::SetBag;
 use crate::pool_tries::tries_of;
 use crate::sources::sources_of;
-use crate::visiting::{KeptRows, fold_into};
+use crate::visiting::{KeptRows, fill_source};
 use cells::{Cell, KeyHash, Row, Tuple};
 use query::{Plan, predicates_fit_rows, rows_fit_columns};
 use std::alloc::{AllocError, Global};
@@ -25,7 +25,7 @@ use trie::Piece;
 pub struct Folding<'a, H: KeyHash<Cell>> {
     plan: &'a Plan,
     aggregations: Vec<Aggregation>,
-    sources: Vec<Folded<H>>,
+    sources: Vec<SetBag<H>>,
 }
 
 impl<'a, H: KeyHash<Cell> + KeyHash<Tuple>> Folding<'a, H> {
@@ -57,7 +57,7 @@ impl<'a, H: KeyHash<Cell> + KeyHash<Tuple>> Folding<'a, H> {
             plan: self.plan,
             aggregations: self.aggregations.as_slice(),
         };
-        fold_all(alloc, &rows, &mut self.sources)?;
+        fill_sources(alloc, &rows, &mut self.sources)?;
         Ok(())
     }
 
@@ -79,17 +79,17 @@ impl<'a, H: KeyHash<Cell> + KeyHash<Tuple>> Folding<'a, H> {
     }
 }
 
-/// Folds the rows into the groups of each source.
-fn fold_all<H: KeyHash<Cell>>(
+/// Folds the rows into the bag of each source.
+fn fill_sources<H: KeyHash<Cell>>(
     alloc: Global,
     rows: &KeptRows<'_, H>,
-    sources: &mut Vec<Folded<H>>,
+    sources: &mut Vec<SetBag<H>>,
 ) -> Result<(), AllocError>
-    requires { MayAllGoOn rows.now sources.old.items }
-    ensures { IfOk result (λ _. AllGoOn rows.now sources.old.items sources.new.items) }
+    requires { MayFillSources rows.now sources.old.items }
+    ensures { IfOk result (λ _. FillsSources rows.now sources.old.items sources.new.items) }
 {
     for place in 0..sources.len() {
-        fold_into(alloc, rows, &mut sources[place])?;
+        fill_source(alloc, rows, &mut sources[place])?;
     }
     Ok(())
 }

@@ -3,7 +3,7 @@ ghost use Rattle.std.specs.Prelude.{◌≡◌, ℕ, ◌+◌, ◌<◌, ◌^◌, L
 ghost use Rattle.std.specs.Option.{option_copied};
 ghost use Rattle.cells.specs.Values.{Entry};
 ghost use Rattle.groups.specs.Accumulators.{AllFit, both};
-ghost use Rattle.groups.specs.Folding.{Covers, IsFolded};
+ghost use Rattle.groups.specs.Bags.{Covers, IsCounted};
 ghost use Rattle.groups.specs.Laying.{CanMeet, IsLaid, Lays, found};
 ghost use Rattle.groups.specs.Partials.{StandsAt};
 
@@ -38,7 +38,7 @@ pub fn trie_of<H: KeyHash<Cell> + KeyHash<Tuple>>(
     set: &[usize],
     aggregations: &[Aggregation],
 ) -> Result<Trie<Tuple, Accumulators<H>, H>, AllocError>
-    requires { IsFolded aggregations.now set.now bag.now }
+    requires { IsCounted aggregations.now set.now bag.now }
     ensures { (rows : List Entry) → Covers aggregations.now set.now rows bag.now →
         IfOk result (λ t. StandsAt H.KeyHash-2.hash_of aggregations.now set.now rows t) }
 {

@@ -6,6 +6,7 @@ mod accumulators;
 mod aggregation;
 mod bag;
 mod coarsening;
+mod columns;
 mod finishing;
 mod folding;
 mod joining;

@@ -7,7 +7,7 @@ ghost use Rattle.query.specs.Plans.{PlanTree};
 
 use crate::accumulators::Accumulators;
 use crate::aggregation::aggregations;
-use crate::finishing::add_set;
+use crate::finishing::add_rows_of_set;
 use crate::folding::Folding;
 use crate::joining::join_groups;
 use crate::laying::start;
@@ -95,7 +95,7 @@ impl<H: KeyHash<Cell> + KeyHash<Tuple>> Partial<H> {
     {
         let mut rows = Vec::new(alloc);
         for (set, groups) in plan.sets().iter().zip(&partial.tries) {
-            add_set(alloc, &mut rows, plan, set, groups)?;
+            add_rows_of_set(alloc, &mut rows, plan, set, groups)?;
         }
         Ok(rows)
     }

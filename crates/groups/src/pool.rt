@@ -1,36 +1,35 @@
-//! Groups of several grouping sets over the same rows, the coarser ones made from the finer.
+//! Pools: the bags of several grouping sets over the same rows, the coarser ones made from the finer.
 ghost use Rattle.std.specs.Prelude.{◌≡◌, ◌<◌, List, true, IfOk, IfSome, length, position, slice_index_or};
 ghost use Rattle.std.specs.Option.{is_some, option_copied};
 ghost use Rattle.cells.specs.Values.{Entry};
 ghost use Rattle.groups.specs.Coarsening.{ArePlaces};
-ghost use Rattle.groups.specs.Folding.{Covers};
+ghost use Rattle.groups.specs.Bags.{Covers};
 ghost use Rattle.groups.specs.Pools.{Grows, HaveFiner, HaveSetsAbove, HaveSetsOf, IsPool, MayCoarsen, MayCoarsenAll, has_all, has_finer, has_set};
 ghost use Rattle.groups.specs.declared.aggregation.Aggregation.{Aggregation};
-ghost use Rattle.groups.specs.declared.pool.Folded.{Folded};
+ghost use Rattle.groups.specs.declared.pool.SetBag.{SetBag};
 
 use crate::bag::Bag;
 use crate::coarsening::coarsened;
-use crate::report_row::place_in;
-use crate::sources::{has_all, most_columns};
+use crate::columns::{has_all, most_columns, places_in};
 use cells::{Cell, KeyHash};
 use query::GroupSet;
 use std::alloc::{AllocError, Global};
 
-/// The groups of a grouping set.
+/// A grouping set and the bag of its groups: a source while rows are folded into it, and one of a pool behind the last row.
 #[derive(Drop)]
-pub struct Folded<H: KeyHash<Cell>> {
+pub struct SetBag<H: KeyHash<Cell>> {
     pub set: Vec<usize>,
     pub bag: Bag<H>,
 }
 
-/// The groups of each set that has columns, each set once, made from those of the sources. Sets of more columns come
-/// first, so that others can be made from their groups. From those of the empty set no other is made, so it is left
-/// out, unless it is a source.
+/// The pool of all sets that have columns, each set once, made from the sources. Sets of more columns come first, so
+/// that others can be made from their bags. From the bag of the empty set no other is made, so it is left out, unless it
+/// is a source.
 pub fn pool_of<H: KeyHash<Cell>>(
     alloc: Global,
     sets: &[GroupSet],
-    sources: Vec<Folded<H>>,
-) -> Result<Vec<Folded<H>>, AllocError>
+    sources: Vec<SetBag<H>>,
+) -> Result<Vec<SetBag<H>>, AllocError>
     requires can { MayCoarsenAll sources.items }
     requires finer { HaveFiner sources.items sets.now }
     ensures grows { IfOk result (λ v. Grows sources.items v.items) }
@@ -39,31 +38,31 @@ pub fn pool_of<H: KeyHash<Cell>>(
     let mut pool = sources;
     let mut columns = most_columns(sets);
     while columns > 0 {
-        add_sets(alloc, sets, columns, &mut pool)?;
+        add_bags(alloc, sets, columns, &mut pool)?;
         columns -= 1;
     }
     Ok(pool)
 }
 
-/// The groups of the set, if they are in the pool.
-pub fn groups_in<'a, H: KeyHash<Cell>>(pool: &'a [Folded<H>], set: &[usize]) -> Option<&'a Bag<H>>
+/// The bag of the set, if it is in the pool.
+pub fn bag_in<'a, H: KeyHash<Cell>>(pool: &'a [SetBag<H>], set: &[usize]) -> Option<&'a Bag<H>>
     ensures covers { (aggregations : List Aggregation) (rows : List Entry) → IsPool aggregations rows pool.now →
         IfSome (option_copied result) (λ b. Covers aggregations set.now rows b) }
     ensures there { is_some result ≡ has_set pool.now set.now }
 {
-    for folded in pool {
-        if folded.set.as_slice() == set {
-            return Some(&folded.bag);
+    for set_bag in pool {
+        if set_bag.set.as_slice() == set {
+            return Some(&set_bag.bag);
         }
     }
     None
 }
 
-/// The groups of the set, made from the fewest groups of the pool that will do.
-pub fn groups_by<H: KeyHash<Cell>>(
+/// The bag of the set, made from the bag of fewest groups in the pool that will do.
+pub fn bag_from<H: KeyHash<Cell>>(
     alloc: Global,
     set: &[usize],
-    pool: &[Folded<H>],
+    pool: &[SetBag<H>],
 ) -> Result<Bag<H>, AllocError>
     requires can { MayCoarsenAll pool.now }
     requires finer { has_finer pool.now set.now ≡ true }
@@ -71,15 +70,15 @@ pub fn groups_by<H: KeyHash<Cell>>(
         IfOk result (λ b. Covers aggregations set.now rows b) }
 {
     let place = fewest(pool, set);
-    made_coarser(alloc, &pool[place], set)
+    coarser_bag(alloc, &pool[place], set)
 }
 
-/// Adds the groups of the sets of so many columns to the pool.
-fn add_sets<H: KeyHash<Cell>>(
+/// Adds the bags of the sets of so many columns to the pool.
+fn add_bags<H: KeyHash<Cell>>(
     alloc: Global,
     sets: &[GroupSet],
     columns: usize,
-    pool: &mut Vec<Folded<H>>,
+    pool: &mut Vec<SetBag<H>>,
 ) -> Result<(), AllocError>
     requires can { MayCoarsenAll pool.old.items }
     requires finer { HaveFiner pool.old.items sets.now }
@@ -88,37 +87,37 @@ fn add_sets<H: KeyHash<Cell>>(
 {
     for set in sets {
         if set.columns.len() == columns {
-            add_set(alloc, set.columns.as_slice(), pool)?;
+            add_bag(alloc, set.columns.as_slice(), pool)?;
         }
     }
     Ok(())
 }
 
-/// Adds the groups of a set to the pool, unless they are there.
-fn add_set<H: KeyHash<Cell>>(
+/// Adds the bag of a set to the pool, unless it is there.
+fn add_bag<H: KeyHash<Cell>>(
     alloc: Global,
     set: &[usize],
-    pool: &mut Vec<Folded<H>>,
+    pool: &mut Vec<SetBag<H>>,
 ) -> Result<(), AllocError>
     requires can { MayCoarsenAll pool.old.items }
     requires finer { has_finer pool.old.items set.now ≡ true }
     ensures grows { IfOk result (λ _. Grows pool.old.items pool.new.items) }
     ensures there { IfOk result (λ _. has_set pool.new.items set.now ≡ true) }
 {
-    if groups_in(pool.as_slice(), set).is_some() {
+    if bag_in(pool.as_slice(), set).is_some() {
         return Ok(());
     }
-    let bag = groups_by(alloc, set, pool.as_slice())?;
+    let bag = bag_from(alloc, set, pool.as_slice())?;
     let set = Vec::from_slice(alloc, set)?;
-    pool.push(Folded { set, bag })?;
+    pool.push(SetBag { set, bag })?;
     Ok(())
 }
 
-/// The place in the pool of the fewest groups from which those of the set can be made.
-fn fewest<H: KeyHash<Cell>>(pool: &[Folded<H>], set: &[usize]) -> usize
+/// The place in the pool of the bag of fewest groups from which that of the set can be made.
+fn fewest<H: KeyHash<Cell>>(pool: &[SetBag<H>], set: &[usize]) -> usize
     requires { has_finer pool.now set.now ≡ true }
     ensures within { result < length pool.now }
-    ensures finer { (d : Folded H) → has_all (slice_index_or pool.now result d).set.items set.now ≡ true }
+    ensures finer { (d : SetBag H) → has_all (slice_index_or pool.now result d).set.items set.now ≡ true }
 {
     let mut place = first_finer(pool, set);
     let mut least = pool[place].bag.groups().len();
@@ -134,11 +133,11 @@ fn fewest<H: KeyHash<Cell>>(pool: &[Folded<H>], set: &[usize]) -> usize
     place
 }
 
-/// The first place in the pool of groups from which those of the set can be made.
-fn first_finer<H: KeyHash<Cell>>(pool: &[Folded<H>], set: &[usize]) -> usize
+/// The first place in the pool of a bag from which that of the set can be made.
+fn first_finer<H: KeyHash<Cell>>(pool: &[SetBag<H>], set: &[usize]) -> usize
     requires { has_finer pool.now set.now ≡ true }
     ensures within { result < length pool.now }
-    ensures finer { (d : Folded H) → has_all (slice_index_or pool.now result d).set.items set.now ≡ true }
+    ensures finer { (d : SetBag H) → has_all (slice_index_or pool.now result d).set.items set.now ≡ true }
 {
     let Some(place) = place_of_finer(pool, set) else {
         unreachable!()
@@ -146,18 +145,18 @@ fn first_finer<H: KeyHash<Cell>>(pool: &[Folded<H>], set: &[usize]) -> usize
     place
 }
 
-/// The first place in the pool of groups from which those of the set can be made, if there are any.
-fn place_of_finer<H: KeyHash<Cell>>(pool: &[Folded<H>], set: &[usize]) -> Option<usize>
-    ensures { result ≡ position (λ (f : Folded H). has_all f.set.items set.now) pool.now }
+/// The first place in the pool of a bag from which that of the set can be made, if there is one.
+fn place_of_finer<H: KeyHash<Cell>>(pool: &[SetBag<H>], set: &[usize]) -> Option<usize>
+    ensures { result ≡ position (λ (f : SetBag H). has_all f.set.items set.now) pool.now }
 {
     pool.iter()
         .position(|finer| has_all(finer.set.as_slice(), set))
 }
 
-/// The groups of the set from finer ones.
-fn made_coarser<H: KeyHash<Cell>>(
+/// The bag of the set from a finer one.
+fn coarser_bag<H: KeyHash<Cell>>(
     alloc: Global,
-    finer: &Folded<H>,
+    finer: &SetBag<H>,
     set: &[usize],
 ) -> Result<Bag<H>, AllocError>
     requires can { MayCoarsen finer.now }
@@ -167,19 +166,4 @@ fn made_coarser<H: KeyHash<Cell>>(
 {
     let places = places_in(alloc, finer.set.as_slice(), set)?;
     coarsened(alloc, &finer.bag, places.as_slice())
-}
-
-/// The places of the set's columns among the finer ones.
-fn places_in(alloc: Global, finer: &[usize], set: &[usize]) -> Result<Vec<usize>, AllocError>
-    requires { has_all finer.now set.now ≡ true }
-    ensures { IfOk result (λ v. ArePlaces finer.now set.now v.items) }
-{
-    let mut places = Vec::new(alloc);
-    for column in set {
-        let Some(place) = place_in(finer, *column) else {
-            unreachable!()
-        };
-        places.push(place)?;
-    }
-    Ok(places)
 }

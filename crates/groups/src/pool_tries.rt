@@ -7,7 +7,7 @@ ghost use Rattle.groups.specs.Pools.{AreCounted, HaveFiner, IsPool, has_finer};
 use crate::accumulators::Accumulators;
 use crate::aggregation::Aggregation;
 use crate::laying::trie_of;
-use crate::pool::{Folded, groups_by, groups_in, pool_of};
+use crate::pool::{SetBag, bag_from, bag_in, pool_of};
 use cells::{Cell, KeyHash, Tuple};
 use query::GroupSet;
 use std::alloc::{AllocError, Global};
@@ -18,7 +18,7 @@ pub fn tries_of<H: KeyHash<Cell> + KeyHash<Tuple>>(
     alloc: Global,
     sets: &[GroupSet],
     aggregations: &[Aggregation],
-    sources: Vec<Folded<H>>,
+    sources: Vec<SetBag<H>>,
 ) -> Result<Vec<Trie<Tuple, Accumulators<H>, H>>, AllocError>
     requires can { AreCounted aggregations.now sources.items }
     requires finer { HaveFiner sources.items sets.now }
@@ -40,16 +40,16 @@ fn trie_by<H: KeyHash<Cell> + KeyHash<Tuple>>(
     alloc: Global,
     set: &[usize],
     aggregations: &[Aggregation],
-    pool: &[Folded<H>],
+    pool: &[SetBag<H>],
 ) -> Result<Trie<Tuple, Accumulators<H>, H>, AllocError>
     requires can { AreCounted aggregations.now pool.now }
     requires finer { has_finer pool.now set.now ≡ true }
     ensures { (rows : List Entry) → IsPool aggregations.now rows pool.now →
         IfOk result (λ t. StandsAt H.KeyHash-2.hash_of aggregations.now set.now rows t) }
 {
-    if let Some(groups) = groups_in(pool, set) {
+    if let Some(groups) = bag_in(pool, set) {
         return trie_of(alloc, groups, set, aggregations);
     }
-    let groups = groups_by(alloc, set, pool)?;
+    let groups = bag_from(alloc, set, pool)?;
     trie_of(alloc, &groups, set, aggregations)
 }

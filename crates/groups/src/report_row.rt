@@ -5,6 +5,7 @@ ghost use Rattle.groups.specs.Finishing.{behind_first, first_total, left_by, row
 ghost use Rattle.groups.specs.Groups.{cell_of_place, grouping, place_in};
 
 use crate::accumulators::Accumulators;
+use crate::columns::place_in;
 use aggs::Acc;
 use cells::{Cell, KeyHash, Total, Tuple};
 use query::Item;
@@ -24,13 +25,6 @@ impl Model for ReportRow {
     ghost Value = { List Total };
 
     ghost view = { λ r. r.totals.items };
-}
-
-/// Where the column stands in the grouping set, if it does.
-pub(crate) fn place_in(set: &[usize], column: usize) -> Option<usize>
-    ensures { result ≡ place_in set.now column }
-{
-    set.iter().position(|c| *c == column)
 }
 
 /// The cell as a value.

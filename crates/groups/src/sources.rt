@@ -4,8 +4,8 @@ ghost use Rattle.std.specs.List.{AllByRecursion};
 ghost use Rattle.groups.specs.Pools.{AddsSource, ArePlanned, AreSources, has_all, has_finer};
 
 use crate::bag::Bag;
-use crate::pool::Folded;
-use crate::report_row::place_in;
+use crate::columns::{has_all, most_columns};
+use crate::pool::SetBag;
 use cells::{Cell, KeyHash};
 use query::GroupSet;
 use std::alloc::{AllocError, Global};
@@ -15,7 +15,7 @@ use std::alloc::{AllocError, Global};
 pub fn sources_of<H: KeyHash<Cell>>(
     alloc: Global,
     sets: &[GroupSet],
-) -> Result<Vec<Folded<H>>, AllocError>
+) -> Result<Vec<SetBag<H>>, AllocError>
     ensures { IfOk result (λ v. AreSources sets.now v.items) }
 {
     let mut sources = Vec::new(alloc);
@@ -28,25 +28,12 @@ pub fn sources_of<H: KeyHash<Cell>>(
     Ok(sources)
 }
 
-/// The most columns that one of the sets has.
-pub fn most_columns(sets: &[GroupSet]) -> usize
-    ensures { AllByRecursion (λ (set : List ℕ). length set ≤ result) sets.now }
-{
-    let mut most = 0;
-    for set in sets {
-        if set.columns.len() > most {
-            most = set.columns.len();
-        }
-    }
-    most
-}
-
 /// Adds sources for the sets of so many columns or more.
 fn add_sources<H: KeyHash<Cell>>(
     alloc: Global,
     sets: &[GroupSet],
     columns: usize,
-    sources: &mut Vec<Folded<H>>,
+    sources: &mut Vec<SetBag<H>>,
 ) -> Result<(), AllocError>
     requires { ArePlanned sets.now sources.old.items }
     ensures planned { IfOk result (λ _. ArePlanned sets.now sources.new.items) }
@@ -65,7 +52,7 @@ fn add_sources<H: KeyHash<Cell>>(
 fn add_source<H: KeyHash<Cell>>(
     alloc: Global,
     set: &[usize],
-    sources: &mut Vec<Folded<H>>,
+    sources: &mut Vec<SetBag<H>>,
 ) -> Result<(), AllocError>
     ensures { IfOk result (λ _. AddsSource set.now sources.old.items sources.new.items) }
 {
@@ -74,22 +61,15 @@ fn add_source<H: KeyHash<Cell>>(
     }
     let set = Vec::from_slice(alloc, set)?;
     let bag = Bag::new(alloc);
-    sources.push(Folded { set, bag })?;
+    sources.push(SetBag { set, bag })?;
     Ok(())
 }
 
 /// Whether one of the sources has all columns of the set.
-fn has_finer<H: KeyHash<Cell>>(sources: &[Folded<H>], set: &[usize]) -> bool
+fn has_finer<H: KeyHash<Cell>>(sources: &[SetBag<H>], set: &[usize]) -> bool
     ensures { result ≡ has_finer sources.now set.now }
 {
     sources
         .iter()
         .any(|source| has_all(source.set.as_slice(), set))
-}
-
-/// Whether all columns of the set are among the finer ones.
-pub fn has_all(finer: &[usize], set: &[usize]) -> bool
-    ensures { result ≡ has_all finer.now set.now }
-{
-    set.iter().all(|column| place_in(finer, *column).is_some())
 }

@@ -1,6 +1,6 @@
 //! Tuples made of some of the cells of a row, or of a finer tuple.
 ghost use Rattle.std.specs.Prelude.{◌≡◌, ◌↔◌, IfOk, IsTrue, length};
-ghost use Rattle.groups.specs.Folding.{AreWithin, picked};
+ghost use Rattle.groups.specs.Bags.{AreWithin, picked};
 
 use cells::{Cell, Tuple};
 use std::alloc::{AllocError, Global};

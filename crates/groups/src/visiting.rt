@@ -1,14 +1,14 @@
-//! Rows of a piece folded into the groups of a grouping set.
+//! Rows of a piece folded into the bag of a source.
 ghost use Rattle.std.specs.Prelude.{◌≡◌, ◌++◌, List, IfOk, IfSome, length};
 ghost use Rattle.cells.specs.Values.{Entry};
-ghost use Rattle.groups.specs.Folding.{Covers};
-ghost use Rattle.groups.specs.Folds.{GoesOn, MayFoldBehind, MayGoOn, kept_of};
+ghost use Rattle.groups.specs.Bags.{Covers};
+ghost use Rattle.groups.specs.Folds.{FillsSource, MayFill, MayFillSource, kept_of};
 ghost use Rattle.groups.specs.Groups.{keeps};
 ghost use Rattle.query.specs.Truth.{IsOver};
 
 use crate::aggregation::Aggregation;
 use crate::bag::Bag;
-use crate::pool::Folded;
+use crate::pool::SetBag;
 use cells::{Cell, KeyHash, Row};
 use query::{Plan, Truth};
 use std::alloc::{AllocError, Global};
@@ -23,9 +23,9 @@ pub struct KeptRows<'a, H: KeyHash<Cell>> {
     pub aggregations: &'a [Aggregation],
 }
 
-/// The groups of a set, while rows are lent to it that are folded into them.
+/// A bag on its way through a piece: the rows that are lent to it go into the groups of the bag.
 #[derive(Drop)]
-struct Fold<'a, H: KeyHash<Cell>> {
+struct BagFiller<'a, H: KeyHash<Cell>> {
     alloc: Global,
     plan: &'a Plan,
     aggregations: &'a [Aggregation],
@@ -33,7 +33,7 @@ struct Fold<'a, H: KeyHash<Cell>> {
     bag: Bag<H>,
 }
 
-impl<'a, H: KeyHash<Cell>> Visitor<Cell, Row> for Fold<'a, H> {
+impl<'a, H: KeyHash<Cell>> Visitor<Cell, Row> for BagFiller<'a, H> {
     ghost use Rattle.groups.specs.Visiting.{MayVisit, Visits};
 
     ghost asks = { MayVisit (λ f. f.plan.now.condition) (λ f. f.aggregations.now) (λ f. f.set.now) (λ f. f.bag) };
@@ -60,40 +60,40 @@ fn keeps(plan: &Plan, row: &Row) -> bool
     }
 }
 
-/// Folds the rows into the groups of a set, behind those that are there. After an error there are no groups.
-pub fn fold_into<H: KeyHash<Cell>>(
+/// Folds the rows into the groups of a source, behind those that are there. After an error it has no groups.
+pub fn fill_source<H: KeyHash<Cell>>(
     alloc: Global,
     rows: &KeptRows<'_, H>,
-    source: &mut Folded<H>,
+    source: &mut SetBag<H>,
 ) -> Result<(), AllocError>
-    requires { MayGoOn rows.now source.old }
-    ensures { IfOk result (λ _. GoesOn rows.now source.old source.new) }
+    requires { MayFillSource rows.now source.old }
+    ensures { IfOk result (λ _. FillsSource rows.now source.old source.new) }
 {
     let bag = mem::replace(&mut source.bag, Bag::new(alloc));
-    let bag = folded(alloc, rows, source.set.as_slice(), bag)?;
+    let bag = filled_bag(alloc, rows, source.set.as_slice(), bag)?;
     source.bag = bag;
     Ok(())
 }
 
-/// The groups of a set with the rows folded into them, in one walk.
-fn folded<H: KeyHash<Cell>>(
+/// The bag of a set with the rows in its groups, in one walk.
+fn filled_bag<H: KeyHash<Cell>>(
     alloc: Global,
     rows: &KeptRows<'_, H>,
     set: &[usize],
     bag: Bag<H>,
 ) -> Result<Bag<H>, AllocError>
-    requires { MayFoldBehind rows.now set.now bag }
+    requires { MayFill rows.now set.now bag }
     ensures { (befores : List Entry) → Covers rows.now.aggregations.now set.now befores bag →
         IfOk result (λ b. Covers rows.now.aggregations.now set.now (befores ++ kept_of rows.now) b) }
 {
-    let mut fold = Fold {
+    let mut filler = BagFiller {
         alloc,
         plan: rows.plan,
         aggregations: rows.aggregations,
         set,
         bag,
     };
-    rows.piece.walk(&mut fold)?;
-    let Fold { bag, .. } = fold;
+    rows.piece.walk(&mut filler)?;
+    let BagFiller { bag, .. } = filler;
     Ok(bag)
 }

@@ -1,7 +1,7 @@
 use Rattle.std.proofs.Common.{◌≡◌, ◌<◌, get_or, length, true}
 use Rattle.groups.specs.Pools.{has_all}
-use Rattle.groups.specs.declared.pool.Folded.{Folded}
+use Rattle.groups.specs.declared.pool.SetBag.{SetBag}
 use Rattle.groups.proofs.pool.fewest.Given as goal
 
 abbrev pub invariant-loop-i : goal.invariant-loop-i
-invariant-loop-i g l = (l.place < length l.pool) × ((d : Folded _) → has_all (get_or l.pool l.place d).set.items l.set ≡ true)
+invariant-loop-i g l = (l.place < length l.pool) × ((d : SetBag _) → has_all (get_or l.pool l.place d).set.items l.set ≡ true)

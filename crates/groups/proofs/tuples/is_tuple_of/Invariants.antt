@@ -1,5 +1,5 @@
 use Rattle.std.proofs.Common.{◌≡◌, take}
-use Rattle.groups.specs.Folding.{picked}
+use Rattle.groups.specs.Bags.{picked}
 use Rattle.groups.proofs.tuples.is_tuple_of.Given as goal
 
 abbrev pub invariant-loop-i : goal.invariant-loop-i

@@ -1,6 +1,6 @@
 use Rattle.std.proofs.Common.{List, ap, get_or, set, subst, ◌≡◌}
 use Rattle.std.proofs.lemmas.Result.{IfOk-weaker}
-use Rattle.groups.proofs.FoldingLemmas.{takes_found, takes_new}
+use Rattle.groups.proofs.BagLemmas.{takes_found, takes_new}
 use Rattle.groups.proofs.bag.Bag.take.Goals as goal
 
 pub returns-in-Some : goal.returns-in-Some

@@ -6,7 +6,7 @@ use Rattle.groups.proofs.partial.Partial.finish.Goals as goal
 pub loop-set-preserved : goal.loop-set-preserved
 loop-set-preserved g c =
     let step = c.in-Some.ensures.steps in
-    finishing_more g.H.KeyHash-2.hash_of c.args.plan.now c.args.partial c.loop-set.invariant step.0 step.1 c.add_set.new.rows.items c.in_ok-add_set.ensures
+    finishing_more g.H.KeyHash-2.hash_of c.args.plan.now c.args.partial c.loop-set.invariant step.0 step.1 c.add_rows_of_set.new.rows.items c.in_ok-add_rows_of_set.ensures
 
 pub returns : goal.returns
 returns g c = λ rows stands.

@@ -14,7 +14,7 @@ use Rattle.cells.specs.Values.{Entry}
 use Rattle.cells.specs.declared.cell.Cell.{Cell}
 use Rattle.cells.specs.declared.cell.Cell.TheVariants.{Null}
 use Rattle.groups.specs.Accumulators.{CanStep, MayStep, accs_of, accs_together, both, group, group_or, is_start, no_rows, stepped}
-use Rattle.groups.specs.Folding.{AreParts, CanTake, Covers, FitsRow, Group, HasRoom, IsPart, MayTake, Takes, joined, picked}
+use Rattle.groups.specs.Bags.{AreParts, CanTake, Covers, FitsRow, Group, HasRoom, IsPart, MayTake, Takes, joined, picked}
 use Rattle.groups.specs.Groups.{cell_at, column_of, members, tuple_of}
 use Rattle.groups.specs.Laws.{accs_join, group_any_order, group_joins}
 use Rattle.groups.specs.Laying.{given, met_from}

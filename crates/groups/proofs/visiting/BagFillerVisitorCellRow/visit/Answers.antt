@@ -1,7 +1,7 @@
 use Rattle.std.proofs.Common.{refl, sym, ◌∙◌}
-use Rattle.groups.proofs.FoldingLemmas.{can_take}
+use Rattle.groups.proofs.BagLemmas.{can_take}
 use Rattle.groups.proofs.VisitingLemmas.{takes_kept}
-use Rattle.groups.proofs.visiting.FoldVisitorCellRow.visit.Goals as goal
+use Rattle.groups.proofs.visiting.BagFillerVisitorCellRow.visit.Goals as goal
 
 pub take-requires-clause-can : goal.take-requires-clause-can
 take-requires-clause-can g c = can_take c.args.self.now.aggregations.now c.args.self.now.set.now c.args.row.now c.args.self.now.bag c.requires.room

@@ -1,4 +1,4 @@
--- Groups while rows are folded into them: a list of groups, of which several may have one tuple.
+-- Bags of groups: a list of groups that rows go into, of which several may have one tuple.
 use Rattle.std.specs.Prelude.{◌≡◌, ℕ, ◌<◌, ◌≤◌, false, ◌⊎◌, List, [], ◌∷◌, ◌++◌, IfSome, Option, length, map, set, slice_index_or, ⊤}
 use Rattle.std.specs.List.{AllByRecursion, flat_map}
 use Rattle.std.specs.List.Sorted.{IsPermutation}
@@ -93,7 +93,7 @@ module _ {H : Type 0} (aggregations : List Aggregation) where
     pub can : CanCount aggregations (rows ++ row ∷ [])
 
   -- rows that may be counted went into the groups
-  pub record IsFolded (columns : List ℕ) (groups : List (Group H)) : Type 0 where
+  pub record IsCounted (columns : List ℕ) (groups : List (Group H)) : Type 0 where
     pub rows : List Entry
     pub covers : Covers aggregations columns rows groups
     pub can : CanCount aggregations rows

@@ -1,7 +1,7 @@
 use Rattle.std.proofs.Common.{sym, ◌∙◌}
 use Rattle.groups.proofs.PoolLemmas.{places_more}
 use Rattle.groups.proofs.SourcesLemmas.{column_is_there}
-use Rattle.groups.proofs.pool.places_in.Goals as goal
+use Rattle.groups.proofs.columns.places_in.Goals as goal
 
 pub unreachable-requires : goal.unreachable-requires
 unreachable-requires c = column_is_there c.args.finer.now c.args.set.now c.loop-column.column-index c.place_in.result c.requires c.loop-column-test.true c.place_in.ensures c.in_default.is

@@ -1,5 +1,5 @@
 use Rattle.groups.proofs.VisitingLemmas.{may_visit, visited_all}
-use Rattle.groups.proofs.visiting.folded.Goals as goal
+use Rattle.groups.proofs.visiting.filled_bag.Goals as goal
 
 pub walk-requires : goal.walk-requires
 walk-requires g c = may_visit _ _ _ _ _ c.requires.taken c.args.rows.now.piece.now c.requires.covers c.requires.can

@@ -1,5 +1,5 @@
 use Rattle.groups.proofs.PoolLemmas.{grows_by_set, set_pushed}
-use Rattle.groups.proofs.pool.add_set.Goals as goal
+use Rattle.groups.proofs.pool.add_bag.Goals as goal
 
 pub returns-clause-grows : goal.returns-clause-grows
 returns-clause-grows g c =
