@@ -1,6 +1,6 @@
 -- The entries of a trie of cells as a set of cells, and the steps of that set.
 use Rattle.std.specs.Prelude.{is_some}
-use Rattle.std.proofs.Common.{Bor, ◌≡◌, ◌||◌, ◌+◌, ℕ, Bool, true, false, cond, Option, Some, None, List, [], ◌∷◌, length, refl, sym, ap, ap₂, ◌∙◌}
+use Rattle.std.proofs.Common.{Bor, ◌≡◌, ◌≢◌, ◌||◌, ◌+◌, ℕ, Bool, true, false, cond, Option, Some, None, List, [], ◌∷◌, refl, sym, ap, ap₂, ◌∙◌}
 use Rattle.std.specs.FinMap as map
 use Rattle.std.specs.FinMap.Entries.{is_some-find}
 use Rattle.std.specs.FinSet.{contains, contains-empty, contains-from_list, contains-insert, contains-union, empty, from_list, insert, len, len-empty, len-insert, same_set, union}
@@ -9,7 +9,7 @@ use Rattle.std.specs.Option.{option_copied}
 use Rattle.std.specs.declared.cmp.Ordering.{Ordering}
 use Rattle.aggs.specs.Differing.{Cells, contains_different, different, nothing_second, union_turns}
 use Rattle.aggs.specs.Values.{is_null, present}
-use Rattle.cells.specs.CellOrder.{cell_cmp, cell_cmp-total, cell_eq}
+use Rattle.cells.specs.CellOrder.{cell_cmp, cell_cmp-total, cell_eq, cell_eq-equiv}
 use Rattle.cells.specs.SameKeys.{exact_cells, same_cells}
 use Rattle.cells.specs.declared.cell.Cell.{Cell}
 use Rattle.cells.specs.declared.cell.Cell.TheVariants.{Null, Int, Text}
@@ -112,6 +112,14 @@ old_stepped s c e there = same s (insert s c) (λ q.
     already (cell_eq q c) (contains s q) (λ same. ap (contains s) (same_cells q c same) ∙ there)
     ∙ sym (contains-insert cell_cmp-total s c q))
     ∙ new_stepped s c e
+
+-- a cell that is not there changes the set
+pub new_needed : (s : Cells) (c : Cell) → is_null c ≡ false → contains s c ≡ false → union s (different (c ∷ [])) ≢ s
+new_needed s c e missing same =
+    let there : contains (insert s c) c ≡ (cell_eq c c || contains s c) = contains-insert cell_cmp-total s c c in
+    let first : (cell_eq c c || contains s c) ≡ true = ap (λ b. b || contains s c) (cell_eq-equiv.refl c) in
+    let alike : contains (insert s c) c ≡ contains s c = ap (λ (t : Cells). contains t c) (new_stepped s c e ∙ same) in
+    cc (there, first, alike, missing)
 
 one_long : (c : Cell) → len (insert (empty {R = cell_cmp}) c) ≡ 1
 one_long c = len-insert cell_cmp-total empty c

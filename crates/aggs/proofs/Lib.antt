@@ -1,2 +1,3 @@
 pub mod DifferingLemmas
+pub mod NeededLemmas
 pub mod StoredLemmas

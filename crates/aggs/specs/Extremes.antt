@@ -1,5 +1,5 @@
 -- The laws of MIN and MAX.
-use Rattle.std.specs.Prelude.{◌≡◌, List, ◌++◌, Option, Some, None}
+use Rattle.std.specs.Prelude.{◌≡◌, List, ◌++◌, Option, None}
 use Rattle.std.specs.Cmp.{back_total}
 use Rattle.std.specs.List.Sorted.{IsPermutation}
 use Rattle.std.proofs.Common.{ap, sym}

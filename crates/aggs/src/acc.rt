@@ -1,5 +1,5 @@
 //! An accumulator of any of the aggregates.
-ghost use Rattle.std.specs.Prelude.{◌≡◌, [], ◌∷◌, IfOk, OnErr};
+ghost use Rattle.std.specs.Prelude.{◌≡◌, ◌≢◌, [], ◌∷◌, IfOk, OnErr};
 ghost use Rattle.aggs.specs.Accs.{AccTakes, AccsFit, acc_of, acc_together, acc_total, kind_of};
 
 use crate::aggregate::Aggregate;
@@ -78,6 +78,7 @@ impl<H: KeyHash<Cell>> Acc<H> {
         requires room { AccsFit self.old (acc_of (kind_of self.old) (cell.now ∷ [])) }
         ensures stepped { IfOk result (λ _. self.new ≡ acc_together self.old (acc_of (kind_of self.old) (cell.now ∷ []))) }
         ensures unchanged { OnErr result (self.new ≡ self.old) }
+        ensures needed { OnErr result (acc_together self.old (acc_of (kind_of self.old) (cell.now ∷ [])) ≢ self.old) }
     {
         match self {
             Acc::CountRows(acc) => acc.step(alloc, cell),

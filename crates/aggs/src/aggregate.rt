@@ -1,5 +1,5 @@
 //! What an aggregate is.
-ghost use Rattle.std.specs.Prelude.{◌≡◌, List, [], ◌∷◌, ◌++◌, IfOk, OnErr};
+ghost use Rattle.std.specs.Prelude.{◌≡◌, ◌≢◌, List, [], ◌∷◌, ◌++◌, IfOk, OnErr};
 ghost use Rattle.std.specs.List.Sorted.{IsPermutation};
 ghost use Rattle.aggs.specs.Room.{MayJoin};
 ghost use Rattle.cells.specs.declared.cell.Cell.{Cell};
@@ -42,7 +42,10 @@ pub trait Aggregate {
         requires kind { may_take cell.now }
         requires room { fits self.old (of (cell.now ∷ [])) }
         ensures stepped { IfOk result (λ _. self.new ≡ together self.old (of (cell.now ∷ []))) }
-        ensures unchanged { OnErr result (self.new ≡ self.old) };
+        ensures unchanged { OnErr result (self.new ≡ self.old) }
+
+        // Memory is asked for only where the cell changes the accumulator.
+        ensures needed { OnErr result (together self.old (of (cell.now ∷ [])) ≢ self.old) };
 
     /// The accumulator of both lists put together.
     fn join(&self, alloc: Global, other: &Self) -> Result<Self, AllocError>

@@ -5,7 +5,7 @@ use Rattle.cells.specs.declared.token.Token.{Token}
 use Rattle.cells.specs.declared.refused.Refused.{Refused}
 use Rattle.cells.specs.declared.refused.Refused.TheVariants.{OutOfMemory, QuerySyntax}
 use Rattle.query.specs.Grammar.{Separated, last, next}
-use Rattle.query.specs.Reading.{BeginsNot, Ends, Reads, Starts, Found, Nothing}
+use Rattle.query.specs.Reading.{BeginsNot, Ends, ReadsPhrase, Starts, Found, Nothing}
 
 -- S is T through f, with the same rest
 pub record Turns {X Y : Type 0} (S : X → List Token → Type 0) (T : Y → List Token → Type 0) (f : Y → X) : Type 0 where
@@ -30,13 +30,13 @@ module _ {X Y : Type 0} {S : X → List Token → Type 0} {T : Y → List Token 
   turn_err turns (inr fault) = inr (fault.0, turn_nothing turns fault.1)
 
 -- what the reader of the part answers is what the reader of the whole answers, where it hands it on
-pub turn_reads : {X Y : Type 0} {S T : X → List Token → Type 0} (view : Y → X × List Token) (r : Result Y Refused) → Turns S T (λ x. x) → Reads view T r → Reads view S r
+pub turn_reads : {X Y : Type 0} {S T : X → List Token → Type 0} (view : Y → X × List Token) (r : Result Y Refused) → Turns S T (λ x. x) → ReadsPhrase view T r → ReadsPhrase view S r
 turn_reads view (Ok y) turns found = turn_found turns found
 turn_reads view (Err e) turns fault = turn_err turns fault
 
 -- what was made beside a value
 pub beside_reads : {A B V : Type 0} {S : A × B → List Token → Type 0} {T : B → List Token → Type 0} (view : V → B) (value : A) (made : Result V Refused) (r : Result (A × V) Refused)
-    → Turns S T (λ y. (value, y)) → Reads (λ v. (view v, [])) T made → MatchResult r (λ x. (made ≡ Ok x.1) × (x.0 ≡ value)) (λ e. made ≡ Err e) → Reads (λ x. ((x.0, view x.1), [])) S r
+    → Turns S T (λ y. (value, y)) → ReadsPhrase (λ v. (view v, [])) T made → MatchResult r (λ x. (made ≡ Ok x.1) × (x.0 ≡ value)) (λ e. made ≡ Err e) → ReadsPhrase (λ x. ((x.0, view x.1), [])) S r
 beside_reads {S = S} view value (Ok v) (Ok x) turns found h =
     let same : v ≡ x.1 = cc in
     subst (λ a. Found S (a, view x.1) []) (sym h.1) (subst (λ w. Found S (value, view w) []) same (turn_found turns found))
@@ -66,7 +66,7 @@ module _ {X : Type 0} {Sp : List Token → X → List Token → Type 0} {Apart :
   none_closed nothing = record { none = λ y r s. nothing.none y (t ∷ r) (record { spells = s; apart = apart r }) }
 
   pub reads_closed : {Y : Type 0} (view : Y → List Token) (x : X) (behind : List Token) (r : Result (X × Y) Refused) → Found (Starts Sp Apart ts) x behind
-      → MatchResult r (λ z. (z.0 ≡ x) × (behind ≡ t ∷ view z.1)) (λ e. (e ≡ QuerySyntax) × BeginsNot t behind) → Reads (λ z. (z.0, view z.1)) (λ y rest. Sp ts y (t ∷ rest)) r
+      → MatchResult r (λ z. (z.0 ≡ x) × (behind ≡ t ∷ view z.1)) (λ e. (e ≡ QuerySyntax) × BeginsNot t behind) → ReadsPhrase (λ z. (z.0, view z.1)) (λ y rest. Sp ts y (t ∷ rest)) r
   reads_closed view x behind (Ok z) found h = subst (λ y. Found (λ w rest. Sp ts w (t ∷ rest)) y (view z.1)) (sym h.0) (closed found (view z.1) h.1)
   reads_closed view x behind (Err e) found h = inr (h.0, not_closed found h.1)
 

@@ -19,7 +19,7 @@ use Rattle.query.specs.declared.test.Operand.TheVariants as operand
 use Rattle.query.specs.declared.test.Comparison.{Comparison}
 use Rattle.query.specs.declared.test.Comparison.TheVariants as comparison
 use Rattle.query.specs.Phrases.{name_at, call_of, call_at, item_at, rows_at, distinct_at, named_at, with_rest, literal_at, operand_at, comparison_at}
-use Rattle.query.specs.Reading.{Any, Starts, Reads}
+use Rattle.query.specs.Reading.{Any, Starts, ReadsPhrase}
 use Rattle.query.specs.declared.item.Item.{Item}
 use Rattle.query.specs.declared.item.Item.TheVariants as item
 
@@ -29,7 +29,7 @@ pub record Computes {X : Type 0} (Sp : List Token → X → List Token → Type 
   pub complete : (x : X) (rest : List Token) → Sp ts x rest → o ≡ Some (x, rest)
 
 pub computed : {X Y : Type 0} (Sp : List Token → X → List Token → Type 0) (view : Y → X × List Token) (ts : List Token) (o : Option (X × List Token)) (r : Result Y Refused)
-    → Computes Sp ts o → AnswersBy view QuerySyntax o r → Reads view (Starts Sp Any ts) r
+    → Computes Sp ts o → AnswersBy view QuerySyntax o r → ReadsPhrase view (Starts Sp Any ts) r
 computed Sp view ts o (Ok y) c h = record {
   is = record { spells = c.sound (view y).0 (view y).1 h; apart = tt };
   only = λ x rest s.

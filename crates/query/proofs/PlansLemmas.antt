@@ -13,7 +13,7 @@ use Rattle.cells.specs.declared.schema.ColumnType.TheVariants.{Int, Text}
 use Rattle.query.specs.Checks.{fault_of, has_too_many_sets, has_unknown, is_column, is_not_grouped, is_text_column, is_text_sum, is_text_type, is_unknown, is_wrong_type}
 use Rattle.query.specs.Headings.{heading}
 use Rattle.query.specs.Names.{element_names, item_names, names_of, operand_names, test_names, tests_of, tests_of_each, tests_where}
-use Rattle.query.specs.Plans.{IsConditionOf, IsItemOf, IsPlanOf, IsRising, IsSetOf, PlanTree, place_of, placed_each, placed_item, placed_operand, placed_predicate, placed_test, plan_of, type_at}
+use Rattle.query.specs.Plans.{IsConditionOf, IsItemOf, IsPlanOf, PlacesRise, IsSetOf, PlanTree, place_of, placed_each, placed_item, placed_operand, placed_predicate, placed_test, plan_of, type_at}
 use Rattle.query.specs.Sets.{Names, grouping_sets, names_column, places, places_from}
 use Rattle.query.specs.Trees.{PredicateTree, Or, And, Not, Holds, PredicateTrees, NoPredicates, MorePredicates}
 use Rattle.query.specs.Truth.{AreOver, IsOver, IsTestWithin, IsWithin}
@@ -154,11 +154,11 @@ bounds k (c ∷ cs) s = bounds_step (names_column s c) k (length cs) (places_fro
 above : (k n p : ℕ) → IsFrom (k + 1) n p → k < p
 above k n p h = omega (arith, h.0)
 
-rising_step : (b : Bool) (k n : ℕ) (ps : List ℕ) → AllByRecursion (IsFrom (k + 1) n) ps → IsRising ps → IsRising (if b then k ∷ ps else ps)
+rising_step : (b : Bool) (k n : ℕ) (ps : List ℕ) → AllByRecursion (IsFrom (k + 1) n) ps → PlacesRise ps → PlacesRise (if b then k ∷ ps else ps)
 rising_step true k n ps h r = (all_weaker ps (above k n) h, r)
 rising_step false k n ps h r = r
 
-rising : (k : ℕ) (cs : List Column) (s : Names) → IsRising (places_from k cs s)
+rising : (k : ℕ) (cs : List Column) (s : Names) → PlacesRise (places_from k cs s)
 rising k [] s = tt
 rising k (c ∷ cs) s = rising_step (names_column s c) k (length cs) (places_from (k + 1) cs s) (bounds (k + 1) cs s) (rising (k + 1) cs s)
 

@@ -83,9 +83,10 @@ checked table query = checked_by (fault_of table query) (plan_of table query)
 
 -- ---- what holds of each plan for a table
 
-abbrev pub IsRising : List ℕ → Type 0
-IsRising [] = ⊤
-IsRising (p ∷ ps) = AllByRecursion (λ q. p < q) ps × IsRising ps
+-- each place is below those after it
+abbrev pub PlacesRise : List ℕ → Type 0
+PlacesRise [] = ⊤
+PlacesRise (p ∷ ps) = AllByRecursion (λ q. p < q) ps × PlacesRise ps
 
 -- the type of the column at the place, if there is one
 abbrev pub type_at : List Column → ℕ → Option ColumnType
@@ -109,7 +110,7 @@ IsConditionOf columns (Some p) = IsOver (length columns) p
 -- places of columns, rising
 pub record IsSetOf (columns : List Column) (set : List ℕ) : Type 0 where
   pub within : AllByRecursion (λ p. p < length columns) set
-  pub rising : IsRising set
+  pub rising : PlacesRise set
 
 -- the plan may be carried out over rows of the table
 pub record IsPlanOf (table : Table) (plan : PlanTree) : Type 0 where

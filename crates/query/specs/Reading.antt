@@ -51,9 +51,9 @@ pub record Nothing {X : Type 0} (S : X → List Token → Type 0) : Type 0 where
   pub none : (y : X) (r : List Token) → S y r → ⊥
 
 -- what a reader answers: the phrase that is found, by its view, or bad syntax where there is none, unless memory is wanting
-abbrev pub Reads : {X Y : Type 0} → (Y → X × List Token) → (X → List Token → Type 0) → Result Y Refused → Type 0
-Reads view S (Ok y) = Found S (view y).0 (view y).1
-Reads view S (Err e) = (e ≡ OutOfMemory) ⊎ ((e ≡ QuerySyntax) × Nothing S)
+abbrev pub ReadsPhrase : {X Y : Type 0} → (Y → X × List Token) → (X → List Token → Type 0) → Result Y Refused → Type 0
+ReadsPhrase view S (Ok y) = Found S (view y).0 (view y).1
+ReadsPhrase view S (Err e) = (e ≡ OutOfMemory) ⊎ ((e ≡ QuerySyntax) × Nothing S)
 
 -- whether the tokens begin with NOT, and what follows it or else the tokens themselves
 pub record Marked (us : List Token) (not : Bool) (vs : List Token) : Type 0 where

@@ -1,9 +1,20 @@
--- Worked examples: a table of three columns, elements of GROUP BY over them, and their grouping sets as places.
-use Rattle.std.specs.Prelude.{ℕ, List, [], ◌∷◌, codes, map}
+-- Worked examples: a table of three columns, elements of GROUP BY over them, and their grouping sets as places;
+-- predicates of each truth, and two of them with AND or OR between; the text of a query, and its tree.
+use Rattle.std.specs.Prelude.{ℕ, List, [], ◌∷◌, Some, codes, map, pos}
+use Rattle.cells.specs.declared.cell.Cell.TheVariants.{Null}
 use Rattle.cells.specs.declared.schema.Column.{Column}
 use Rattle.cells.specs.declared.schema.ColumnType.TheVariants.{Int}
 use Rattle.query.specs.Sets.{Names, grouping_sets, places}
-use Rattle.query.specs.Trees.{ElementTree}
+use Rattle.query.specs.Trees.{Cube, ElementTree, And, Holds, MorePredicates, NoPredicates, Or, PredicateTree}
+use Rattle.query.specs.Truth.{truth}
+use Rattle.query.specs.Values.{QueryTree}
+use Rattle.query.specs.declared.item.Item.TheVariants.{Column as Named, Sum}
+use Rattle.query.specs.declared.test.Comparison.TheVariants.{Equal, Greater}
+use Rattle.query.specs.declared.test.Literal.TheVariants as literal
+use Rattle.query.specs.declared.test.Operand.TheVariants as operand
+use Rattle.query.specs.declared.test.Test.{Test}
+use Rattle.query.specs.declared.test.Test.TheVariants.{Compare}
+use Rattle.query.specs.declared.truth.Truth.{Truth}
 
 -- the units of one column each
 abbrev pub A : Names
@@ -21,3 +32,35 @@ columns = record { name = codes "A"; kind = Int } ∷ record { name = codes "B";
 -- the grouping sets over the table
 abbrev pub sets_over : List ElementTree → List (List ℕ)
 sets_over elements = map (places columns) (grouping_sets elements)
+
+-- 1 = 1, 1 = 2, and UNITS = 1 for the one column UNITS
+abbrev pub holds : PredicateTree (Test ℕ)
+holds = Holds (Compare (operand.Literal (literal.Int (pos 1))) Equal (operand.Literal (literal.Int (pos 1))))
+
+abbrev pub fails : PredicateTree (Test ℕ)
+fails = Holds (Compare (operand.Literal (literal.Int (pos 1))) Equal (operand.Literal (literal.Int (pos 2))))
+
+abbrev pub unknown : PredicateTree (Test ℕ)
+unknown = Holds (Compare (operand.Column 0) Equal (operand.Literal (literal.Int (pos 1))))
+
+abbrev pub both : PredicateTree (Test ℕ) → PredicateTree (Test ℕ) → PredicateTree (Test ℕ)
+both p q = And (MorePredicates p (MorePredicates q NoPredicates))
+
+abbrev pub either : PredicateTree (Test ℕ) → PredicateTree (Test ℕ) → PredicateTree (Test ℕ)
+either p q = Or (MorePredicates p (MorePredicates q NoPredicates))
+
+-- the truth where UNITS is NULL
+abbrev pub of_null : PredicateTree (Test ℕ) → Truth
+of_null p = truth p (Null ∷ [])
+
+-- SUM of one column over the rows with more than 1 in it, by a CUBE of another
+abbrev pub sums : List ℕ
+sums = codes "SELECT A, SUM(B) FROM T WHERE B > 1 GROUP BY CUBE (A)"
+
+abbrev pub sums_tree : QueryTree
+sums_tree = record {
+  items = Named (codes "A") ∷ Sum (codes "B") ∷ [];
+  table = codes "T";
+  condition = Some (Holds (Compare (operand.Column (codes "B")) Greater (operand.Literal (literal.Int (pos 1)))));
+  elements = Cube (A ∷ []) ∷ [];
+}

@@ -3,7 +3,7 @@ ghost use Rattle.std.specs.Prelude.{◌≡◌, ◌<◌, ◌∷◌, IfOk, List, S
 ghost use Rattle.cells.specs.declared.token.Token.{Token};
 ghost use Rattle.query.specs.Grammar.{AND, BETWEEN, IN, OR, Separated, SpellsFactor, SpellsLiteral, SpellsOperand, SpellsPredicate, SpellsPrimary, SpellsTerm, SpellsTest, comma, lparen, rparen};
 ghost use Rattle.query.specs.Phrases.{BoundsAt, NullAfter, RangeAfter, TestAfter, comparison_at};
-ghost use Rattle.query.specs.Reading.{AfterAnd, AfterOr, Any, Ends, Reads, Starts};
+ghost use Rattle.query.specs.Reading.{AfterAnd, AfterOr, Any, Ends, ReadsPhrase, Starts};
 
 use crate::owned::closed;
 use crate::phrases::{
@@ -16,7 +16,7 @@ use std::alloc::Global;
 
 /// The literals at the front, with commas between, and what follows them.
 fn literals(alloc: Global, tokens: &[Token]) -> Result<(Vec<Literal>, &[Token]), Refused>
-    ensures reads { Reads (λ x. (x.0.items, x.1.now)) (Starts (Separated comma SpellsLiteral) (Ends comma Any) tokens.now) result }
+    ensures reads { ReadsPhrase (λ x. (x.0.items, x.1.now)) (Starts (Separated comma SpellsLiteral) (Ends comma Any) tokens.now) result }
     ensures shorter { IfOk result (λ x. length x.1.now < length tokens.now) }
 {
     let mut found = Vec::new(alloc);
@@ -33,7 +33,7 @@ fn literals(alloc: Global, tokens: &[Token]) -> Result<(Vec<Literal>, &[Token]),
 
 /// The literals up to the `)` behind them, and what follows it.
 fn literals_in(alloc: Global, tokens: &[Token]) -> Result<(Vec<Literal>, &[Token]), Refused>
-    ensures reads { Reads (λ x. (x.0.items, x.1.now)) (λ ls r. Separated comma SpellsLiteral tokens.now ls (rparen ∷ r)) result }
+    ensures reads { ReadsPhrase (λ x. (x.0.items, x.1.now)) (λ ls r. Separated comma SpellsLiteral tokens.now ls (rparen ∷ r)) result }
     ensures shorter { IfOk result (λ x. length x.1.now < length tokens.now) }
 {
     let (literals, rest) = literals(alloc, tokens)?;
@@ -45,7 +45,7 @@ fn literals_in(alloc: Global, tokens: &[Token]) -> Result<(Vec<Literal>, &[Token
 
 /// The operand up to the AND behind it, and what follows it.
 fn operand_and(tokens: &[Token]) -> Result<(Operand<Text>, &[Token]), Refused>
-    ensures reads { Reads (λ x. (x.0, x.1.now)) (λ a r. SpellsOperand tokens.now a (AND ∷ r)) result }
+    ensures reads { ReadsPhrase (λ x. (x.0, x.1.now)) (λ a r. SpellsOperand tokens.now a (AND ∷ r)) result }
     ensures shorter { IfOk result (λ x. length x.1.now < length tokens.now) }
 {
     let (operand, rest) = operand(tokens)?;
@@ -57,7 +57,7 @@ fn operand_and(tokens: &[Token]) -> Result<(Operand<Text>, &[Token]), Refused>
 
 /// The test of NULL behind the operand and IS, and what follows it.
 fn null_test(left: Operand<Text>, tokens: &[Token]) -> Result<(Test<Text>, &[Token]), Refused>
-    ensures reads { Reads (λ x. (x.0, x.1.now)) (NullAfter left tokens.now) result }
+    ensures reads { ReadsPhrase (λ x. (x.0, x.1.now)) (NullAfter left tokens.now) result }
     ensures shorter { IfOk result (λ x. length x.1.now < length tokens.now) }
 {
     let (negated, more) = not_mark(tokens);
@@ -73,7 +73,7 @@ fn null_test(left: Operand<Text>, tokens: &[Token]) -> Result<(Test<Text>, &[Tok
 
 /// The bounds behind BETWEEN, and what follows them.
 fn bounds(tokens: &[Token]) -> Result<(Operand<Text>, Operand<Text>, &[Token]), Refused>
-    ensures reads { Reads (λ x. ((x.0, x.1), x.2.now)) (BoundsAt tokens.now) result }
+    ensures reads { ReadsPhrase (λ x. ((x.0, x.1), x.2.now)) (BoundsAt tokens.now) result }
     ensures shorter { IfOk result (λ x. length x.2.now < length tokens.now) }
 {
     let (low, behind) = operand_and(tokens)?;
@@ -87,7 +87,7 @@ fn between_test(
     negated: bool,
     tokens: &[Token],
 ) -> Result<(Test<Text>, &[Token]), Refused>
-    ensures reads { Reads (λ x. (x.0, x.1.now)) (RangeAfter left negated (BETWEEN ∷ tokens.now)) result }
+    ensures reads { ReadsPhrase (λ x. (x.0, x.1.now)) (RangeAfter left negated (BETWEEN ∷ tokens.now)) result }
     ensures shorter { IfOk result (λ x. length x.1.now < length tokens.now) }
 {
     let (low, high, rest) = bounds(tokens)?;
@@ -107,7 +107,7 @@ fn in_test(
     negated: bool,
     tokens: &[Token],
 ) -> Result<(Test<Text>, &[Token]), Refused>
-    ensures reads { Reads (λ x. (x.0, x.1.now)) (RangeAfter left negated (IN ∷ lparen ∷ tokens.now)) result }
+    ensures reads { ReadsPhrase (λ x. (x.0, x.1.now)) (RangeAfter left negated (IN ∷ lparen ∷ tokens.now)) result }
     ensures shorter { IfOk result (λ x. length x.1.now < length tokens.now) }
 {
     let (literals, rest) = literals_in(alloc, tokens)?;
@@ -126,7 +126,7 @@ fn range_test(
     negated: bool,
     tokens: &[Token],
 ) -> Result<(Test<Text>, &[Token]), Refused>
-    ensures reads { Reads (λ x. (x.0, x.1.now)) (RangeAfter left negated tokens.now) result }
+    ensures reads { ReadsPhrase (λ x. (x.0, x.1.now)) (RangeAfter left negated tokens.now) result }
     ensures shorter { IfOk result (λ x. length x.1.now < length tokens.now) }
 {
     if let Some(more) = after_word(tokens, "BETWEEN") {
@@ -145,7 +145,7 @@ fn compare_test(
     tokens: &[Token],
 ) -> Result<(Test<Text>, &[Token]), Refused>
     // The sign is what any tokens begin with that go on as these.
-    ensures reads { (signed : List Token) → comparison_at signed ≡ Some (comparison, tokens.now) → Reads (λ x. (x.0, x.1.now)) (TestAfter left signed) result }
+    ensures reads { (signed : List Token) → comparison_at signed ≡ Some (comparison, tokens.now) → ReadsPhrase (λ x. (x.0, x.1.now)) (TestAfter left signed) result }
     ensures shorter { IfOk result (λ x. length x.1.now < length tokens.now) }
 {
     let (right, rest) = operand(tokens)?;
@@ -158,7 +158,7 @@ fn test_after(
     left: Operand<Text>,
     tokens: &[Token],
 ) -> Result<(Test<Text>, &[Token]), Refused>
-    ensures reads { Reads (λ x. (x.0, x.1.now)) (TestAfter left tokens.now) result }
+    ensures reads { ReadsPhrase (λ x. (x.0, x.1.now)) (TestAfter left tokens.now) result }
     ensures shorter { IfOk result (λ x. length x.1.now < length tokens.now) }
 {
     if let Some((comparison, more)) = comparison_at(tokens) {
@@ -173,7 +173,7 @@ fn test_after(
 
 /// The test at the front, and what follows it.
 fn test(alloc: Global, tokens: &[Token]) -> Result<(Test<Text>, &[Token]), Refused>
-    ensures reads { Reads (λ x. (x.0, x.1.now)) (Starts SpellsTest Any tokens.now) result }
+    ensures reads { ReadsPhrase (λ x. (x.0, x.1.now)) (Starts SpellsTest Any tokens.now) result }
     ensures shorter { IfOk result (λ x. length x.1.now < length tokens.now) }
 {
     let (left, more) = operand(tokens)?;
@@ -183,7 +183,7 @@ fn test(alloc: Global, tokens: &[Token]) -> Result<(Test<Text>, &[Token]), Refus
 /// The primary at the front, a predicate in parentheses or a test, and what follows it.
 #[cycle(reader)]
 fn primary(alloc: Global, tokens: &[Token]) -> Result<(Predicate<Text>, &[Token]), Refused>
-    ensures reads { Reads (λ x. (x.0, x.1.now)) (Starts SpellsPrimary Any tokens.now) result }
+    ensures reads { ReadsPhrase (λ x. (x.0, x.1.now)) (Starts SpellsPrimary Any tokens.now) result }
     ensures shorter { IfOk result (λ x. length x.1.now < length tokens.now) }
 {
     if let Some(more) = after_mark(tokens, Mark::LeftParen) {
@@ -196,7 +196,7 @@ fn primary(alloc: Global, tokens: &[Token]) -> Result<(Predicate<Text>, &[Token]
 /// A primary with an optional NOT before it, and what follows it.
 #[cycle(reader)]
 fn factor(alloc: Global, tokens: &[Token]) -> Result<(Predicate<Text>, &[Token]), Refused>
-    ensures reads { Reads (λ x. (x.0, x.1.now)) (Starts SpellsFactor Any tokens.now) result }
+    ensures reads { ReadsPhrase (λ x. (x.0, x.1.now)) (Starts SpellsFactor Any tokens.now) result }
     ensures shorter { IfOk result (λ x. length x.1.now < length tokens.now) }
 {
     if let Some(more) = after_word(tokens, "NOT") {
@@ -209,7 +209,7 @@ fn factor(alloc: Global, tokens: &[Token]) -> Result<(Predicate<Text>, &[Token])
 /// The factors at the front, with AND between, and what follows them.
 #[cycle(reader)]
 fn factors(alloc: Global, tokens: &[Token]) -> Result<(Vec<Predicate<Text>>, &[Token]), Refused>
-    ensures reads { Reads (λ x. (x.0.items, x.1.now)) (Starts (Separated AND SpellsFactor) AfterAnd tokens.now) result }
+    ensures reads { ReadsPhrase (λ x. (x.0.items, x.1.now)) (Starts (Separated AND SpellsFactor) AfterAnd tokens.now) result }
     ensures shorter { IfOk result (λ x. length x.1.now < length tokens.now) }
 {
     let mut found = Vec::new(alloc);
@@ -227,7 +227,7 @@ fn factors(alloc: Global, tokens: &[Token]) -> Result<(Vec<Predicate<Text>>, &[T
 /// The term at the front, and what follows it.
 #[cycle(reader)]
 fn term(alloc: Global, tokens: &[Token]) -> Result<(Predicate<Text>, &[Token]), Refused>
-    ensures reads { Reads (λ x. (x.0, x.1.now)) (Starts SpellsTerm AfterAnd tokens.now) result }
+    ensures reads { ReadsPhrase (λ x. (x.0, x.1.now)) (Starts SpellsTerm AfterAnd tokens.now) result }
     ensures shorter { IfOk result (λ x. length x.1.now < length tokens.now) }
 {
     let (factors, rest) = factors(alloc, tokens)?;
@@ -237,7 +237,7 @@ fn term(alloc: Global, tokens: &[Token]) -> Result<(Predicate<Text>, &[Token]), 
 /// The terms at the front, with OR between, and what follows them.
 #[cycle(reader)]
 fn terms(alloc: Global, tokens: &[Token]) -> Result<(Vec<Predicate<Text>>, &[Token]), Refused>
-    ensures reads { Reads (λ x. (x.0.items, x.1.now)) (Starts (Separated OR SpellsTerm) AfterOr tokens.now) result }
+    ensures reads { ReadsPhrase (λ x. (x.0.items, x.1.now)) (Starts (Separated OR SpellsTerm) AfterOr tokens.now) result }
     ensures shorter { IfOk result (λ x. length x.1.now < length tokens.now) }
 {
     let mut found = Vec::new(alloc);
@@ -255,7 +255,7 @@ fn terms(alloc: Global, tokens: &[Token]) -> Result<(Vec<Predicate<Text>>, &[Tok
 /// The predicate at the front, which is its terms with OR between, and what follows it.
 #[cycle(reader)]
 pub fn predicate(alloc: Global, tokens: &[Token]) -> Result<(Predicate<Text>, &[Token]), Refused>
-    ensures reads { Reads (λ x. (x.0, x.1.now)) (Starts SpellsPredicate AfterOr tokens.now) result }
+    ensures reads { ReadsPhrase (λ x. (x.0, x.1.now)) (Starts SpellsPredicate AfterOr tokens.now) result }
     ensures shorter { IfOk result (λ x. length x.1.now < length tokens.now) }
 {
     let (terms, rest) = terms(alloc, tokens)?;
@@ -265,7 +265,7 @@ pub fn predicate(alloc: Global, tokens: &[Token]) -> Result<(Predicate<Text>, &[
 /// The predicate up to the `)` behind it, and what follows it.
 #[cycle(reader)]
 fn predicate_in(alloc: Global, tokens: &[Token]) -> Result<(Predicate<Text>, &[Token]), Refused>
-    ensures reads { Reads (λ x. (x.0, x.1.now)) (λ p r. SpellsPredicate tokens.now p (rparen ∷ r)) result }
+    ensures reads { ReadsPhrase (λ x. (x.0, x.1.now)) (λ p r. SpellsPredicate tokens.now p (rparen ∷ r)) result }
     ensures shorter { IfOk result (λ x. length x.1.now < length tokens.now) }
 {
     let (predicate, rest) = predicate(alloc, tokens)?;

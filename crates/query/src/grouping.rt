@@ -3,7 +3,7 @@ ghost use Rattle.std.specs.Prelude.{◌≡◌, ◌≢◌, ◌<◌, ◌∷◌, Li
 ghost use Rattle.cells.specs.declared.token.Token.{Token};
 ghost use Rattle.query.specs.Grammar.{CUBE, GROUPING, ROLLUP, SETS, Separated, SpellsElement, SpellsName, SpellsUnit, comma, lparen, rparen};
 ghost use Rattle.query.specs.Phrases.{IsPlain};
-ghost use Rattle.query.specs.Reading.{Any, Ends, Reads, Starts};
+ghost use Rattle.query.specs.Reading.{Any, Ends, ReadsPhrase, Starts};
 
 use crate::element::{Element, Unit};
 use crate::phrases::{after_call, after_mark, after_word, name};
@@ -12,7 +12,7 @@ use std::alloc::Global;
 
 /// The names at the front, with commas between, and what follows them.
 fn names(alloc: Global, tokens: &[Token]) -> Result<(Vec<Text>, &[Token]), Refused>
-    ensures reads { Reads (λ x. (x.0.items, x.1.now)) (Starts (Separated comma SpellsName) (Ends comma Any) tokens.now) result }
+    ensures reads { ReadsPhrase (λ x. (x.0.items, x.1.now)) (Starts (Separated comma SpellsName) (Ends comma Any) tokens.now) result }
     ensures shorter { IfOk result (λ x. length x.1.now < length tokens.now) }
 {
     let mut found = Vec::new(alloc);
@@ -29,7 +29,7 @@ fn names(alloc: Global, tokens: &[Token]) -> Result<(Vec<Text>, &[Token]), Refus
 
 /// The names up to the `)` behind them, and what follows it.
 fn names_in(alloc: Global, tokens: &[Token]) -> Result<(Vec<Text>, &[Token]), Refused>
-    ensures reads { Reads (λ x. (x.0.items, x.1.now)) (λ ns r. Separated comma SpellsName tokens.now ns (rparen ∷ r)) result }
+    ensures reads { ReadsPhrase (λ x. (x.0.items, x.1.now)) (λ ns r. Separated comma SpellsName tokens.now ns (rparen ∷ r)) result }
     ensures shorter { IfOk result (λ x. length x.1.now < length tokens.now) }
 {
     let (names, rest) = names(alloc, tokens)?;
@@ -41,7 +41,7 @@ fn names_in(alloc: Global, tokens: &[Token]) -> Result<(Vec<Text>, &[Token]), Re
 
 /// The unit at the front, and what follows it.
 fn unit(alloc: Global, tokens: &[Token]) -> Result<(Unit, &[Token]), Refused>
-    ensures reads { Reads (λ x. (x.0, x.1.now)) (Starts SpellsUnit Any tokens.now) result }
+    ensures reads { ReadsPhrase (λ x. (x.0, x.1.now)) (Starts SpellsUnit Any tokens.now) result }
     ensures shorter { IfOk result (λ x. length x.1.now < length tokens.now) }
 {
     if let Some(more) = after_mark(tokens, Mark::LeftParen) {
@@ -54,7 +54,7 @@ fn unit(alloc: Global, tokens: &[Token]) -> Result<(Unit, &[Token]), Refused>
 
 /// The units at the front, with commas between, and what follows them.
 fn units(alloc: Global, tokens: &[Token]) -> Result<(Vec<Unit>, &[Token]), Refused>
-    ensures reads { Reads (λ x. (x.0.items, x.1.now)) (Starts (Separated comma SpellsUnit) (Ends comma Any) tokens.now) result }
+    ensures reads { ReadsPhrase (λ x. (x.0.items, x.1.now)) (Starts (Separated comma SpellsUnit) (Ends comma Any) tokens.now) result }
     ensures shorter { IfOk result (λ x. length x.1.now < length tokens.now) }
 {
     let mut found = Vec::new(alloc);
@@ -71,7 +71,7 @@ fn units(alloc: Global, tokens: &[Token]) -> Result<(Vec<Unit>, &[Token]), Refus
 
 /// The units up to the `)` behind them, and what follows it.
 fn units_in(alloc: Global, tokens: &[Token]) -> Result<(Vec<Unit>, &[Token]), Refused>
-    ensures reads { Reads (λ x. (x.0.items, x.1.now)) (λ us r. Separated comma SpellsUnit tokens.now us (rparen ∷ r)) result }
+    ensures reads { ReadsPhrase (λ x. (x.0.items, x.1.now)) (λ us r. Separated comma SpellsUnit tokens.now us (rparen ∷ r)) result }
     ensures shorter { IfOk result (λ x. length x.1.now < length tokens.now) }
 {
     let (units, rest) = units(alloc, tokens)?;
@@ -99,7 +99,7 @@ fn after_empty(tokens: &[Token]) -> Option<&[Token]>
 
 /// The element behind `ROLLUP (`, and what follows it.
 fn rollup_element(alloc: Global, tokens: &[Token]) -> Result<(Element, &[Token]), Refused>
-    ensures reads { Reads (λ x. (x.0, x.1.now)) (Starts SpellsElement Any (ROLLUP ∷ lparen ∷ tokens.now)) result }
+    ensures reads { ReadsPhrase (λ x. (x.0, x.1.now)) (Starts SpellsElement Any (ROLLUP ∷ lparen ∷ tokens.now)) result }
     ensures shorter { IfOk result (λ x. length x.1.now < length tokens.now) }
 {
     let (units, rest) = units_in(alloc, tokens)?;
@@ -108,7 +108,7 @@ fn rollup_element(alloc: Global, tokens: &[Token]) -> Result<(Element, &[Token])
 
 /// The element behind `CUBE (`, and what follows it.
 fn cube_element(alloc: Global, tokens: &[Token]) -> Result<(Element, &[Token]), Refused>
-    ensures reads { Reads (λ x. (x.0, x.1.now)) (Starts SpellsElement Any (CUBE ∷ lparen ∷ tokens.now)) result }
+    ensures reads { ReadsPhrase (λ x. (x.0, x.1.now)) (Starts SpellsElement Any (CUBE ∷ lparen ∷ tokens.now)) result }
     ensures shorter { IfOk result (λ x. length x.1.now < length tokens.now) }
 {
     let (units, rest) = units_in(alloc, tokens)?;
@@ -117,7 +117,7 @@ fn cube_element(alloc: Global, tokens: &[Token]) -> Result<(Element, &[Token]), 
 
 /// The unit at the front as an element, where no other form of element begins, and what follows it.
 fn unit_element(alloc: Global, tokens: &[Token]) -> Result<(Element, &[Token]), Refused>
-    ensures reads { IsPlain tokens.now → Reads (λ x. (x.0, x.1.now)) (Starts SpellsElement Any tokens.now) result }
+    ensures reads { IsPlain tokens.now → ReadsPhrase (λ x. (x.0, x.1.now)) (Starts SpellsElement Any tokens.now) result }
     ensures shorter { IfOk result (λ x. length x.1.now < length tokens.now) }
 {
     let (unit, rest) = unit(alloc, tokens)?;
@@ -127,7 +127,7 @@ fn unit_element(alloc: Global, tokens: &[Token]) -> Result<(Element, &[Token]), 
 /// The grouping element at the front, and what follows it.
 #[cycle(reader)]
 fn element(alloc: Global, tokens: &[Token]) -> Result<(Element, &[Token]), Refused>
-    ensures reads { Reads (λ x. (x.0, x.1.now)) (Starts SpellsElement Any tokens.now) result }
+    ensures reads { ReadsPhrase (λ x. (x.0, x.1.now)) (Starts SpellsElement Any tokens.now) result }
     ensures shorter { IfOk result (λ x. length x.1.now < length tokens.now) }
 {
     if let Some(rest) = after_empty(tokens) {
@@ -148,7 +148,7 @@ fn element(alloc: Global, tokens: &[Token]) -> Result<(Element, &[Token]), Refus
 /// The element behind `GROUPING SETS (`, and what follows it.
 #[cycle(reader)]
 fn sets_element(alloc: Global, tokens: &[Token]) -> Result<(Element, &[Token]), Refused>
-    ensures reads { Reads (λ x. (x.0, x.1.now)) (Starts SpellsElement Any (GROUPING ∷ SETS ∷ lparen ∷ tokens.now)) result }
+    ensures reads { ReadsPhrase (λ x. (x.0, x.1.now)) (Starts SpellsElement Any (GROUPING ∷ SETS ∷ lparen ∷ tokens.now)) result }
     ensures shorter { IfOk result (λ x. length x.1.now < length tokens.now) }
 {
     let (elements, rest) = elements(alloc, tokens)?;
@@ -161,7 +161,7 @@ fn sets_element(alloc: Global, tokens: &[Token]) -> Result<(Element, &[Token]), 
 /// The grouping elements at the front, with commas between, and what follows them.
 #[cycle(reader)]
 pub fn elements(alloc: Global, tokens: &[Token]) -> Result<(Vec<Element>, &[Token]), Refused>
-    ensures reads { Reads (λ x. (x.0.items, x.1.now)) (Starts (Separated comma SpellsElement) (Ends comma Any) tokens.now) result }
+    ensures reads { ReadsPhrase (λ x. (x.0.items, x.1.now)) (Starts (Separated comma SpellsElement) (Ends comma Any) tokens.now) result }
     ensures shorter { IfOk result (λ x. length x.1.now < length tokens.now) }
 {
     let mut found = Vec::new(alloc);

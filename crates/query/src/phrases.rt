@@ -6,7 +6,7 @@ ghost use Rattle.std.specs.Prelude.{◌≡◌, ◌<◌, ◌≤◌, ◌∷◌, If
 ghost use Rattle.cells.specs.Refusals.{AnswersBy};
 ghost use Rattle.query.specs.Grammar.{SpellsLiteral, SpellsName, SpellsOperand, lparen, word};
 ghost use Rattle.query.specs.Phrases.{comparison_at, literal_at, name_at, operand_at};
-ghost use Rattle.query.specs.Reading.{Any, BeginsNot, BeginsNotCall, Marked, Reads, Starts, sign};
+ghost use Rattle.query.specs.Reading.{Any, BeginsNot, BeginsNotCall, Marked, ReadsPhrase, Starts, sign};
 
 use crate::test::{Comparison, Literal, Operand};
 use cells::{Mark, Refused, Text, Token, is_reserved};
@@ -68,7 +68,7 @@ fn name_at(tokens: &[Token]) -> Result<(Text, &[Token]), Refused>
 
 /// The name at the front by the rule of the grammar, and what follows it.
 pub fn name(tokens: &[Token]) -> Result<(Text, &[Token]), Refused>
-    ensures reads { Reads (λ x. (x.0, x.1.now)) (Starts SpellsName Any tokens.now) result }
+    ensures reads { ReadsPhrase (λ x. (x.0, x.1.now)) (Starts SpellsName Any tokens.now) result }
     ensures shorter { IfOk result (λ x. length x.1.now < length tokens.now) }
 {
     name_at(tokens)
@@ -91,7 +91,7 @@ fn literal_at(tokens: &[Token]) -> Result<(Literal, &[Token]), Refused>
 
 /// The literal at the front by the rule of the grammar, and what follows it.
 pub fn literal(tokens: &[Token]) -> Result<(Literal, &[Token]), Refused>
-    ensures reads { Reads (λ x. (x.0, x.1.now)) (Starts SpellsLiteral Any tokens.now) result }
+    ensures reads { ReadsPhrase (λ x. (x.0, x.1.now)) (Starts SpellsLiteral Any tokens.now) result }
     ensures shorter { IfOk result (λ x. length x.1.now < length tokens.now) }
 {
     literal_at(tokens)
@@ -120,7 +120,7 @@ fn operand_at(tokens: &[Token]) -> Result<(Operand<Text>, &[Token]), Refused>
 
 /// The operand at the front by the rule of the grammar, and what follows it.
 pub fn operand(tokens: &[Token]) -> Result<(Operand<Text>, &[Token]), Refused>
-    ensures reads { Reads (λ x. (x.0, x.1.now)) (Starts SpellsOperand Any tokens.now) result }
+    ensures reads { ReadsPhrase (λ x. (x.0, x.1.now)) (Starts SpellsOperand Any tokens.now) result }
     ensures shorter { IfOk result (λ x. length x.1.now < length tokens.now) }
 {
     operand_at(tokens)

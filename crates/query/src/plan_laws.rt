@@ -1,11 +1,11 @@
 //! Laws of grouping sets, of truth and of plans: functions that do nothing, whose clauses say them.
-ghost use Rattle.std.specs.Prelude.{◌≡◌, ◌≢◌, ◌++◌, ℕ, List, [], ◌∷◌, Some, false, length, pos, slice_index_or, true};
+ghost use Rattle.std.specs.Prelude.{◌≡◌, ◌≢◌, ◌++◌, ℕ, List, [], ◌∷◌, Some, false, length, map, pos, slice_index_or, true};
 ghost use Rattle.cells.specs.Fitting.{IsRowOf};
 ghost use Rattle.cells.specs.Values.{Entry, Table};
 ghost use Rattle.query.specs.Plans.{IsPlanOf, PlanTree, type_at};
 ghost use Rattle.query.specs.Trees.{Cube, Empty, MoreElements, NoElements, Not, OneUnit, PredicateTree, Rollup, Sets, Holds};
 ghost use Rattle.query.specs.Truth.{IsOver, truth};
-ghost use Rattle.query.specs.Worked.{A, B, C, sets_over};
+ghost use Rattle.query.specs.Worked.{A, B, C, both, either, fails, holds, of_null, sets_over, unknown};
 ghost use Rattle.query.specs.declared.test.Test.{Test as TestTree};
 
 use crate::item::Item;
@@ -17,6 +17,8 @@ use cells::{Cell, ColumnType};
 pub fn worked_sets()
     // CUBE(A, B)
     ensures cube { sets_over (Cube (A ∷ B ∷ []) ∷ []) ≡ (0 ∷ 1 ∷ []) ∷ (0 ∷ []) ∷ (1 ∷ []) ∷ [] ∷ [] }
+    // CUBE(A, B, C)
+    ensures cube_of_three { sets_over (Cube (A ∷ B ∷ C ∷ []) ∷ []) ≡ (0 ∷ 1 ∷ 2 ∷ []) ∷ (0 ∷ 1 ∷ []) ∷ (0 ∷ 2 ∷ []) ∷ (0 ∷ []) ∷ (1 ∷ 2 ∷ []) ∷ (1 ∷ []) ∷ (2 ∷ []) ∷ [] ∷ [] }
     // ROLLUP((A, B), C)
     ensures rollup { sets_over (Rollup ((A ++ B) ∷ C ∷ []) ∷ []) ≡ (0 ∷ 1 ∷ 2 ∷ []) ∷ (0 ∷ 1 ∷ []) ∷ [] ∷ [] }
     // A, ROLLUP(B)
@@ -39,6 +41,14 @@ pub fn worked_truths()
     ensures not_of_unknown { truth (Not (Holds (Test.Compare (Operand.Column 0) Comparison.Greater (Operand.Literal (Literal.Int (pos 0)))))) (Cell.Null ∷ []) ≡ Truth.Unknown }
     // UNITS IS NULL
     ensures null { truth (Holds (Test.IsNull (Operand.Column 0) false)) (Cell.Null ∷ []) ≡ Truth.True }
+    // UNITS IS NOT NULL, where UNITS is NULL
+    ensures not_null { truth (Holds (Test.IsNull (Operand.Column 0) true)) (Cell.Null ∷ []) ≡ Truth.False }
+    // Unknown beside true, beside false and beside unknown, where UNITS is NULL.
+    ensures unknown { of_null unknown ≡ Truth.Unknown }
+    ensures and_unknown { map of_null (both holds unknown ∷ both fails unknown ∷ both unknown unknown ∷ []) ≡ Truth.Unknown ∷ Truth.False ∷ Truth.Unknown ∷ [] }
+    ensures unknown_and { map of_null (both unknown holds ∷ both unknown fails ∷ []) ≡ Truth.Unknown ∷ Truth.False ∷ [] }
+    ensures or_unknown { map of_null (either holds unknown ∷ either fails unknown ∷ either unknown unknown ∷ []) ≡ Truth.True ∷ Truth.Unknown ∷ Truth.Unknown ∷ [] }
+    ensures unknown_or { map of_null (either unknown holds ∷ either unknown fails ∷ []) ≡ Truth.True ∷ Truth.Unknown ∷ [] }
     // UNITS NOT IN (1, 2), where UNITS is NULL
     ensures not_in { truth (Holds (Test.In (Operand.Column 0) (Literal.Int (pos 1) ∷ Literal.Int (pos 2) ∷ []) true)) (Cell.Null ∷ []) ≡ Truth.Unknown }
     // UNITS BETWEEN 1 AND 2, where UNITS is 2

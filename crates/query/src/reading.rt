@@ -8,7 +8,7 @@ ghost use Rattle.query.specs.Grammar.{BY, GROUP, FROM, Separated, SpellsItem, Sp
 ghost use Rattle.query.specs.Ends.{SpellsEnd, SpellsFrom, SpellsTail, Whole};
 ghost use Rattle.query.specs.Limits.{item_limit, query_limit};
 ghost use Rattle.query.specs.Queries.{FirstFault, IsQuery};
-ghost use Rattle.query.specs.Reading.{Reads};
+ghost use Rattle.query.specs.Reading.{ReadsPhrase};
 ghost use Rattle.query.specs.Trees.{Empty};
 ghost use Rattle.query.specs.Values.{QueryTree};
 
@@ -77,7 +77,7 @@ fn too_many_items(items: &[Item<Text>]) -> Option<Refused>
 
 /// The query that the tokens are.
 fn query(alloc: Global, tokens: &[Token]) -> Result<Query, Refused>
-    ensures { Reads (λ q. (q, [])) (Whole SpellsQuery tokens.now) result }
+    ensures { ReadsPhrase (λ q. (q, [])) (Whole SpellsQuery tokens.now) result }
 {
     let Some(more) = after_word(tokens, "SELECT") else {
         return Err(Refused::QuerySyntax);
@@ -89,7 +89,7 @@ fn query(alloc: Global, tokens: &[Token]) -> Result<Query, Refused>
 
 /// The items up to the FROM behind them, and what follows it.
 fn items_from(alloc: Global, tokens: &[Token]) -> Result<(Vec<Item<Text>>, &[Token]), Refused>
-    ensures { Reads (λ x. (x.0.items, x.1.now)) (λ is r. Separated comma SpellsItem tokens.now is (FROM ∷ r)) result }
+    ensures { ReadsPhrase (λ x. (x.0.items, x.1.now)) (λ is r. Separated comma SpellsItem tokens.now is (FROM ∷ r)) result }
 {
     let (items, rest) = items(alloc, tokens)?;
     let Some(behind) = after_word(rest, "FROM") else {
@@ -103,7 +103,7 @@ fn table_and_tail(
     alloc: Global,
     tokens: &[Token],
 ) -> Result<(Text, Option<Predicate<Text>>, Vec<Element>), Refused>
-    ensures { Reads (λ x. ((x.0, (x.1, x.2.items)), [])) (Whole SpellsFrom tokens.now) result }
+    ensures { ReadsPhrase (λ x. ((x.0, (x.1, x.2.items)), [])) (Whole SpellsFrom tokens.now) result }
 {
     let (table, behind) = name(tokens)?;
     let (condition, elements) = tail(alloc, behind)?;
@@ -112,7 +112,7 @@ fn table_and_tail(
 
 /// The predicate of WHERE, where there is one, and the elements of GROUP BY.
 fn tail(alloc: Global, tokens: &[Token]) -> Result<(Option<Predicate<Text>>, Vec<Element>), Refused>
-    ensures { Reads (λ x. ((x.0, x.1.items), [])) (Whole SpellsTail tokens.now) result }
+    ensures { ReadsPhrase (λ x. ((x.0, x.1.items), [])) (Whole SpellsTail tokens.now) result }
 {
     if let Some(more) = after_word(tokens, "WHERE") {
         return where_tail(alloc, more);
@@ -126,7 +126,7 @@ fn where_tail(
     alloc: Global,
     tokens: &[Token],
 ) -> Result<(Option<Predicate<Text>>, Vec<Element>), Refused>
-    ensures { Reads (λ x. ((x.0, x.1.items), [])) (Whole SpellsTail (WHERE ∷ tokens.now)) result }
+    ensures { ReadsPhrase (λ x. ((x.0, x.1.items), [])) (Whole SpellsTail (WHERE ∷ tokens.now)) result }
 {
     let (condition, behind) = predicate(alloc, tokens)?;
     beside(groups(alloc, behind), Some(condition))
@@ -134,7 +134,7 @@ fn where_tail(
 
 /// The elements of GROUP BY. Without it, it is as with `GROUP BY ()`.
 fn groups(alloc: Global, tokens: &[Token]) -> Result<Vec<Element>, Refused>
-    ensures { Reads (λ v. (v.items, [])) (Whole SpellsEnd tokens.now) result }
+    ensures { ReadsPhrase (λ v. (v.items, [])) (Whole SpellsEnd tokens.now) result }
 {
     if is_end(tokens) {
         return Ok(all_rows(alloc)?);
@@ -147,7 +147,7 @@ fn groups(alloc: Global, tokens: &[Token]) -> Result<Vec<Element>, Refused>
 
 /// The elements behind GROUP BY, with which the tokens end.
 fn last_elements(alloc: Global, tokens: &[Token]) -> Result<Vec<Element>, Refused>
-    ensures { Reads (λ v. (v.items, [])) (Whole SpellsEnd (GROUP ∷ BY ∷ tokens.now)) result }
+    ensures { ReadsPhrase (λ v. (v.items, [])) (Whole SpellsEnd (GROUP ∷ BY ∷ tokens.now)) result }
 {
     let (elements, rest) = elements(alloc, tokens)?;
     if is_end(rest) {

@@ -3,7 +3,7 @@ ghost use Rattle.std.specs.Prelude.{◌≡◌, ◌<◌, IfOk, length};
 ghost use Rattle.cells.specs.Refusals.{AnswersBy};
 ghost use Rattle.query.specs.Grammar.{Separated, SpellsItem, comma};
 ghost use Rattle.query.specs.Phrases.{call_at, call_of, distinct_at, item_at, named_at, rows_at};
-ghost use Rattle.query.specs.Reading.{Any, Ends, Reads, Starts};
+ghost use Rattle.query.specs.Reading.{Any, Ends, ReadsPhrase, Starts};
 
 use crate::item::Item;
 use crate::phrases::after_mark;
@@ -12,7 +12,7 @@ use std::alloc::Global;
 
 /// The items at the front, with commas between, and what follows them.
 pub fn items(alloc: Global, tokens: &[Token]) -> Result<(Vec<Item<Text>>, &[Token]), Refused>
-    ensures reads { Reads (λ x. (x.0.items, x.1.now)) (Starts (Separated comma SpellsItem) (Ends comma Any) tokens.now) result }
+    ensures reads { ReadsPhrase (λ x. (x.0.items, x.1.now)) (Starts (Separated comma SpellsItem) (Ends comma Any) tokens.now) result }
     ensures shorter { IfOk result (λ x. length x.1.now < length tokens.now) }
 {
     let mut found = Vec::new(alloc);
@@ -29,7 +29,7 @@ pub fn items(alloc: Global, tokens: &[Token]) -> Result<(Vec<Item<Text>>, &[Toke
 
 /// The item at the front by the rule of the grammar, and what follows it.
 fn item(tokens: &[Token]) -> Result<(Item<Text>, &[Token]), Refused>
-    ensures reads { Reads (λ x. (x.0, x.1.now)) (Starts SpellsItem Any tokens.now) result }
+    ensures reads { ReadsPhrase (λ x. (x.0, x.1.now)) (Starts SpellsItem Any tokens.now) result }
     ensures shorter { IfOk result (λ x. length x.1.now < length tokens.now) }
 {
     item_at(tokens)

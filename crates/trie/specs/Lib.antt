@@ -11,3 +11,4 @@ pub mod Shapes
 pub mod Splitting
 pub mod Tree
 pub mod Walks
+pub mod Worked

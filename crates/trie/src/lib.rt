@@ -31,7 +31,7 @@ pub use blend::{Blend, Later};
 pub use cutting::{Cutting, MAX_DEPTH};
 pub use laws::{
     a_map_has_the_shape_of_its_keys, entries_are_a_map, entries_still_rise, keys_decide_the_shape,
-    pieces_are_parts, values_decide_the_entries, worked_shapes,
+    pieces_are_parts, values_decide_the_entries, worked_cuts, worked_shapes,
 };
 pub use shape::{Prefix, Shape};
 pub use split::Piece;

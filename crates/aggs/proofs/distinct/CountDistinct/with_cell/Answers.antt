@@ -1,4 +1,4 @@
-use Rattle.std.proofs.Common.{◌≡◌, ◌∙◌, ap, arith, length, rules}
+use Rattle.std.proofs.Common.{◌≡◌, ◌∙◌, ap, arith, rules}
 use Rattle.aggs.proofs.DifferingLemmas.{number_held, one_more_held}
 use Rattle.cells.specs.CellOrder.{cell_cmp}
 use Rattle.cells.specs.SameKeys.{exact_cells}

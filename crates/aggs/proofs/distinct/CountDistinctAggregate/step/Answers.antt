@@ -1,6 +1,7 @@
 use Rattle.std.proofs.Common.{◌≡◌, ◌∙◌, sym, arith, rules}
 use Rattle.std.specs.FinSet.{insert}
-use Rattle.aggs.proofs.DifferingLemmas.{new_is_one, new_stepped, null_stepped, old_stepped}
+use Rattle.aggs.proofs.DifferingLemmas.{new_is_one, new_needed, new_stepped, null_stepped, old_stepped}
+use Rattle.aggs.proofs.NeededLemmas.{on_err}
 use Rattle.aggs.proofs.distinct.CountDistinctAggregate.step.Goals as goal
 
 pub returns-then-is_null-clause-stepped : goal.returns-then-is_null-clause-stepped
@@ -19,3 +20,7 @@ pub returns-clause-stepped : goal.returns-clause-stepped
 returns-clause-stepped g c =
     let is : c.in_ok-self.field-0 ≡ insert c.args.self.now c.args.cell.now = search rules in
     is ∙ new_stepped c.args.self.now c.args.cell.now (sym c.is_null.ensures ∙ c.if-is_null.false)
+
+pub returns-in_err-self-clause-needed : goal.returns-in_err-self-clause-needed
+returns-in_err-self-clause-needed g c =
+    on_err c.from_residual.result (new_needed c.args.self.now c.args.cell.now (sym c.is_null.ensures ∙ c.if-is_null.false) (sym c.contains.ensures ∙ c.if-contains.false))
