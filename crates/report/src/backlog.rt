@@ -2,9 +2,9 @@
 ghost use Rattle.std.specs.Prelude.{◌≡◌, ◌⊎◌, ℕ, ◌+◌, ◌<◌, ◌≤◌, ◌^◌, ◌++◌, ◌∷◌, [], List, length, IfErr, IfOk, IsErrOf, OnErr, OnOk};
 ghost use Rattle.std.specs.Io.KnownBytes.{Appends};
 ghost use Rattle.query.specs.Plans.{IsPlanOf};
-ghost use Rattle.report.specs.Limits.{worker_limit};
+ghost use Rattle.report.specs.Limits.{under_way_limit, worker_limit};
 ghost use Rattle.report.specs.Taken.{TakesBeginning};
-ghost use Rattle.report.specs.Waiting.{Awaits, GoesOn, HasAnswer, IsLate, IsUnmade, under_way_limit};
+ghost use Rattle.report.specs.Waiting.{Awaits, GoesOn, HasAnswer, IsLate, IsUnmade};
 
 use crate::limits::MAX_REPORTS;
 use crate::out::{Out, write_whole};
@@ -41,7 +41,8 @@ impl<H: KeyHash<Cell>> Model for Backlog<H> {
     ghost use Rattle.std.specs.Coded.{codes};
     ghost use Rattle.board.specs.Editions.{coded_edition};
     ghost use Rattle.query.specs.Codes.{coded_predicate};
-    ghost use Rattle.report.specs.Waiting.{Waits, under_way, under_way_limit};
+    ghost use Rattle.report.specs.Limits.{under_way_limit};
+    ghost use Rattle.report.specs.Waiting.{Waits, under_way};
 
     ghost Value = { Waits };
 
