@@ -12,12 +12,8 @@ use Rattle.report.specs.Reports.{report_text}
 use Rattle.report.specs.Taken.{TakesBeginning, TakesUpTo}
 use Rattle.report.specs.declared.backlog.Pending.{Pending}
 
--- how many reports may be under way at a time
-abbrev pub under_way_limit : ℕ
-under_way_limit = 8
-
 -- the text is the plan's report over these rows, in whatever order they are listed
-pub record Answers (rows : Rows) (plan : PlanTree) (text : List ℕ) : Type 0 where
+pub record IsReportText (rows : Rows) (plan : PlanTree) (text : List ℕ) : Type 0 where
   pub is : (rs : List Entry) → AreLeft rs → rows ≡ table rs → text ≡ report_text plan (report_rows plan rs)
 
 -- why a report may have no answer: want of memory, or of a thread
@@ -45,7 +41,7 @@ under_way p = record { before = p.before.items; edition = p.answer.promise.editi
 
 -- the plan has this answer on the edition, and no other
 abbrev pub HasAnswer : Edition → PlanTree → List ℕ → Type 0
-HasAnswer edition plan text = (answer : List ℕ) → Answers edition.rows plan answer → answer ≡ text
+HasAnswer edition plan text = (answer : List ℕ) → IsReportText edition.rows plan answer → answer ≡ text
 
 -- the text comes of the reports, whatever thread ends first, and then of the text behind them
 pub data Comes (after : List ℕ) : List UnderWay → List ℕ → Type 0 where

@@ -7,7 +7,7 @@ ghost use Rattle.cells.specs.declared.refused.Refused.TheVariants as Refused;
 ghost use Rattle.groups.specs.Groups.{report_rows};
 ghost use Rattle.query.specs.Plans.{IsPlanOf};
 ghost use Rattle.report.specs.Limits.{worker_limit};
-ghost use Rattle.report.specs.Pieces.{HoldRows};
+ghost use Rattle.report.specs.Pieces.{AreCut, HoldRows};
 ghost use Rattle.report.specs.Reports.{report_text};
 
 use crate::printing::text;
@@ -51,13 +51,14 @@ pub fn answer<H: KeyHash<Cell> + KeyHash<Tuple> + Send + Sync, G: Gate, R: Threa
     text(alloc, plan, rows.as_slice())
 }
 
-/// The pieces that the rows are cut into.
+/// The pieces that the cutting makes of the rows.
 fn pieces_of<H: KeyHash<Cell>>(
     alloc: Global,
     root: &Root<H>,
     cutting: &Cutting,
 ) -> Result<Vec<Piece<Cell, Row, H>>, AllocError>
-    ensures { IfOk result (λ pieces. HoldRows root.now pieces.items) }
+    ensures rows { IfOk result (λ pieces. HoldRows root.now pieces.items) }
+    ensures cut { IfOk result (λ pieces. AreCut H.hash_of cutting.now root.now pieces.items) }
 {
     // These do nothing: they are the trie's laws, by which its pieces have the entries of the map.
     entries_are_a_map::<Cell, Row, H>();

@@ -2,9 +2,9 @@
 ghost use Rattle.std.specs.Prelude.{◌≡◌, ◌⊎◌, ℕ, ◌+◌, ◌<◌, ◌≤◌, ◌^◌, ◌++◌, ◌∷◌, [], List, length, IfErr, IfOk, IsErrOf, OnErr, OnOk};
 ghost use Rattle.std.specs.Io.KnownBytes.{Appends};
 ghost use Rattle.query.specs.Plans.{IsPlanOf};
-ghost use Rattle.report.specs.Limits.{worker_limit};
+ghost use Rattle.report.specs.Limits.{under_way_limit, worker_limit};
 ghost use Rattle.report.specs.Taken.{TakesBeginning};
-ghost use Rattle.report.specs.Waiting.{Awaits, GoesOn, HasAnswer, IsLate, under_way_limit};
+ghost use Rattle.report.specs.Waiting.{Awaits, GoesOn, HasAnswer, IsLate, IsUnmade};
 
 use crate::limits::MAX_REPORTS;
 use crate::out::{Out, write_whole};
@@ -41,7 +41,8 @@ impl<H: KeyHash<Cell>> Model for Backlog<H> {
     ghost use Rattle.std.specs.Coded.{codes};
     ghost use Rattle.board.specs.Editions.{coded_edition};
     ghost use Rattle.query.specs.Codes.{coded_predicate};
-    ghost use Rattle.report.specs.Waiting.{Waits, under_way, under_way_limit};
+    ghost use Rattle.report.specs.Limits.{under_way_limit};
+    ghost use Rattle.report.specs.Waiting.{Waits, under_way};
 
     ghost Value = { Waits };
 
@@ -114,6 +115,7 @@ impl<H: KeyHash<Cell>> Backlog<H> {
     fn make_room<O: Out, R: Threads>(&mut self, rt: &R, out: &mut O) -> Result<(), Refused>
         requires { O.faults out.old + 1 < 2 ^ 64 }
         ensures room { OnOk result (length self.new.reports < under_way_limit) }
+        ensures early { length self.old.reports < under_way_limit → self.new ≡ self.old }
         ensures written { (text : List ℕ) → Awaits self.old text → GoesOn (O.taken out.old) (O.taken out.new) self.new text result }
         ensures sound { OnOk result (O.faults out.new ≡ O.faults out.old) }
         ensures refused { IfErr result IsLate }
@@ -148,6 +150,7 @@ impl<H: KeyHash<Cell>> Backlog<H> {
     pub fn say<O: Out>(&mut self, out: &mut O, text: &[u8]) -> Result<(), Refused>
         requires { O.faults out.old + 1 < 2 ^ 64 }
         ensures written { (waiting : List ℕ) → Awaits self.old waiting → GoesOn (O.taken out.old) (O.taken out.new) self.new (waiting ++ text.now) result }
+        ensures at_once { self.old.reports ≡ [] → OnOk result (self.new.after ≡ []) }
         ensures sound { OnOk result (O.faults out.new ≡ O.faults out.old) }
         ensures reports { length self.new.reports ≡ length self.old.reports }
         ensures refused { IfErr result (λ e. (e ≡ Refused.OutOfMemory) ⊎ (e ≡ Refused.WriteFailed)) }
@@ -228,6 +231,7 @@ impl<H: KeyHash<Cell>> Pending<H> {
         ensures beginning { (text : List ℕ) → HasAnswer self.answer.promise.edition.value self.answer.promise.plan.value text
             → OnErr result (TakesBeginning (O.taken out.old) (O.taken out.new) (self.before.items ++ text)) }
         ensures sound { OnOk result (O.faults out.new ≡ O.faults out.old) }
+        ensures waited { IfErr result (λ e. (e ≡ Refused.WriteFailed) ⊎ (IsUnmade e × (O.taken out.new ≡ O.taken out.old))) }
         ensures refused { IfErr result IsLate }
         ensures fault { IsErrOf result Refused.WriteFailed → O.faults out.old < O.faults out.new }
     {

@@ -1,7 +1,9 @@
-//! The limits that this crate decides.
+//! The limits of reports.
 
-/// The most workers of a report. The fewest is one.
-pub const MAX_WORKERS: u64 = 64;
+use crew::MAX_SEATS;
+
+/// The most workers of a report, each of which has a seat. The fewest is one.
+pub const MAX_WORKERS: u64 = MAX_SEATS;
 
 /// The most reports that are under way at a time.
 pub const MAX_REPORTS: usize = 8;

@@ -2,7 +2,7 @@
 ghost use Rattle.std.specs.Prelude.{◌≡◌, ◌≤◌, IfErr, IfOk};
 ghost use Rattle.query.specs.Plans.{IsPlanOf};
 ghost use Rattle.report.specs.Limits.{worker_limit};
-ghost use Rattle.report.specs.Waiting.{Answers, IsUnmade};
+ghost use Rattle.report.specs.Waiting.{IsReportText, IsUnmade};
 
 use crate::answering::answer;
 use board::Snapshot;
@@ -24,10 +24,10 @@ pub(crate) struct AnswerOf<H: KeyHash<Cell>> {
 
 impl<H: KeyHash<Cell>> Promise<Result<Vec<u8>, Refused>> for AnswerOf<H> {
     ghost use Rattle.std.specs.Prelude.{IfErr, IfOk};
-    ghost use Rattle.report.specs.Waiting.{Answers, IsUnmade};
+    ghost use Rattle.report.specs.Waiting.{IsReportText, IsUnmade};
 
     ghost kept_by = { λ promise result.
-        IfOk result (λ text. Answers promise.edition.value.rows promise.plan.value text.items) × IfErr result IsUnmade };
+        IfOk result (λ text. IsReportText promise.edition.value.rows promise.plan.value text.items) × IfErr result IsUnmade };
 }
 
 /// What each report is started with: where its threads come from, how many workers answer it and how the rows are cut
@@ -66,7 +66,7 @@ impl<'a, 's, 'e: 's, R: Threads + Wait + Sync, G: Gate> Starter<'a, 's, 'e, R, G
         let gate = self.gate;
         let job = move || -> Result<Vec<u8>, Refused>
             requires { IsPlanOf snapshot.schema plan × (1 ≤ workers) × (workers ≤ worker_limit) }
-            ensures answers { IfOk result (λ text. Answers snapshot.rows plan text.items) }
+            ensures answers { IfOk result (λ text. IsReportText snapshot.rows plan text.items) }
             ensures refused { IfErr result IsUnmade }
         { answer(rt, alloc, &snapshot, &plan, workers, &cutting, gate) };
         match self.scope.spawn_with(promise, job) {

@@ -5,8 +5,8 @@ use Rattle.trie.specs.Cuts.{IsPart}
 use Rattle.report.proofs.PiecesLemmas.{hold_rows}
 use Rattle.report.proofs.answering.pieces_of.Goals as goal
 
-pub returns : goal.returns
-returns g c =
+pub returns-clause-rows : goal.returns-clause-rows
+returns-clause-rows g c =
     let hash = g.H.KeyHash.hash_of in
     let es = c.rows.result.now in
     let once = c.entries_are_a_map.ensures.len es c.rows.ensures.rise in
@@ -14,3 +14,7 @@ returns g c =
     let parts = c.pieces_are_parts.ensures.parts es c.args.cutting.now.depth c.args.cutting.now.small in
     IfOk-weaker c.split.result _ _ (λ pieces e. hold_rows c.args.root.now es c.rows.ensures.map once hash pieces.items
     (subst (AllByRecursion (IsPart hash es)) (sym e) parts) (ap (flat_map (λ piece. piece)) e ∙ joined)) c.split.ensures
+
+pub returns-clause-cut : goal.returns-clause-cut
+returns-clause-cut g c =
+    IfOk-weaker c.split.result _ _ (λ pieces e. record { entries = c.rows.result.now; map = c.rows.ensures.map; rise = c.rows.ensures.rise; made = e }) c.split.ensures
