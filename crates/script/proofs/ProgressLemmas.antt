@@ -20,7 +20,7 @@ use Rattle.script.specs.Endings.{AsksForWorkers, BeginsToWrite, Delivers, EndsAt
 use Rattle.script.specs.Givens.{Givens, givens}
 use Rattle.script.specs.Limits.{part_limit, script_limit}
 use Rattle.script.specs.Output.{AreBlocks, IsBlock, IsOutput, IsTooMuch, deed_behind, edition, is_publish, line_first, no_line, of_lines, refusal, too_much}
-use Rattle.script.specs.Stands.{Publishable, Stands, schema_of_desk}
+use Rattle.script.specs.Desks.{Publishable, IsBehind, schema_of_desk}
 use Rattle.script.specs.declared.block.Block.{Block}
 use Rattle.script.specs.declared.ended.Ended.{Ended}
 use Rattle.script.specs.declared.ended.Ended.TheVariants.{NoWorker}
@@ -51,7 +51,7 @@ pub record Reached (old new : Option (List ℕ)) (hash : Cell → ℕ) (givens :
   pub awaits : Awaits waits waiting
   pub asked : 0 < length waits.reports → AsksForWorkers givens script
   pub blocks : (bytes : List ℕ) → AreBlocks hash givens before rest bytes → AreBlocks hash givens [] script (front ++ (waiting ++ bytes))
-  pub stands : Stands givens before desk
+  pub stands : IsBehind givens before desk
   pub number_is : number ≡ length before
   pub short : length before + length rest ≤ script_limit + 1
   pub narrow : AllByRecursion (λ line. length line ≤ script_limit) rest
@@ -215,7 +215,7 @@ edition-le : (givens : Givens) (before : List (List ℕ)) → edition givens bef
 edition-le givens [] = omega arith
 edition-le givens (line ∷ before) = let h = one_more (is_publish (deed_behind givens before line)) (edition givens before) (length before) (edition-le givens before) in omega (arith, h)
 
-pub publishable : (givens : Givens) (before : List (List ℕ)) (desk : Option Editions) → Stands givens before desk → length before ≤ script_limit + 1 → Publishable desk
+pub publishable : (givens : Givens) (before : List (List ℕ)) (desk : Option Editions) → IsBehind givens before desk → length before ≤ script_limit + 1 → Publishable desk
 publishable givens before None stands short = tt
 publishable givens before (Some k) stands short = omega (arith, stands.edition, edition-le givens before, short)
 

@@ -8,7 +8,7 @@ use Rattle.cells.specs.declared.refused.Refused.{Refused}
 use Rattle.cells.specs.declared.refused.Refused.TheVariants.{OutOfMemory}
 use Rattle.board.specs.Editions.{Editions}
 use Rattle.board.specs.Editions as keeper
-use Rattle.script.specs.Blocks.{Answers, AnswersPlan}
+use Rattle.script.specs.Blocks.{WillReport, WillReportPlan}
 use Rattle.script.specs.Output.{IsReport, refusal, report}
 use Rattle.script.specs.Says.{GivesPlan, IsRefused, MeansPlan, Says, answer, answer_of, no_plan, no_query}
 use Rattle.script.specs.declared.block.Block.{Block}
@@ -93,7 +93,7 @@ checked_text t text q result is reads = go (fault_of t q) refl result reads wher
 
 -- the block of a refused report
 pub answers_refused : {H : Type 0} (k : Editions) (number : ℕ) (query : List ℕ) (fault : Refused) (bytes : Vec ℕ Global) →
-    IsRefused (keeper.schema k) query fault → (Line fault ≡ Line OutOfMemory → false ≡ true) → bytes.items ≡ refusal number (Line fault) → Answers {H = H} k number query (Text bytes)
+    IsRefused (keeper.schema k) query fault → (Line fault ≡ Line OutOfMemory → false ≡ true) → bytes.items ≡ refusal number (Line fault) → WillReport {H = H} k number query (Text bytes)
 answers_refused k number query fault bytes (inl wanting) memory is = absurd (let bad : false ≡ true = memory (ap Line wanting) in cc)
 answers_refused k number query fault bytes (inr says) memory is = record {
   is = λ rs left same. record { text = refusal number (Line fault); is = record { said = Err fault; says = says rs; is = refl }; will = is };
@@ -101,7 +101,7 @@ answers_refused k number query fault bytes (inr says) memory is = record {
 
 -- the block of a report that is answered
 pub answers_plan : {H : Type 0} (k : Editions) (number : ℕ) (query : List ℕ) (plan : PlanTree) (block : Block H) →
-    MeansPlan (keeper.schema k) query plan → AnswersPlan k number plan block → Answers k number query block
+    MeansPlan (keeper.schema k) query plan → WillReportPlan k number plan block → WillReport k number query block
 answers_plan k number query plan block asks answers = record {
   is = λ rs left same. record {
     text = report number (keeper.edition k) (Ok (answer_of plan rs));

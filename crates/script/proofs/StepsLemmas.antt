@@ -16,14 +16,14 @@ use Rattle.cells.specs.declared.refused.Refused.TheVariants.{OutOfMemory, TooMan
 use Rattle.trie.specs.Shapes.{shape_of}
 use Rattle.board.specs.Editions.{Begins, ChangesDraft, Editions}
 use Rattle.board.specs.Editions as keeper
-use Rattle.script.specs.Blocks.{Answers, Steps}
+use Rattle.script.specs.Blocks.{WillReport, Steps}
 use Rattle.script.specs.Deeds.{Declares, Deed, Loads, Nothing, Publishes, Reports, Shapes, Updates, deed, deed_of, declares, is_comment, command_of}
 use Rattle.script.specs.Endings.{HasWorkers, reports}
 use Rattle.script.specs.Givens.{Givens}
 use Rattle.script.specs.Listings.{rows_loaded}
 use Rattle.script.specs.Output.{IsAnswer, IsBlock, IsReport, added, declared, declared_by, edition, is_overfull, is_publish, loaded, published, refusal, shape_text, updated, updates, within, within_loaded}
 use Rattle.script.specs.Output.{keys as keys_of_rows}
-use Rattle.script.specs.Stands.{Executes, Keeps, LaysOrOverflows, LoadsRows, PutsRow, Stands, schema_of_desk}
+use Rattle.script.specs.Desks.{Executes, Keeps, LaysOrOverflows, LoadsRows, PutsRow, IsBehind, schema_of_desk}
 use Rattle.script.specs.declared.block.Block.{Block}
 use Rattle.script.specs.declared.block.Block.TheVariants.{Text}
 use Rattle.script.specs.declared.command.Command.{Command}
@@ -53,11 +53,11 @@ module _ (givens : Givens) (before : Lines) (line : List ℕ) (r : Result Deed F
   block_by : (hash : Cell → ℕ) (bytes : List ℕ) → IsAnswer hash givens before r bytes → IsBlock hash givens before line bytes
   block_by hash bytes is = subst (λ d. IsAnswer hash givens before d bytes) (sym does) is
 
-declared_is : (givens : Givens) (before : Lines) (desk : Option Editions) → Stands givens before desk → declared givens before ≡ schema_of_desk desk
+declared_is : (givens : Givens) (before : Lines) (desk : Option Editions) → IsBehind givens before desk → declared givens before ≡ schema_of_desk desk
 declared_is givens before None stands = stands
 declared_is givens before (Some k) stands = stands.schema
 
-pub does_so : (givens : Givens) (before : Lines) (line : List ℕ) (desk : Option Editions) (r : Result Deed Fault) → Stands givens before desk → deed (schema_of_desk desk) line ≡ r → deed (declared givens before) line ≡ r
+pub does_so : (givens : Givens) (before : Lines) (line : List ℕ) (desk : Option Editions) (r : Result Deed Fault) → IsBehind givens before desk → deed (schema_of_desk desk) line ≡ r → deed (declared givens before) line ≡ r
 does_so givens before line desk r stands does = ap (λ t. deed t line) (declared_is givens before desk stands) ∙ does
 
 -- ---- lines that leave the keeper
@@ -99,7 +99,7 @@ leaves_quiet givens before line (Ok (Reports t query)) does quiet = leaves_at gi
 leaves_quiet givens before line (Ok Shapes) does quiet = leaves_at givens before line (Ok Shapes) does refl refl refl
 leaves_quiet givens before line (Err fault) does quiet = leaves_at givens before line (Err fault) does refl refl refl
 
-stands_left : (givens : Givens) (before : Lines) (line : List ℕ) (desk : Option Editions) → Leaves givens before line → Stands givens before desk → Stands givens (line ∷ before) desk
+stands_left : (givens : Givens) (before : Lines) (line : List ℕ) (desk : Option Editions) → Leaves givens before line → IsBehind givens before desk → IsBehind givens (line ∷ before) desk
 stands_left givens before line None leaves stands = leaves.declared ∙ stands
 stands_left givens before line (Some k) leaves stands = record {
   schema = leaves.declared ∙ stands.schema;
@@ -112,7 +112,7 @@ stands_left givens before line (Some k) leaves stands = record {
 
 executes_quiet : (hash : Cell → ℕ) (givens : Givens) (line : List ℕ) (number : ℕ) (desk : Option Editions) (r : Result Deed Fault) (bytes : List ℕ)
     → deed (schema_of_desk desk) line ≡ r → IsQuiet r
-    → ((before : Lines) → Stands givens before desk → number ≡ length before + 1 → IsAnswer hash givens before r bytes)
+    → ((before : Lines) → IsBehind givens before desk → number ≡ length before + 1 → IsAnswer hash givens before r bytes)
     → Executes hash givens line number desk desk bytes
 executes_quiet hash givens line number desk r bytes does quiet writes = record {
   block = λ before stands n. block_by givens before line r (does_so givens before line desk r stands does) hash bytes (writes before stands n);
@@ -166,7 +166,7 @@ executes_refused_text hash givens line number desk fault (Ok bytes) (inr does) m
 executes_refused_text hash givens line number desk fault (Err e) asks memory is = tt
 
 pub steps_report : {H : Type 0} (hash : Cell → ℕ) (givens : Givens) (line : List ℕ) (number : ℕ) (k : Editions) (query : List ℕ) (block : Block H)
-    → deed (Some (keeper.schema k)) line ≡ Ok (Reports (keeper.schema k) query) → Answers k number query block → Steps hash givens line number (Some k) (Some k) block
+    → deed (Some (keeper.schema k)) line ≡ Ok (Reports (keeper.schema k) query) → WillReport k number query block → Steps hash givens line number (Some k) (Some k) block
 steps_report hash givens line number k query block does answers =
     let r = Ok (Reports (keeper.schema k) query) in record {
       foretells = λ before stands n.

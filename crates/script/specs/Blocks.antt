@@ -13,7 +13,7 @@ use Rattle.script.specs.Endings.{HasWorkers}
 use Rattle.script.specs.Givens.{Givens}
 use Rattle.script.specs.Output.{IsBlock, IsReport, report}
 use Rattle.script.specs.Says.{answer_of}
-use Rattle.script.specs.Stands.{Stands, schema_of_desk}
+use Rattle.script.specs.Desks.{IsBehind, schema_of_desk}
 use Rattle.script.specs.declared.block.Asked.{Asked}
 use Rattle.script.specs.declared.block.Block.{Block}
 use Rattle.script.specs.declared.block.Block.TheVariants.{Report, Text}
@@ -48,14 +48,14 @@ pub record Foretells {H : Type 0} (Is : List ℕ → Type 0) (block : Block H) :
 -- the step of one line: it gives what will be the line's block, and leaves a run that stands behind the line; where an
 -- answer is still to come, the line has workers
 pub record Steps {H : Type 0} (hash : Cell → ℕ) (givens : Givens) (line : List ℕ) (number : ℕ) (old new : Option Editions) (block : Block H) : Type 0 where
-  pub foretells : (before : List (List ℕ)) → Stands givens before old → number ≡ length before + 1 → Foretells (IsBlock hash givens before line) block
-  pub stands : (before : List (List ℕ)) → Stands givens before old → Stands givens (line ∷ before) new
+  pub foretells : (before : List (List ℕ)) → IsBehind givens before old → number ≡ length before + 1 → Foretells (IsBlock hash givens before line) block
+  pub stands : (before : List (List ℕ)) → IsBehind givens before old → IsBehind givens (line ∷ before) new
   pub asks : IsAsked block → HasWorkers (deed (schema_of_desk old) line)
 
 -- the block will be that of a report over the rows that the keeper has published, in whatever order they are listed
-pub record Answers {H : Type 0} (k : Editions) (number : ℕ) (query : List ℕ) (block : Block H) : Type 0 where
+pub record WillReport {H : Type 0} (k : Editions) (number : ℕ) (query : List ℕ) (block : Block H) : Type 0 where
   pub is : (rs : List Entry) → AreLeft rs → keeper.published k ≡ table rs → Foretells (IsReport number (keeper.edition k) (keeper.schema k) rs query) block
 
 -- the block will be that of the plan's answer over those rows
-pub record AnswersPlan {H : Type 0} (k : Editions) (number : ℕ) (plan : PlanTree) (block : Block H) : Type 0 where
+pub record WillReportPlan {H : Type 0} (k : Editions) (number : ℕ) (plan : PlanTree) (block : Block H) : Type 0 where
   pub is : (rs : List Entry) → AreLeft rs → keeper.published k ≡ table rs → WillBe block (report number (keeper.edition k) (Ok (answer_of plan rs)))

@@ -5,6 +5,8 @@ use Rattle.cells.specs.Refusals.{number_of}
 use Rattle.cells.specs.Values.{Table}
 use Rattle.cells.specs.declared.refused.Refused.{Refused}
 use Rattle.cells.specs.declared.refused.Refused.TheVariants as refused
+use Rattle.loader.specs.declared.fault.PartFault.{PartFault}
+use Rattle.loader.specs.declared.fault.PartFault.TheVariants as part
 use Rattle.report.specs.Taken.{TakesBeginning}
 use Rattle.script.specs.Deeds.{Deed, Loads, Reports}
 use Rattle.script.specs.Givens.{Givens}
@@ -24,6 +26,11 @@ pub record EndsBy (late : Refused) (ended : Ended) : Type 0 where
   pub memory : late ≡ refused.OutOfMemory → ended ≡ OutOfMemory
   pub worker : late ≡ refused.NoWorker → ended ≡ NoWorker
   pub writer : late ≡ refused.WriteFailed → ended ≡ WriteFailed
+
+-- how a load that has no rows, and no faulty part, ends a run
+pub record EndsLoad (fault : PartFault) (ended : Ended) : Type 0 where
+  pub memory : fault ≡ part.OutOfMemory → ended ≡ OutOfMemory
+  pub worker : fault ≡ part.NoWorker → ended ≡ NoWorker
 
 -- a line that does this has workers: it asks for a report, or loads parts
 pub data HasWorkers : Result Deed Fault → Type 0 where

@@ -1,5 +1,6 @@
 pub mod Blocks
 pub mod Deeds
+pub mod Desks
 pub mod Endings
 pub mod Faults
 pub mod Givens
@@ -9,5 +10,4 @@ pub mod Limits
 pub mod Listings
 pub mod Output
 pub mod Says
-pub mod Stands
 pub mod Statements

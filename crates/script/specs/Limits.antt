@@ -3,10 +3,11 @@
 use Rattle.std.specs.Prelude.{ℕ, ◌≤◌, ◌^◌, ◌-◌}
 use Rattle.trie.specs.Digits.{digit_count}
 use Rattle.board.specs.Limits.{row_limit}
+use Rattle.report.specs.Limits.{worker_limit}
 use Rattle.script.specs.declared.limits.Limits.{Limits}
 
 abbrev pub workers : Limits
-workers = record { least = 1; most = 64; default = 1 }
+workers = record { least = 1; most = worker_limit; default = 1 }
 
 -- no cut is deeper than a hash has digits
 abbrev pub depth : Limits

@@ -1,9 +1,10 @@
 //! Why a run ended early.
 ghost use Rattle.std.specs.Prelude.{◌≡◌};
-ghost use Rattle.script.specs.Endings.{EndsBy, ending_number};
+ghost use Rattle.script.specs.Endings.{EndsBy, EndsLoad, ending_number};
 ghost use Rattle.script.specs.declared.ended.Ended.TheVariants.{OutOfMemory};
 
 use cells::Refused;
+use loader::PartFault;
 use std::alloc::{AllocError, AllocFailed};
 
 /// Why a run ended before its last line. What was written is a beginning of the output.
@@ -38,6 +39,18 @@ impl From<Refused> for Ended {
         match refused {
             Refused::NoWorker => Ended::NoWorker,
             Refused::WriteFailed => Ended::WriteFailed,
+            _ => Ended::OutOfMemory,
+        }
+    }
+}
+
+impl From<PartFault> for Ended {
+    ghost from_gives = { EndsLoad };
+
+    /// The end of a run whose load met this. A part's fault ends no run: it refuses its line.
+    fn from(fault: PartFault) -> Ended {
+        match fault {
+            PartFault::NoWorker => Ended::NoWorker,
             _ => Ended::OutOfMemory,
         }
     }

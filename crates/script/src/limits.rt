@@ -3,6 +3,7 @@
 //! `tools/program` hold the texts of help to them.
 
 use board::MAX_ROWS;
+use report::MAX_WORKERS;
 use trie::MAX_DEPTH;
 
 /// The numbers that a setting takes.
@@ -19,7 +20,7 @@ pub struct Limits {
 /// How many workers load parts and answer a report, each in a thread of its own.
 pub const WORKERS: Limits = Limits {
     least: 1,
-    most: 64,
+    most: MAX_WORKERS,
     default: 1,
 };
 

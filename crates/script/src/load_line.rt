@@ -9,7 +9,7 @@ ghost use Rattle.loader.specs.Limits.{listed_limit};
 ghost use Rattle.loader.specs.Parts.{part_len, part_of, rows_of_parts};
 ghost use Rattle.script.specs.Limits.{script_limit};
 ghost use Rattle.script.specs.Listings.{rows_held, rows_loaded};
-ghost use Rattle.script.specs.Stands.{LaysOrOverflows, LoadsRows};
+ghost use Rattle.script.specs.Desks.{LaysOrOverflows, LoadsRows};
 
 use crate::block::refusal_block;
 use crate::ended::Ended;
@@ -80,8 +80,7 @@ fn load_listed<H: KeyHash<Cell> + Send + Sync, G: Gate, R: Threads + Wait>(
                 record: entry,
             },
         ),
-        Err(PartFault::NoWorker) => Err(Ended::NoWorker),
-        Err(PartFault::OutOfMemory) => Err(Ended::OutOfMemory),
+        Err(fault) => Err(Ended::from(fault)),
     }
 }
 

@@ -2,7 +2,7 @@
 ghost use Rattle.std.specs.Prelude.{◌≡◌, IfErr, IfOk};
 ghost use Rattle.board.specs.Editions as editions;
 ghost use Rattle.query.specs.Plans.{IsPlanOf};
-ghost use Rattle.script.specs.Blocks.{Answers, AnswersPlan, IsPlanned};
+ghost use Rattle.script.specs.Blocks.{WillReport, WillReportPlan, IsPlanned};
 ghost use Rattle.script.specs.Says.{GivesPlan};
 
 use crate::block::{Asked, Block, refusal_block, report_heading};
@@ -21,7 +21,7 @@ pub fn execute_report<H: KeyHash<Cell>>(
     text: &str,
     number: u64,
 ) -> Result<Block<H>, Ended>
-    ensures block { IfOk result (Answers keeper.now number text.now) }
+    ensures block { IfOk result (WillReport keeper.now number text.now) }
     ensures planned { IfOk result IsPlanned }
     ensures ended { IfErr result (λ e. e ≡ Ended.OutOfMemory) }
 {
@@ -52,7 +52,7 @@ fn ask<H: KeyHash<Cell>>(
     number: u64,
 ) -> Result<Block<H>, Ended>
     requires { IsPlanOf (editions.schema keeper.now) plan }
-    ensures block { IfOk result (AnswersPlan keeper.now number plan) }
+    ensures block { IfOk result (WillReportPlan keeper.now number plan) }
     ensures planned { IfOk result IsPlanned }
     ensures ended { IfErr result (λ e. e ≡ Ended.OutOfMemory) }
 {

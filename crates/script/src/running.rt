@@ -9,10 +9,11 @@ ghost use Rattle.script.specs.Givens.{givens};
 ghost use Rattle.script.specs.Hows.{hash_of_choice};
 ghost use Rattle.script.specs.Limits.{script_limit};
 ghost use Rattle.script.specs.Output.{AreBlocks, IsOutput, refusal};
-ghost use Rattle.script.specs.Stands.{IsFresh};
+ghost use Rattle.script.specs.Desks.{IsFresh};
 ghost use Rattle.script.specs.declared.fault.Fault.TheVariants.{Line as AtLine};
 
 use crate::block::{Asked, Block, refusal_block};
+use crate::closing::Closing;
 use crate::ended::Ended;
 use crate::fault::Fault;
 use crate::hash_choice::HashChoice;
@@ -26,7 +27,6 @@ use crew::Gate;
 use query::each_text_has_an_answer;
 use report::{Backlog, Out, Starter, write_whole};
 use std::alloc::Global;
-use std::mem;
 use std::sync::Wait;
 use std::thread::{self, Threads};
 
@@ -45,8 +45,7 @@ use std::thread::{self, Threads};
 /// each piece of a report and of each listed part by the worker that drew it, and of each half of a list of parts by
 /// the thread that merges it.
 ///
-/// What the table holds at the end is not given back node by node: its memory is left to the system, which takes it back
-/// when the process ends.
+/// What the table holds at the end is given back.
 pub fn run<
     H: KeyHash<Cell> + KeyHash<Tuple> + Send + Sync,
     O: Out,
@@ -65,17 +64,7 @@ pub fn run<
     ensures delivered { Delivers O.taken O.faults out.old out.new (IsOutput H.KeyHash-1.hash_of (givens how.now.rows parts.now) script.now) result }
     ensures worker { IsErrOf result Ended.NoWorker → AsksForWorkers (givens how.now.rows parts.now) (lines script.now) }
 {
-    if script.len() > MAX_SCRIPT_BYTES || parts.len() > MAX_PARTS {
-        return write_refusal(alloc, out);
-    }
-    let setup = Setup {
-        rt,
-        alloc,
-        how,
-        parts,
-        gate,
-    };
-    run_lines::<H, O, G, R>(&setup, script, out)
+    run_whole::<H, O, G, R>(rt, alloc, script, parts, how, gate, out, Closing::GivesBack)
 }
 
 /// [`run`] with the hash of this choice. Only the blocks of shapes depend on it.
@@ -99,14 +88,73 @@ pub fn run_by<O: Out, G: Gate, R: Threads + Wait + Sync>(
     }
 }
 
+/// [`run_by`] for a program that ends behind it, however the run ends: the table's memory is left to the system.
+pub fn run_last<O: Out, G: Gate, R: Threads + Wait + Sync>(
+    rt: &R,
+    alloc: Global,
+    hash: HashChoice,
+    script: &[u8],
+    parts: &[Vec<u8>],
+    how: &How,
+    gate: &G,
+    out: &mut O,
+) -> Result<(), Ended>
+    requires { O.faults out.old + 1 < 2 ^ 64 }
+    ensures delivered { Delivers O.taken O.faults out.old out.new (IsOutput (hash_of_choice hash) (givens how.now.rows parts.now) script.now) result }
+    ensures worker { IsErrOf result Ended.NoWorker → AsksForWorkers (givens how.now.rows parts.now) (lines script.now) }
+{
+    let closing = Closing::LeavesToSystem;
+    match hash {
+        HashChoice::Fnv => {
+            run_whole::<Fnv, O, G, R>(rt, alloc, script, parts, how, gate, out, closing)
+        }
+        HashChoice::Plain => {
+            run_whole::<Plain, O, G, R>(rt, alloc, script, parts, how, gate, out, closing)
+        }
+    }
+}
+
+/// [`run`], with what becomes of the table at the end.
+fn run_whole<
+    H: KeyHash<Cell> + KeyHash<Tuple> + Send + Sync,
+    O: Out,
+    G: Gate,
+    R: Threads + Wait + Sync,
+>(
+    rt: &R,
+    alloc: Global,
+    script: &[u8],
+    parts: &[Vec<u8>],
+    how: &How,
+    gate: &G,
+    out: &mut O,
+    closing: Closing,
+) -> Result<(), Ended>
+    requires { O.faults out.old + 1 < 2 ^ 64 }
+    ensures delivered { Delivers O.taken O.faults out.old out.new (IsOutput H.KeyHash-1.hash_of (givens how.now.rows parts.now) script.now) result }
+    ensures worker { IsErrOf result Ended.NoWorker → AsksForWorkers (givens how.now.rows parts.now) (lines script.now) }
+{
+    if script.len() > MAX_SCRIPT_BYTES || parts.len() > MAX_PARTS {
+        return write_refusal(alloc, out);
+    }
+    let setup = Setup {
+        rt,
+        alloc,
+        how,
+        parts,
+        gate,
+    };
+    run_lines::<H, O, G, R>(&setup, script, out, closing)
+}
+
 /// Runs the lines of a script that is not too long. Reports run beside the lines that follow them: however the lines
-/// end, the reports that are under way are joined here, and the keeper ends here, whose memory is left to the system.
+/// end, the reports that are under way are joined here, and the keeper ends here.
 fn run_lines<
     H: KeyHash<Cell> + KeyHash<Tuple> + Send + Sync,
     O: Out,
     G: Gate,
     R: Threads + Wait + Sync,
->(setup: &Setup<'_, R, G>, script: &[u8], out: &mut O) -> Result<(), Ended>
+>(setup: &Setup<'_, R, G>, script: &[u8], out: &mut O, closing: Closing) -> Result<(), Ended>
     requires faults { O.faults out.old + 1 < 2 ^ 64 }
     requires short { length script.now ≤ script_limit }
     ensures delivered { Delivers O.taken O.faults out.old out.new (AreBlocks H.KeyHash-1.hash_of (givens setup.now.how.now.rows setup.now.parts.now) [] (lines script.now)) result }
@@ -133,9 +181,7 @@ fn run_lines<
             let mut backlog = Backlog::new(setup.alloc);
             let ended = run_beside(setup, &starter, script, &mut desk, &mut backlog, out);
             backlog.join(setup.rt);
-            // The table's memory goes back to the system as a whole, when the process ends: to give back each of its
-            // nodes and rows by itself would take more than half as long as its load.
-            mem::forget(desk);
+            closing.close(desk);
             (ended, out)
         },
     );

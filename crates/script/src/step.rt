@@ -9,7 +9,7 @@ ghost use Rattle.script.specs.Deeds.{deed};
 ghost use Rattle.script.specs.Endings.{EndsAt};
 ghost use Rattle.script.specs.Givens.{givens};
 ghost use Rattle.script.specs.Limits.{script_limit};
-ghost use Rattle.script.specs.Stands.{Executes, Publishable, PutsRow, schema_of_desk};
+ghost use Rattle.script.specs.Desks.{Executes, Publishable, PutsRow, schema_of_desk};
 
 use crate::block::{Block, refusal_block, shape_block};
 use crate::ended::Ended;

@@ -22,10 +22,10 @@ pub record Keeps (givens : Givens) (before : List (List ℕ)) (k : Editions) : T
   pub edition : keeper.edition k ≡ edition givens before
   pub published : keeper.published k ≡ table (published givens before)
 
--- there is a keeper where a table was declared
-abbrev pub Stands : Givens → List (List ℕ) → Option Editions → Type 0
-Stands givens before None = declared givens before ≡ None
-Stands givens before (Some k) = Keeps givens before k
+-- a desk is behind these lines: there is a keeper where they declared a table
+abbrev pub IsBehind : Givens → List (List ℕ) → Option Editions → Type 0
+IsBehind givens before None = declared givens before ≡ None
+IsBehind givens before (Some k) = Keeps givens before k
 
 abbrev pub schema_of_desk : Option Editions → Option Table
 schema_of_desk None = None
@@ -33,8 +33,8 @@ schema_of_desk (Some k) = Some (keeper.schema k)
 
 -- the step of one line: it gives the line's block, and leaves a run that stands behind the line
 pub record Executes (hash : Cell → ℕ) (givens : Givens) (line : List ℕ) (number : ℕ) (old new : Option Editions) (bytes : List ℕ) : Type 0 where
-  pub block : (before : List (List ℕ)) → Stands givens before old → number ≡ length before + 1 → IsBlock hash givens before line bytes
-  pub stands : (before : List (List ℕ)) → Stands givens before old → Stands givens (line ∷ before) new
+  pub block : (before : List (List ℕ)) → IsBehind givens before old → number ≡ length before + 1 → IsBlock hash givens before line bytes
+  pub stands : (before : List (List ℕ)) → IsBehind givens before old → IsBehind givens (line ∷ before) new
 
 -- a keeper may publish once more
 abbrev pub Publishable : Option Editions → Type 0

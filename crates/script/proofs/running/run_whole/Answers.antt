@@ -1,7 +1,7 @@
 use Rattle.std.proofs.Common.{inl, inr, rules}
 use Rattle.script.proofs.ProgressLemmas.{delivers_lines, delivers_too_much}
-use Rattle.script.proofs.running.run.Goals as goal
-use Rattle.script.proofs.running.run.Goals.{then-script-gt-MAX_SCRIPT_BYTES-via-then-script-gt-MAX_SCRIPT_BYTES, then-script-gt-MAX_SCRIPT_BYTES-via-else-script-gt-MAX_SCRIPT_BYTES+then-parts-gt-MAX_PARTS}
+use Rattle.script.proofs.running.run_whole.Goals as goal
+use Rattle.script.proofs.running.run_whole.Goals.{then-script-gt-MAX_SCRIPT_BYTES-via-then-script-gt-MAX_SCRIPT_BYTES, then-script-gt-MAX_SCRIPT_BYTES-via-else-script-gt-MAX_SCRIPT_BYTES+then-parts-gt-MAX_PARTS}
 
 pub returns-then-script-gt-MAX_SCRIPT_BYTES-clause-delivered : goal.returns-then-script-gt-MAX_SCRIPT_BYTES-clause-delivered
 returns-then-script-gt-MAX_SCRIPT_BYTES-clause-delivered g c =
