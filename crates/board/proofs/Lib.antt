@@ -1,5 +1,4 @@
 pub mod BoxesLemmas
-pub mod CrossingLemmas
 pub mod EditionsLemmas
 pub mod HistoryLemmas
 pub mod OverLemmas
