@@ -6,15 +6,18 @@ ghost use Rattle.cells.specs.Fitting.{IsRowOf};
 ghost use Rattle.cells.specs.Tables.{AreRowsOf, laid_over};
 ghost use Rattle.cells.specs.Values.{Entry};
 ghost use Rattle.trie.specs.Maps.{map_of};
-ghost use Rattle.board.specs.Editions.{Begins, ChangesDraft, Publishes, draft, edition, limit, published, schema};
+ghost use Rattle.board.specs.Editions.{Begins, ChangesDraft, IsHistory, IsLastOf, IsNewViewer, KnowsAllOf, Publishes, draft, edition, history, limit, published, schema};
 ghost use Rattle.board.specs.Limits.{place_limit, row_limit};
 
 use crate::root::Root;
 use crate::snapshot::Snapshot;
+use crate::told::Told;
+use crate::viewer::Viewer;
+use crate::writer::Writer;
 use cells::{Cell, KeyHash, Refused, Row, Schema, later_puts_lie_over};
 use std::alloc::Global;
 use std::marker::Model;
-use std::sync::Arc;
+use std::sync::{Arc, Wait};
 use trie::{Trie, entries_are_a_map};
 
 /// Holds a draft, which updates change, and the last published edition. A report never reads the
@@ -25,30 +28,30 @@ use trie::{Trie, entries_are_a_map};
 /// one owner more, was really refused.
 #[derive(Drop)]
 pub struct Keeper<H: KeyHash<Cell>> {
+    alloc: Global,
     draft: Root<H>,
     limit: u64,
-    edition: u64,
-    published: Root<H>,
-    schema: Arc<Schema>,
+    last: Snapshot<H>,
+    writer: Writer<H>,
 }
 
 impl<H: KeyHash<Cell>> Model for Keeper<H> {
+    ghost use Rattle.std.specs.Prelude.{◌≡◌};
     ghost use Rattle.board.specs.Editions.{Editions, IsKept, coded_editions, editions_of};
 
     ghost Value = { Editions };
 
     ghost coded = { coded_editions };
 
-    ghost view = { λ k. editions_of k.draft k.limit k.edition k.published k.schema.value };
+    ghost view = { λ k. editions_of k.draft k.limit k.last k.writer.seat.me.0.seen k.writer.seat.table_id };
 
-    ghost invariant = { λ k. IsKept (editions_of k.draft k.limit k.edition k.published k.schema.value) };
+    ghost invariant = { λ k. IsKept (editions_of k.draft k.limit k.last k.writer.seat.me.0.seen k.writer.seat.table_id) × (k.writer.seat.me.0.schema ≡ k.last.schema) };
 }
 
 impl<H: KeyHash<Cell>> Keeper<H> {
     /// A keeper of the table, whose draft and edition 0 have no rows. The draft may have at most
     /// `limit` rows, of which there are 1 to [`MAX_ROWS`](crate::MAX_ROWS). `places` is how many
-    /// viewers can be made, 1 to [`MAX_PLACES`](crate::MAX_PLACES); it has no effect before there are
-    /// viewers.
+    /// viewers can be made, 1 to [`MAX_PLACES`](crate::MAX_PLACES).
     pub fn new(alloc: Global, schema: Schema, limit: u64, places: u64) -> Result<Keeper<H>, Refused>
         requires limit { 1 ≤ limit × (limit ≤ row_limit) }
         requires places { 1 ≤ places × (places ≤ place_limit) }
@@ -56,14 +59,14 @@ impl<H: KeyHash<Cell>> Keeper<H> {
         ensures refused { IfErr result (λ e. e ≡ Refused.OutOfMemory) }
     {
         let draft = Root::empty(alloc);
-        let published = draft.share()?;
-        let schema = Arc::new(alloc, schema)?;
+        let last = Snapshot::first(alloc, Arc::new(alloc, schema)?);
+        let writer = Writer::new(alloc, places as usize, last.share_schema()?)?;
         Ok(Keeper {
+            alloc,
             draft,
             limit,
-            edition: 0,
-            published,
-            schema,
+            last,
+            writer,
         })
     }
 
@@ -125,15 +128,57 @@ impl<H: KeyHash<Cell>> Keeper<H> {
 
     /// Makes the whole draft the next edition, in one step. It stays the draft. Each publish that is
     /// accepted makes an edition, also where nothing changed.
-    pub fn publish(&mut self) -> Result<(), Refused>
+    ///
+    /// Each viewer sees it from then on, or once it has learnt what is told here. The keeper waits for a viewer that is
+    /// taking a snapshot; a viewer never waits for the keeper.
+    pub fn publish<R: Wait>(&mut self, rt: &R) -> Result<Told, Refused>
         requires { edition self.old + 1 < 2 ^ 64 }
         ensures published { OnOk result (Publishes self.old self.new) }
+        ensures told { IfOk result (KnowsAllOf self.new) }
         ensures refused { IfErr result (λ e. e ≡ Refused.OutOfMemory) }
         ensures unchanged { OnErr result (self.new ≡ self.old) }
     {
-        self.published = self.draft.share()?;
-        self.edition += 1;
-        Ok(())
+        let next = self.last.next(self.draft.share()?)?;
+        let copies = self.writer.copies(self.alloc, &next)?;
+        self.last = self.writer.publish(rt, next, copies);
+        Ok(self.tell())
+    }
+
+    /// Tells what the keeper knows. It takes no memory.
+    pub fn tell(&mut self) -> Told
+        ensures same { self.new ≡ self.old }
+        ensures told { KnowsAllOf self.old result }
+    {
+        Told {
+            badge: self.writer.tell(),
+        }
+    }
+
+    /// A viewer that knows all that was published. It takes one of the places, which does not come back when the viewer
+    /// is dropped.
+    ///
+    /// [`Refused::NotShown`] where as many were made as there are places, or one owner more was refused.
+    pub fn viewer(&mut self) -> Result<Viewer<H>, Refused>
+        ensures same { self.new ≡ self.old }
+        ensures viewer { IfOk result (IsNewViewer self.old) }
+        ensures refused { IfErr result (λ e. e ≡ Refused.NotShown) }
+    {
+        let (Ok(schema), Ok(last)) = (self.last.share_schema(), self.last.share()) else {
+            return Err(Refused::NotShown);
+        };
+        let Some(reader) = self.writer.reader(last) else {
+            return Err(Refused::NotShown);
+        };
+        Ok(Viewer {
+            alloc: self.alloc,
+            reader,
+            schema,
+        })
+    }
+
+    /// Ends the keeper. Snapshots stay as they are, and viewers go on seeing the last edition. It takes no memory.
+    pub fn close(self) {
+        drop(self);
     }
 
     /// The last published edition, with its number and schema. It keeps its rows whatever the keeper
@@ -144,23 +189,23 @@ impl<H: KeyHash<Cell>> Keeper<H> {
         ensures schema { IfOk result (λ s. s.schema ≡ schema self.now) }
         ensures refused { IfErr result (λ e. e ≡ Refused.OutOfMemory) }
     {
-        let root = self.published.share()?;
-        let schema = Arc::try_clone(&self.schema)?;
-        Ok(Snapshot::new(self.edition, root, schema))
+        Ok(self.last.share()?)
     }
 
     /// The schema of the table. It takes no memory.
     pub fn schema(&self) -> &Schema
         ensures { result.now ≡ schema self.now }
     {
-        &self.schema
+        self.last.schema()
     }
 
     /// What is known of each keeper: the rows of the draft and of the last edition are rows of the
-    /// table. It does nothing.
+    /// table; its history begins with edition 0 and ends with the last edition. It does nothing.
     pub fn rows_fit(&self)
         ensures draft { AreRowsOf (schema self.now) (draft self.now) }
         ensures published { AreRowsOf (schema self.now) (published self.now) }
+        ensures begun { IsHistory (history self.now) }
+        ensures last { IsLastOf (history self.now) (edition self.now) (published self.now) }
     {
         let _ = &self.draft;
     }
@@ -169,7 +214,7 @@ impl<H: KeyHash<Cell>> Keeper<H> {
     pub fn edition(&self) -> u64
         ensures { result ≡ edition self.now }
     {
-        self.edition
+        self.last.edition()
     }
 }
 

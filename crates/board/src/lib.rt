@@ -1,15 +1,23 @@
-//! The keeper of one table: a draft that updates change, editions that are published, and
-//! snapshots that stay as they are.
+//! The keeper of one table: a draft that updates change, editions that are published, snapshots that stay as they are,
+//! and viewers in other threads, who see what is published without waiting.
 #![tactic(auto)]
 
+mod boxes;
 mod keeper;
+mod law;
 mod laws;
 mod limits;
+mod reader;
 mod root;
 mod snapshot;
+mod told;
+mod viewer;
+mod writer;
 
 pub use keeper::Keeper;
-pub use laws::rows_have_the_shape_of_their_keys;
+pub use laws::{an_edition_has_a_list_of_rows, rows_have_the_shape_of_their_keys};
 pub use limits::{MAX_PLACES, MAX_ROWS};
 pub use root::Root;
 pub use snapshot::Snapshot;
+pub use told::Told;
+pub use viewer::Viewer;

@@ -1,12 +1,13 @@
 //! One published edition, for good.
-ghost use Rattle.std.specs.Prelude.{◌≡◌, ◌≤◌};
-ghost use Rattle.std.specs.FinMap.{len};
+ghost use Rattle.std.specs.Prelude.{◌≡◌, ◌+◌, ◌<◌, ◌≤◌, ◌^◌, IfOk};
+ghost use Rattle.std.specs.FinMap.{empty, len};
 ghost use Rattle.cells.specs.Tables.{AreRowsOf};
 ghost use Rattle.board.specs.Editions.{IsEdition};
 ghost use Rattle.board.specs.Limits.{row_limit};
 
 use crate::root::Root;
 use cells::{Cell, KeyHash, Schema};
+use std::alloc::{AllocError, Global};
 use std::marker::Model;
 use std::sync::Arc;
 
@@ -42,6 +43,39 @@ impl<H: KeyHash<Cell>> Snapshot<H> {
             root,
             schema,
         }
+    }
+
+    /// Edition 0, which has no rows.
+    pub(crate) fn first(alloc: Global, schema: Arc<Schema>) -> Snapshot<H>
+        ensures { result ≡ record { number = 0; rows = empty; schema = schema.value } }
+    {
+        Snapshot::new(0, Root::empty(alloc), schema)
+    }
+
+    /// The edition behind this one, with those rows.
+    pub(crate) fn next(&self, root: Root<H>) -> Result<Snapshot<H>, AllocError>
+        requires number { self.now.number + 1 < 2 ^ 64 }
+        requires rows { IsEdition self.now.schema root }
+        ensures { IfOk result (λ s. s ≡ record { number = self.now.number + 1; rows = root; schema = self.now.schema }) }
+    {
+        let schema = Arc::try_clone(&self.schema)?;
+        Ok(Snapshot::new(self.edition + 1, root, schema))
+    }
+
+    /// One owner more of the same edition.
+    pub(crate) fn share(&self) -> Result<Snapshot<H>, AllocError>
+        ensures { IfOk result (λ s. s ≡ self.now) }
+    {
+        let root = self.root.share()?;
+        let schema = Arc::try_clone(&self.schema)?;
+        Ok(Snapshot::new(self.edition, root, schema))
+    }
+
+    /// One owner more of the schema.
+    pub(crate) fn share_schema(&self) -> Result<Arc<Schema>, AllocError>
+        ensures { IfOk result (λ s. s.value ≡ self.now.schema) }
+    {
+        Arc::try_clone(&self.schema)
     }
 
     /// The edition's number. It takes no memory.

@@ -110,7 +110,7 @@ fn execute_kept<H: KeyHash<Cell> + Send + Sync, G: Gate, R: Threads + Wait>(
         }
         Ok(Statement::Put(row)) => text_block(put(alloc, keeper, row, line.number)),
         Ok(Statement::Delete(key)) => text_block(delete(alloc, keeper, key)),
-        Ok(Statement::Publish) => text_block(publish(alloc, setup.gate, keeper)),
+        Ok(Statement::Publish) => text_block(publish(setup, keeper)),
         Ok(Statement::Report(query)) => execute_report(alloc, keeper, query, line.number),
         Ok(Statement::Shape) => {
             // The law by which the block is that of the published rows; it does nothing.
@@ -166,10 +166,9 @@ fn delete<H: KeyHash<Cell>>(
     Ok(Vec::new(alloc))
 }
 
-/// Publishes the draft, and tells the gate.
-pub fn publish<H: KeyHash<Cell>, G: Gate>(
-    alloc: Global,
-    gate: &G,
+/// Publishes the draft, and tells the gate. What the keeper tells of it is dropped: here is no viewer to learn it.
+pub fn publish<H: KeyHash<Cell>, G: Gate, R: Wait>(
+    setup: &Setup<'_, R, G>,
     keeper: &mut Keeper<H>,
 ) -> Result<Vec<u8>, Ended>
     requires { editions.edition keeper.old + 1 < 2 ^ 64 }
@@ -177,9 +176,9 @@ pub fn publish<H: KeyHash<Cell>, G: Gate>(
     ensures nothing { IfOk result (λ block. block.items ≡ []) }
     ensures ended { IfErr result (λ e. e ≡ Ended.OutOfMemory) }
 {
-    if keeper.publish().is_err() {
+    if keeper.publish(setup.rt).is_err() {
         return Err(Ended::OutOfMemory);
     }
-    gate.published(keeper.edition());
-    Ok(Vec::new(alloc))
+    setup.gate.published(keeper.edition());
+    Ok(Vec::new(setup.alloc))
 }

@@ -6,6 +6,7 @@ use board::{Keeper, MAX_PLACES, MAX_ROWS, Root, Snapshot, rows_have_the_shape_of
 use cells::{Cell, Plain, Refused, Row, Schema};
 use std::alloc::Global;
 use std::process::Abort;
+use std::sync::Wait;
 use std::test::Fail;
 
 /// A call that changes a keeper: the key and the value of a row, a key, or nothing.
@@ -23,7 +24,7 @@ use Step::*;
 struct Held(u64, [i64; 4], u64);
 
 fn apply(
-    rt: &impl Abort,
+    rt: &(impl Abort + Wait),
     alloc: Global,
     keeper: &mut Keeper<Plain>,
     step: &Step,
@@ -37,7 +38,8 @@ fn apply(
         Delete(key) => keeper.delete(&Cell::Int(*key)),
         Publish => {
             assert!(rt; keeper.edition() < 100);
-            keeper.publish()
+            keeper.publish(rt)?;
+            Ok(())
         }
     }
 }
@@ -96,7 +98,7 @@ const CALLS: [(Step, Result<(), Refused>, Held); 14] = [
 
 /// Makes the call, again where memory was refused: then the last edition is what it was before.
 fn make(
-    rt: &impl Abort,
+    rt: &(impl Abort + Wait),
     alloc: Global,
     keeper: &mut Keeper<Plain>,
     (step, wanted, held): &(Step, Result<(), Refused>, Held),
@@ -113,7 +115,11 @@ fn make(
 }
 
 /// Makes all calls.
-fn make_all(rt: &impl Abort, alloc: Global, keeper: &mut Keeper<Plain>) -> Result<(), Refused> {
+fn make_all(
+    rt: &(impl Abort + Wait),
+    alloc: Global,
+    keeper: &mut Keeper<Plain>,
+) -> Result<(), Refused> {
     for call in &CALLS {
         make(rt, alloc, keeper, call)?;
     }
@@ -148,7 +154,10 @@ fn greatest_limits() -> (u64, u64)
 }
 
 /// The first snapshot of a keeper of the greatest limits, which has a draft of one row by now.
-fn first_of_the_greatest(rt: &impl Abort, alloc: Global) -> Result<Snapshot<Plain>, Refused> {
+fn first_of_the_greatest(
+    rt: &(impl Abort + Wait),
+    alloc: Global,
+) -> Result<Snapshot<Plain>, Refused> {
     let (limit, places) = greatest_limits();
     let mut keeper = keeper_of(alloc, limit, places)?;
     let first = keeper.snapshot()?;

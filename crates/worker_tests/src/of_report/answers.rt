@@ -25,12 +25,16 @@ fn put_all(alloc: Global, keeper: &mut Keeper<Plain>, keys: &[&[u8]]) -> Result<
 }
 
 /// The first edition with these keys. By the plain hash 1, 17 and 33 have their first digit in common.
-fn edition_of(rt: &impl Abort, alloc: Global, keys: &[&[u8]]) -> Result<Snapshot<Plain>, Refused> {
+fn edition_of(
+    rt: &(impl Abort + Wait),
+    alloc: Global,
+    keys: &[&[u8]],
+) -> Result<Snapshot<Plain>, Refused> {
     let schema = Schema::read(alloc, "SALES (ID INT KEY)")?;
     let mut keeper = Keeper::new(alloc, schema, 64, 1)?;
     put_all(alloc, &mut keeper, keys)?;
     assert!(*rt; keeper.edition() == 0);
-    keeper.publish()?;
+    keeper.publish(rt)?;
     keeper.snapshot()
 }
 

@@ -7,12 +7,17 @@ use Rattle.board.proofs.keeper.Keeper.absorb.Goals as goal
 pub invariant_of-self : goal.invariant_of-self
 invariant_of-self g c =
     let later = map_of cell_cmp c.args.rows in
-    record {
-      some = c.self.invariant.some;
-      most = c.self.invariant.most;
-      within = search rules;
-      drafted =
-          rows_over c.self.inside.schema.value later c.self.inside.draft c.in_ok-draft.draft (λ q. c.later_puts_lie_over.ensures.stands later c.self.inside.draft q)
-          c.in_ok-draft.ensures (search rules) c.self.invariant.drafted;
-      published = c.self.invariant.published;
-    }
+    let kept = c.self.invariant.0 in (
+      record {
+        some = kept.some;
+        most = kept.most;
+        within = search rules;
+        drafted =
+            rows_over c.self.inside.last.schema later c.self.inside.draft c.in_ok-draft.draft (λ q. c.later_puts_lie_over.ensures.stands later c.self.inside.draft q)
+            c.in_ok-draft.ensures (search rules) kept.drafted;
+        begun = kept.begun;
+        last = kept.last;
+        published = kept.published;
+      },
+      c.self.invariant.1,
+    )

@@ -4,10 +4,15 @@ use Rattle.board.proofs.keeper.Keeper.delete.Goals as goal
 
 -- whatever key is taken out
 pub invariant_of-self : goal.invariant_of-self
-invariant_of-self g c = record {
-  some = c.self.invariant.some;
-  most = c.self.invariant.most;
-  within = remove_within c.self.inside.draft c.in_ok-self-inside.field-0 _ c.self.inside.limit c.in_ok-self-inside.ensures c.self.invariant.within;
-  drafted = rows_remove c.self.inside.schema.value c.self.inside.draft c.in_ok-self-inside.field-0 _ c.in_ok-self-inside.ensures c.self.invariant.drafted;
-  published = c.self.invariant.published;
-}
+invariant_of-self g c = let kept = c.self.invariant.0 in (
+  record {
+    some = kept.some;
+    most = kept.most;
+    within = remove_within c.self.inside.draft c.in_ok-self-inside.field-0 _ c.self.inside.limit c.in_ok-self-inside.ensures kept.within;
+    drafted = rows_remove c.self.inside.last.schema c.self.inside.draft c.in_ok-self-inside.field-0 _ c.in_ok-self-inside.ensures kept.drafted;
+    begun = kept.begun;
+    last = kept.last;
+    published = kept.published;
+  },
+  c.self.invariant.1,
+)

@@ -1,13 +1,19 @@
-use Rattle.std.proofs.Common.{arith, rules}
+use Rattle.std.proofs.Common.{[], arith, rules}
 use Rattle.board.proofs.EditionsLemmas.{limit_stays}
+use Rattle.board.proofs.SeatLemmas.{first_is_last}
 use Rattle.cells.specs.RowsFit.{rows_stay}
 use Rattle.board.proofs.keeper.Keeper.new.Goals as goal
 
 pub invariant_of-result : goal.invariant_of-result
-invariant_of-result g c = record {
-  some = omega (arith, c.requires.limit.0);
-  most = omega (arith, c.requires.limit.1);
-  within = search (rules, limit_stays);
-  drafted = search (rules, rows_stay);
-  published = record { fit = search (rules, rows_stay); few = search (rules, limit_stays) };
-}
+invariant_of-result g c = (
+  record {
+    some = omega (arith, c.requires.limit.0);
+    most = omega (arith, c.requires.limit.1);
+    within = search (rules, limit_stays);
+    drafted = search (rules, rows_stay);
+    begun = record { later = []; is = c.in_ok-writer.ensures.seen };
+    last = first_is_last _ _ _ c.in_ok-writer.ensures.seen c.first-last.ensures;
+    published = record { fit = search (rules, rows_stay); few = search (rules, limit_stays) };
+  },
+  search rules,
+)

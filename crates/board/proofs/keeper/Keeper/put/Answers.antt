@@ -4,10 +4,15 @@ use Rattle.cells.specs.RowsFit.{rows_stay}
 use Rattle.board.proofs.keeper.Keeper.put.Goals as goal
 
 pub invariant_of-self : goal.invariant_of-self
-invariant_of-self g c = record {
-  some = c.self.invariant.some;
-  most = c.self.invariant.most;
-  within = search (rules, limit_stays);
-  drafted = search (rules, rows_stay);
-  published = c.self.invariant.published;
-}
+invariant_of-self g c = let kept = c.self.invariant.0 in (
+  record {
+    some = kept.some;
+    most = kept.most;
+    within = search (rules, limit_stays);
+    drafted = search (rules, rows_stay);
+    begun = kept.begun;
+    last = kept.last;
+    published = kept.published;
+  },
+  c.self.invariant.1,
+)

@@ -1,0 +1,112 @@
+-- Viewers may cross threads. Each type has a lemma of its own, since one search that goes down through all of them runs out of steps.
+use denote.Enum.Declared.{row}
+use denote.Hole.FixSend.{Crosses, both_send, both_sync}
+use denote.Param.Send.{IsSend, IsSync, sendable}
+use denote.RattleType.{RattleType}
+use Rattle.std.proofs.Crossing.{crosses}
+use Rattle.atomic_table.proofs.badge.Badge.TheSendSync as TheBadge
+use Rattle.atomic_table.proofs.send_lease.SendLease.TheSendSync as TheLease
+use Rattle.atomic_table.proofs.shared.Shared.TheSendSync as TheShared
+use Rattle.atomic_table.specs.contracts.badge.Badge as Badge
+use Rattle.atomic_table.specs.contracts.owned.Table as Table
+use Rattle.board.specs.contracts.law.About as About
+use Rattle.board.specs.contracts.law.Law as Law
+use Rattle.board.specs.contracts.law.LawTableRuleOptionSnapshotViewAbout.TheImpl as Rule
+use Rattle.board.specs.contracts.law.View as View
+use Rattle.board.specs.contracts.reader.Reader as Reader
+use Rattle.board.specs.contracts.root.Root as Root
+use Rattle.board.specs.contracts.snapshot.Snapshot as Snapshot
+use Rattle.board.specs.contracts.told.Told as Told
+use Rattle.board.specs.contracts.viewer.Viewer as Viewer
+use Rattle.cells.specs.contracts.cell.Cell as CellType
+use Rattle.cells.specs.contracts.row.Row as RowType
+use Rattle.cells.specs.contracts.schema.Schema as SchemaType
+use Rattle.cells.specs.declared.cell.Cell.{Cell}
+use Rattle.cells.specs.declared.hash.KeyHash as KeyHash
+use Rattle.std.specs.contracts.alloc.Global as Global
+use Rattle.std.specs.contracts.impls.GlobalAllocator.TheImpl as Heap
+use Rattle.std.specs.contracts.option.Option as OptionType
+use Rattle.trie.specs.contracts.node.Node as Node
+
+-- ---- nodes of a trie, which reach themselves
+module _ (K V : RattleType) (ks : IsSend K) (ky : IsSync K) (vs : IsSend V) (vy : IsSync V) where
+  node_crosses : Crosses (Node.the_ring K V) (Node.the_member K V)
+  node_crosses = record {
+    send = λ h s y. let sent = s (Node.the_member K V) in let shared = y (Node.the_member K V) in
+        let layer : IsSend (row (Node.the_layer K V h)) = search (sendable, crosses) depth 40 in layer;
+    sync = λ h s y. let sent = s (Node.the_member K V) in let shared = y (Node.the_member K V) in
+        let layer : IsSync (row (Node.the_layer K V h)) = search (sendable, crosses) depth 40 in layer;
+  }
+
+  hole_send : IsSend (Node.the_hole K V)
+  hole_send = both_send (Node.the_ring K V) (Node.by_members K V (Crosses (Node.the_ring K V)) node_crosses) (Node.the_member K V)
+
+  hole_sync : IsSync (Node.the_hole K V)
+  hole_sync = both_sync (Node.the_ring K V) (Node.by_members K V (Crosses (Node.the_ring K V)) node_crosses) (Node.the_member K V)
+
+  node_send : IsSend (Node.the_field K V).row
+  node_send = let sent = hole_send in let shared = hole_sync in search (sendable, crosses) depth 40
+
+  node_sync : IsSync (Node.the_field K V).row
+  node_sync = let sent = hole_send in let shared = hole_sync in search (sendable, crosses) depth 40
+
+-- ---- cells, tuples, rows, and the nodes of a table
+cell_send : IsSend CellType.the_row
+cell_send = search (sendable, crosses) depth 40
+
+cell_sync : IsSync CellType.the_row
+cell_sync = search (sendable, crosses) depth 40
+
+row_send : IsSend RowType.the_row
+row_send = let cell = cell_send in search (sendable, crosses) depth 40
+
+row_sync : IsSync RowType.the_row
+row_sync = let cell = cell_sync in search (sendable, crosses) depth 40
+
+rows_send : IsSend (Node.the_field CellType.the_row RowType.the_row).row
+rows_send = node_send _ _ cell_send cell_sync row_send row_sync
+
+rows_sync : IsSync (Node.the_field CellType.the_row RowType.the_row).row
+rows_sync = node_sync _ _ cell_send cell_sync row_send row_sync
+
+schema_send : IsSend SchemaType.the_row
+schema_send = search (sendable, crosses) depth 40
+
+schema_sync : IsSync SchemaType.the_row
+schema_sync = search (sendable, crosses) depth 40
+
+-- ---- what was told, which has no bytes
+pub badge_send : IsSend (Badge.the_row View.the_row)
+badge_send = TheBadge.the_send View.the_row
+
+pub told_send : IsSend Told.the_field.row
+told_send = let badge = badge_send in search (sendable, crosses) depth 40
+
+-- ---- snapshots, the board, and viewers
+module _ (H : RattleType) (cells : KeyHash.Ghosts H.Denot Cell) (s : IsSend H) (y : IsSync H) where
+  pub root_send : IsSend (Root.the_field H cells).row
+  root_send = let send = rows_send in let sync = rows_sync in search (sendable, crosses) depth 40
+
+  pub snapshot_send : IsSend (Snapshot.the_field H cells).row
+  snapshot_send = let root = root_send in let schema = schema_send in let shared = schema_sync in search (sendable, crosses) depth 40
+
+  abbrev slot : RattleType
+  slot = OptionType.the_row (Snapshot.the_row H cells)
+
+  slot_send : IsSend slot
+  slot_send = let snapshot = snapshot_send in search (sendable, crosses) depth 40
+
+  abbrev board : RattleType
+  board = Table.the_row slot View.the_row About.the_row Law.the_row Global.the_row (Rule.ghosts H cells Rule.no_dict) Heap.ghosts
+
+  board_send : IsSend board
+  board_send = let slot = slot_send in search (TheShared.the_send, TheLease.the_send, sendable, crosses) depth 40
+
+  board_sync : IsSync board
+  board_sync = let slot = slot_send in search (TheShared.the_sync, TheLease.the_sync, sendable, crosses) depth 40
+
+  reader_send : IsSend (Reader.the_field H cells).row
+  reader_send = let send = board_send in let sync = board_sync in let badge = badge_send in search (sendable, crosses) depth 40
+
+  pub viewer_send : IsSend (Viewer.the_field H cells).row
+  viewer_send = let reader = reader_send in let schema = schema_send in let shared = schema_sync in search (sendable, crosses) depth 40
