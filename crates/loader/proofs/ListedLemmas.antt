@@ -61,7 +61,7 @@ all_behind : (t : Table) (rs more : List Entry) → AllByRecursion (IsRowOf t) r
 all_behind t [] more fit last = last
 all_behind t (row ∷ rs) more fit last = (fit.0, all_behind t rs more fit.1 last)
 
--- one part was taken, which has no fault
+-- one part was taken, none of whose records is faulty
 pub listed_more : (t : Table) (said : Result (List Entry) FaultyRecord) (most : ℕ) (part : Part) (old new : List Part) (pairs more all : List (Cell × Entry)) →
     Listed t said most old pairs → old ≡ part ∷ new → IsRead t (rows_of_part t part.1) (length part.1) more → all ≡ pairs ++ more → Listed t said most new all
 listed_more t said most part old new pairs more all so_far took read joined = record {
@@ -78,7 +78,7 @@ listed_more t said most part old new pairs more all so_far took read joined = re
       omega (arith, left, first, ap length joined, both, so_far.few, read.few);
 }
 
--- one part was taken, which has a fault
+-- one part was taken, which has a faulty record
 pub listed_fault : (t : Table) (said : Result (List Entry) FaultyRecord) (most : ℕ) (part : Part) (old new : List Part) (pairs : List (Cell × Entry)) (entry : ℕ) →
     Listed t said most old pairs → old ≡ part ∷ new → rows_of_part t part.1 ≡ Err entry → said ≡ Err (record { part = part.0; entry = entry })
 listed_fault t said most part old new pairs entry so_far took bad =

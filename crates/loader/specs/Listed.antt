@@ -23,7 +23,7 @@ pub record IsListed (t : Table) (said : Result (List Entry) FaultyRecord) (most 
   pub read : IsRead t said most listed.rows.items
   pub front : listed.front ≤ length listed.rows.items
 
--- the rows of all parts, or the first fault that is said
+-- the rows of all parts, or the faulty record that is said
 abbrev pub Lists : Table → Result (List Entry) FaultyRecord → ℕ → Result ListedRows PartFault → Type 0
 Lists t said most (Ok listed) = IsListed t said most listed
 Lists t said most (Err (Bad part entry)) = said ≡ Err (record { part = part; entry = entry })

@@ -39,13 +39,13 @@ Content = Result (Vec (Cell × Entry) Global) ℕ
 -- the rows that are said, or the number of the faulty record that is said
 abbrev pub IsContent : Table → Result (List Entry) ℕ → ℕ → Content → Type 0
 IsContent t said most (Ok rows) = IsRead t said most rows.items
-IsContent t said most (Err entry) = said ≡ Err entry
+IsContent t said most (Err number) = said ≡ Err number
 
 -- a part's rows, of which there are no more than bytes, or the number of its first faulty record
 abbrev pub ReadsPart : Table → List ℕ → Content → Type 0
 ReadsPart t bytes content = IsContent t (rows_of_part t bytes) (length bytes) content
 
--- no fault is said, and the trie holds what the rows leave that are said
+-- no record is faulty, and the trie holds what the rows leave that are said
 pub record AreLoaded (said : Result (List Entry) FaultyRecord) (held : Held) : Type 0 where
   pub rs : List Entry
   pub is : said ≡ Ok rs
@@ -56,7 +56,7 @@ pub record KeepsFromLoading (late : Refused) (fault : PartFault) : Type 0 where
   pub memory : late ≡ refused.OutOfMemory → fault ≡ OutOfMemory
   pub worker : late ≡ refused.NoWorker → fault ≡ NoWorker
 
--- the rows that are said, or the fault that is said; nothing is said of memory and of threads
+-- the rows that are said, or the faulty record that is said; nothing is said of memory and of threads
 abbrev pub Loads : Result (List Entry) FaultyRecord → Result Held PartFault → Type 0
 Loads said (Ok held) = AreLoaded said held
 Loads said (Err (Bad part entry)) = said ≡ Err (record { part = part; entry = entry })

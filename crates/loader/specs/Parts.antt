@@ -1,4 +1,4 @@
--- What parts hold: the rows of their data records, or the first fault.
+-- What parts hold: the rows of their data records, or the first faulty record.
 use Rattle.std.specs.Prelude.{Bool, true, false, ◌&&◌, map, ℕ, ◌+◌, List, [], ◌∷◌, ◌++◌, bytes_eq, length, Option, Some, None, Result, Ok, Err, if◌then◌else◌}
 use Rattle.std.specs.Borrow.{Bor}
 use Rattle.std.specs.Char.{to_ascii_uppercase}
@@ -38,7 +38,7 @@ rows_behind_header t (header ∷ later) = if is_header t.columns header then row
 abbrev pub rows_of_part : Table → List ℕ → Result (List Entry) ℕ
 rows_of_part t bytes = rows_behind_header t (records_of bytes)
 
--- the part of this number has its first fault at this record
+-- the part of this number has its first faulty record at this number
 pub record FaultyRecord : Type 0 where
   pub part : ℕ
   pub entry : ℕ
@@ -54,13 +54,13 @@ part_of p = (p.0, p.1.now)
 abbrev pub part_len : Part → ℕ
 part_len part = length part.1
 
--- the rows of a part and then those of the parts behind it, or the first fault
+-- the rows of a part and then those of the parts behind it, or the first faulty record
 abbrev pub and_parts : ℕ → Result (List Entry) ℕ → Result (List Entry) FaultyRecord → Result (List Entry) FaultyRecord
-and_parts part (Err entry) behind = Err (record { part = part; entry = entry })
+and_parts part (Err number) behind = Err (record { part = part; entry = number })
 and_parts part (Ok rows) (Ok more) = Ok (rows ++ more)
-and_parts part (Ok rows) (Err fault) = Err fault
+and_parts part (Ok rows) (Err faulty) = Err faulty
 
--- the rows that the parts of a list put, in listed order, or the first listed part that has a fault
+-- the rows that the parts of a list put, in listed order, or the first listed part that has a faulty record
 abbrev pub rows_of_parts : Table → List Part → Result (List Entry) FaultyRecord
 rows_of_parts t [] = Ok []
 rows_of_parts t (part ∷ later) = and_parts part.0 (rows_of_part t part.1) (rows_of_parts t later)

@@ -9,7 +9,7 @@ use std::alloc::{AllocError, AllocFailed};
 /// Why the parts of a list were not loaded.
 #[derive(Clone, Copy, Debug, PartialEq, Eq, Drop)]
 pub enum PartFault {
-    /// The first listed part that has a fault, by its number, and the number of its first faulty record: 0 is the
+    /// The first listed part that has a faulty record, by its number, and the number of its first one: 0 is the
     /// header, and 1 the record behind it.
     Bad { part: u64, entry: u64 },
     /// There was no memory, here or for a worker.

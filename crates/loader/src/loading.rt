@@ -32,14 +32,14 @@ use trie::Trie;
 ///
 /// As many workers as the smaller of `workers`, which is 1 to [`MAX_SEATS`](crew::MAX_SEATS), and the number of places
 /// read the parts, each worker in a thread of its own; what is read depends neither on their number nor on which worker
-/// reads which part. The gate is told of each place before its part is read. Where no part has a fault and there are two
+/// reads which part. The gate is told of each place before its part is read. Where no record is faulty and there are two
 /// places or more, a trie is then made of each half of the list, each told to the gate before: one after another for one
 /// worker, and else one of them in a thread of its own at the same time. This waits for all threads that it starts, however
 /// it ends.
 ///
 /// [`PartFault::NoWorker`] where a thread could not be started; otherwise [`PartFault::OutOfMemory`] where there was no
-/// memory, here or for a worker; otherwise [`PartFault::Bad`] where a part has a fault, with the first listed part of those
-/// that have one. All parts are read before the faults are looked at.
+/// memory, here or for a worker; otherwise [`PartFault::Bad`] where a part has a faulty record, with the first listed
+/// part that has one. All parts are read before that is looked at.
 pub fn load<H: KeyHash<Cell> + Send + Sync, G: Gate, R: Threads + Wait>(
     rt: &R,
     alloc: Global,
@@ -113,7 +113,7 @@ impl<'a, G: Gate> Task for Reading<'a, G> {
 
     fn take(&self, alloc: Global, made: &mut Vec<Found>, place: u64) -> Result<(), AllocError> {
         self.gate.reading(place);
-        // A fault is a result as any other, so that the parts of all places are read.
+        // A faulty record is a result as any other, so that the parts of all places are read.
         let content = read_part(alloc, self.bytes(place), self.schema)?;
         Ok(made.push(Found { place, content })?)
     }
@@ -141,7 +141,7 @@ fn in_order(
     Ok(all)
 }
 
-/// The rows of all parts, one part behind another, or the first listed part that has a fault.
+/// The rows of all parts, one part behind another, or the first listed part that has a faulty record.
 fn rows_of(
     alloc: Global,
     parts: &[(u64, &[u8])],
@@ -161,10 +161,10 @@ fn rows_of(
         }
         match content {
             Ok(mut more) => rows.append(&mut more)?,
-            Err(entry) => {
+            Err(number) => {
                 return Err(PartFault::Bad {
                     part: part.0,
-                    entry,
+                    entry: number,
                 });
             }
         }

@@ -13,8 +13,8 @@ use std::alloc::{AllocError, Global};
 /// record, where the header is record 0.
 pub(crate) type Content = Result<Vec<(Cell, Row)>, u64>;
 
-/// Reads a part. Its fault is at record 0 where it has no record at all, or its first one is not the header; and else
-/// at the first record behind it that spells no row of the schema.
+/// Reads a part. Its first faulty record is record 0 where it has no record at all, or its first one is not the header;
+/// and else the first record behind it that spells no row of the schema.
 ///
 /// The only error is that a growth was refused.
 pub(crate) fn read_part(alloc: Global, bytes: &[u8], schema: &Schema) -> Result<Content, AllocError>
