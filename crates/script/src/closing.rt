@@ -18,7 +18,11 @@ impl Closing {
     /// Ends the keeper, where a table was declared.
     pub fn close<H: KeyHash<Cell>>(self, desk: Option<Keeper<H>>) {
         match self {
-            Closing::GivesBack => drop(desk),
+            Closing::GivesBack => {
+                if let Some(keeper) = desk {
+                    keeper.close();
+                }
+            }
             Closing::LeavesToSystem => mem::forget(desk),
         }
     }
