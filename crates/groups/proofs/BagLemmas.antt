@@ -23,7 +23,7 @@ use Rattle.groups.proofs.TuplesLemmas.{all_at, all_first, all_push, all_second}
 
 -- ---- what holds of each row holds in any order
 module _ {X : Type 0} (P : X → Type 0) where
-  all_from : (xs : List X) → All P xs → AllByRecursion P xs
+  pub all_from : (xs : List X) → All P xs → AllByRecursion P xs
   all_from [] all = tt
   all_from (x ∷ xs) all = (all 0 x (omega arith), all_from xs (λ k d h. all (suc k) d (omega (arith, h))))
 

@@ -1,32 +1,34 @@
 -- The rows of a report, from groups.
-use Rattle.std.specs.Prelude.{Result, Ok, Err, IfOk, ◌≡◌, ℕ, ◌+◌, ◌<◌, ◌≤◌, ◌⊎◌, Bool, true, false, ◌||◌, List, [], ◌∷◌, ◌++◌, length, map, pos, take, Some, None, refl}
+use Rattle.std.specs.Prelude.{◌≡◌, ℕ, zero, suc, ◌+◌, ◌<◌, ◌≤◌, ◌⊎◌, true, List, [], ◌∷◌, ◌++◌, is_some, length, map, pos, take, Some, refl}
 use Rattle.std.specs.Borrow.{Bor}
-use Rattle.std.specs.List.{AllByRecursion, flat_map}
+use Rattle.std.specs.List.{AllByRecursion, Contains, flat_map}
+use Rattle.std.specs.List.Sorted.{IsPermutation, IsSorted}
+use Rattle.std.specs.Map.{keys_of}
 use Rattle.std.proofs.Common.{get_or, ap, ap₂, sym, ◌∙◌, subst, arith, inl, inr}
-use Rattle.std.proofs.lemmas.List.{append_assoc, append-nil, get_or-map, length-map, take_all, take_more}
-use Rattle.std.proofs.lemmas.List.Concat.{flat_map-append}
+use Rattle.std.proofs.lemmas.List.{append_assoc, append-nil, get_or-map, length-map, map-append, take_all, take_more}
+use Rattle.std.proofs.lemmas.List.Sorted.{IsPermutation-map}
+use Rattle.std.proofs.lemmas.Map.Views.{lookup-from_Contains}
 use Rattle.aggs.specs.Accs.{acc_finishes}
 use Rattle.aggs.specs.declared.acc.Acc.{Acc}
 use Rattle.aggs.specs.declared.acc.Kind.TheVariants as kind
-use Rattle.cells.specs.TupleOrder.{tuple_cmp, tuple_eq, tuple_eq-equiv}
+use Rattle.cells.specs.TupleOrder.{tuple_cmp, tuple_eq-equiv}
 use Rattle.cells.specs.Values.{Entry}
 use Rattle.cells.specs.declared.cell.Cell.{Cell}
 use Rattle.cells.specs.declared.total.Total.{Total}
 use Rattle.cells.specs.declared.total.Total.TheVariants as total
-use Rattle.groups.specs.Accumulators.{accs_of, aggregations_of}
-use Rattle.groups.specs.Finishing.{lent_tuples, row_by, rows_by}
-use Rattle.groups.specs.Groups.{cell_at, column_of, item_value, members, rows_over, set_rows, tuples}
+use Rattle.groups.specs.Accumulators.{accs_of, aggregations_of, group}
+use Rattle.groups.specs.Finishing.{row_by, rows_by}
+use Rattle.groups.specs.Groups.{cell_at, column_of, item_value, members, rows_over, set_rows}
 use Rattle.groups.specs.Partials.{Stands, StandsAt, StandsEach}
-use Rattle.groups.proofs.SetTuplesLemmas.{among, among_tuples, group_is, has_group}
+use Rattle.groups.proofs.BagLemmas.{all_from, all_in_order}
+use Rattle.groups.proofs.OrderLemmas.{rising_differ, value_by_tuple}
+use Rattle.groups.proofs.SetTuplesLemmas.{all_tuples, group_is, group_is_some, has_group}
 use Rattle.query.specs.Plans.{PlanTree}
 use Rattle.query.specs.declared.item.Item.{Item}
 use Rattle.query.specs.declared.item.Item.TheVariants as item
 use Rattle.trie.specs.Digits.{digit_order}
-use Rattle.trie.specs.Entries.{value_at}
-
-pub two_ok : {A E : Type 0} (r : Result A E) (P Q R : A → Type 0) → ((v : A) → P v → Q v → R v) → IfOk r P → IfOk r Q → IfOk r R
-two_ok (Ok v) P Q R f p q = f v p q
-two_ok (Err e) P Q R f p q = tt
+use Rattle.trie.specs.Entries.{IsRising}
+use Rattle.trie.specs.Holding.{lent}
 
 -- ---- a row, item by item
 more_values : {x y : Total} {xs ys : List Total} → x ≡ y → xs ≡ ys → x ∷ xs ≡ y ∷ ys
@@ -46,57 +48,60 @@ row_is H set tuple rows (item.Sum c ∷ items) = more_values (acc_finishes H kin
 row_is H set tuple rows (item.Min c ∷ items) = more_values (acc_finishes H kind.Min (column_of c rows)) (row_is H set tuple rows items)
 row_is H set tuple rows (item.Max c ∷ items) = more_values (acc_finishes H kind.Max (column_of c rows)) (row_is H set tuple rows items)
 
+same_at : {X : Type 0} (xs : List X) (k : ℕ) (d e : X) → k < length xs → get_or xs k d ≡ get_or xs k e
+same_at [] k d e h = absurd (omega (arith, h))
+same_at (x ∷ xs) zero d e h = refl
+same_at (x ∷ xs) (suc k) d e h = same_at xs k d e (omega (arith, h))
+
+same_some : {X : Type 0} (a b : X) → Some a ≡ Some b → a ≡ b
+same_some a b e = cc
+
 module _ {H : Type 0} where
-  -- ---- the rows of tuples
-  module _ (hash : List Cell → ℕ) (groups : List (List Cell × List (Acc H))) (set : List ℕ) (items : List (Item ℕ)) where
-    pub rows_some : (t : List Cell) (accs : List (Acc H)) → value_at (digit_order hash tuple_cmp) groups t ≡ Some accs →
-        rows_by hash groups set items (t ∷ []) ≡ row_by set t items accs ∷ []
-    rows_some t accs e = rw e refl
+  -- ---- the rows of groups
+  rows_more : (set : List ℕ) (items : List (Item ℕ)) (xs : List (Bor (List Cell) × Bor (List (Acc H)))) (i : ℕ) (x : Bor (List Cell) × Bor (List (Acc H))) →
+      i < length xs → x ≡ get_or xs i x →
+      rows_by set items (take (i + 1) (lent xs)) ≡ rows_by set items (take i (lent xs)) ++ row_by set x.0.now items x.1.now ∷ []
+  rows_more set items xs i x h is =
+      let one : List Cell × List (Acc H) = (x.0.now, x.1.now) in
+      let e : get_or (lent xs) i one ≡ one = get_or-map (λ p. (p.0.now, p.1.now)) xs i x one h ∙ ap (λ p. (p.0.now, p.1.now)) (sym is) in
+      let n : i < length (lent xs) = omega (arith, h, length-map {B = List Cell × List (Acc H)} xs (λ p. (p.0.now, p.1.now))) in
+      ap (rows_by set items) (take_more (lent xs) i one n ∙ ap (λ g. take i (lent xs) ++ g ∷ []) e)
+      ∙ map-append (λ g. row_by set g.0 items g.1) (take i (lent xs)) (one ∷ [])
 
-    pub rows_none : (t : List Cell) → value_at (digit_order hash tuple_cmp) groups t ≡ None → rows_by hash groups set items (t ∷ []) ≡ []
-    rows_none t e = rw e refl
+  pub rows_next : (set : List ℕ) (items : List (Item ℕ)) (xs : List (Bor (List Cell) × Bor (List (Acc H)))) (i : ℕ) (x : Bor (List Cell) × Bor (List (Acc H))) →
+      i < length xs → x ≡ get_or xs i x → (old made new : List (List Total)) (row : List Total) → made ≡ old ++ rows_by set items (take i (lent xs)) →
+      row ≡ row_by set x.0.now items x.1.now → new ≡ made ++ row ∷ [] → new ≡ old ++ rows_by set items (take (i + 1) (lent xs))
+  rows_next set items xs i x h is old made new row now of e = e ∙ ap (λ l. l ++ row ∷ []) now ∙ append_assoc old (rows_by set items (take i (lent xs))) (row ∷ [])
+      ∙ ap (λ l. old ++ l) (ap (λ r. rows_by set items (take i (lent xs)) ++ r ∷ []) of ∙ sym (rows_more set items xs i x h is))
 
-    pub rows_more : (xs : List (Bor (List Cell))) (i : ℕ) (x : Bor (List Cell)) → i < length xs → x ≡ get_or xs i x →
-        rows_by hash groups set items (take (i + 1) (lent_tuples xs))
-        ≡ rows_by hash groups set items (take i (lent_tuples xs)) ++ rows_by hash groups set items (x.now ∷ [])
-    rows_more xs i x h is =
-        let e : get_or (lent_tuples xs) i x.now ≡ x.now = get_or-map (λ t. t.now) xs i x x.now h ∙ ap (λ t. t.now) (sym is) in
-        let n : i < length (lent_tuples xs) = omega (arith, length-map xs (λ t. t.now)) in
-        ap (rows_by hash groups set items) (take_more (lent_tuples xs) i x.now n ∙ ap (λ t. take i (lent_tuples xs) ++ t ∷ []) e)
-        ∙ flat_map-append _ (take i (lent_tuples xs)) (x.now ∷ [])
+  module _ (hash : List Cell → ℕ) (set : List ℕ) (items : List (Item ℕ)) (rows : List Entry) where
+    -- a group has the accumulators of its tuple's rows
+    abbrev HasAccs : List Cell × List (Acc H) → Type 0
+    HasAccs g = g.1 ≡ accs_of (aggregations_of items) (members set g.0 rows)
 
-    pub rows_all : (xs : List (Bor (List Cell))) (i : ℕ) → length xs ≤ i →
-        rows_by hash groups set items (take i (lent_tuples xs)) ≡ rows_by hash groups set items (lent_tuples xs)
-    rows_all xs i h = ap (rows_by hash groups set items) (take_all i (lent_tuples xs) (omega (arith, length-map xs (λ t. t.now))))
+    each_row : (gs : List (List Cell × List (Acc H))) → AllByRecursion HasAccs gs →
+        rows_by set items gs ≡ map (λ t. map (item_value set t (members set t rows)) items) (keys_of gs)
+    each_row [] all = refl
+    each_row (g ∷ gs) all = ap₂ (λ (x : List Total) (l : List (List Total)). x ∷ l)
+        (ap (row_by set g.0 items) all.0 ∙ row_is H set g.0 (members set g.0 rows) items) (each_row gs all.1)
 
-    module _ (rows : List Entry) (stands : StandsAt hash (aggregations_of items) set rows groups) where
-      each_row : (ts : List (List Cell)) → AllByRecursion (λ t. has_group set rows t ≡ true) ts →
-          rows_by hash groups set items ts ≡ map (λ t. map (item_value set t (members set t rows)) items) ts
-      each_row [] all = refl
-      each_row (t ∷ ts) all =
-          let is : value_at (digit_order hash tuple_cmp) groups t ≡ Some (accs_of (aggregations_of items) (members set t rows)) =
-          stands.gives t ∙ group_is (aggregations_of items) set rows t all.0 in
-          rw is (ap₂ (λ (x : List Total) (l : List (List Total)). x ∷ l) (row_is H set t (members set t rows) items) (each_row ts all.1))
+    module _ (es : List (List Cell × List (Acc H))) (rising : IsRising (digit_order hash tuple_cmp) (keys_of es))
+        (stands : StandsAt hash (aggregations_of items) set rows es) where
+      has_accs : (g : List Cell × List (Acc H)) → Contains es g → HasAccs g
+      has_accs g there =
+          let got : group (aggregations_of items) set rows g.0 ≡ Some g.1 = sym (stands.gives g.0) ∙ value_by_tuple hash es g.0
+          ∙ lookup-from_Contains tuple_eq-equiv g.0 g.1 es (rising_differ hash (keys_of es) rising) there in
+          let has : has_group set rows g.0 ≡ true = sym (group_is_some H (aggregations_of items) set rows g.0) ∙ ap is_some got in
+          same_some _ _ (sym got ∙ group_is (aggregations_of items) set rows g.0 has)
 
-      all_have : (ts us : List (List Cell)) → ((t : List Cell) → among t us ≡ true → among t ts ≡ true) → AllByRecursion (λ t. among t ts ≡ true) us
-      all_have ts [] keeps = tt
-      all_have ts (u ∷ us) keeps = (
-        keeps u (rw (tuple_eq-equiv.refl u) refl),
-        all_have ts us (λ t e. keeps t (rw e (or_true (tuple_eq t u)))),
-      )
-        where
-          or_true : (b : Bool) → (b || true) ≡ true
-          or_true true = refl
-          or_true false = refl
+      -- in whatever order the groups come with their tuples rising
+      pub rows_are : (gs : List (List Cell × List (Acc H))) → IsPermutation es gs → IsSorted tuple_cmp (keys_of gs) → rows_by set items gs ≡ set_rows items set rows
+      rows_are gs all up = each_row gs
+          (all_in_order HasAccs es gs all (all_from HasAccs es (λ k d h. has_accs (get_or es k d) (k, h, same_at es k (get_or es k d) d h))))
+          ∙ ap (map (λ t. map (item_value set t (members set t rows)) items))
+          (all_tuples hash (aggregations_of items) set rows es rising stands (keys_of gs) (IsPermutation-map (λ g. g.0) es gs all) up)
 
-      have_groups : (ts : List (List Cell)) → AllByRecursion (λ t. among t (tuples set rows) ≡ true) ts → AllByRecursion (λ t. has_group set rows t ≡ true) ts
-      have_groups [] all = tt
-      have_groups (t ∷ ts) all = (sym (among_tuples set rows t) ∙ all.0, have_groups ts all.1)
-
-      pub rows_are : (ts : List (List Cell)) → ts ≡ tuples set rows → rows_by hash groups set items ts ≡ set_rows items set rows
-      rows_are ts e = ap (rows_by hash groups set items) e
-          ∙ each_row (tuples set rows) (have_groups (tuples set rows) (all_have (tuples set rows) (tuples set rows) (λ t h. h)))
-
+module _ {H : Type 0} where
   -- ---- set by set
   -- the rows so far, with those of the sets that are left, are all rows
   pub record Finishing (hash : List Cell → ℕ) (plan : PlanTree) (tries : List (List (List Cell × List (Acc H))))

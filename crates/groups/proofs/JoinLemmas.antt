@@ -15,7 +15,7 @@ use Rattle.cells.specs.declared.cell.Cell.{Cell}
 use Rattle.cells.specs.declared.cell.Cell.TheVariants.{Null}
 use Rattle.groups.specs.Accumulators.{AllFit, accs_of, accs_together, aggregations_of, both, group, group_or, is_start}
 use Rattle.groups.specs.Groups.{cell_at, column_of, members, tuple_of}
-use Rattle.groups.specs.Joining.{Joins, JoinsEach, MeetsAt}
+use Rattle.groups.specs.Joining.{AreTogether, Joins, JoinsEach, MeetsAt}
 use Rattle.groups.specs.Laws.{all_kept, group_any_order, group_joins, kept_short}
 use Rattle.groups.specs.Partials.{MayMeet, Stands, StandsAt, StandsEach}
 use Rattle.groups.specs.declared.aggregation.Aggregation.{Aggregation}
@@ -71,18 +71,19 @@ module _ {H : Type 0} where
       can = λ q u v e f.
           let xs = members m.set q m.xs in
           let ys = members m.set q m.ys in
+          let both = m.rows in
           let p = some_is m.aggregations (is_start m.set q) xs u (sym (m.of_first.gives q) ∙ e) in
           let r = some_is m.aggregations (is_start m.set q) ys v (sym (m.of_second.gives q) ∙ f) in
           subst (λ w. AllFit w v) (sym p) (subst (AllFit (accs_of m.aggregations xs)) (sym r)
-          (all_fit H m.table m.aggregations xs ys (all_kept (IsRowOf m.table) (λ r. tuple_eq (tuple_of m.set r) q) m.xs m.xs_fit)
-          (all_kept (IsRowOf m.table) (λ r. tuple_eq (tuple_of m.set r) q) m.ys m.ys_fit)
-          (omega (arith, m.few, kept_short (λ r. tuple_eq (tuple_of m.set r) q) m.xs, kept_short (λ r. tuple_eq (tuple_of m.set r) q) m.ys))));
+          (all_fit H both.table m.aggregations xs ys (all_kept (IsRowOf both.table) (λ r. tuple_eq (tuple_of m.set r) q) m.xs both.first)
+          (all_kept (IsRowOf both.table) (λ r. tuple_eq (tuple_of m.set r) q) m.ys both.second)
+          (omega (arith, both.few, kept_short (λ r. tuple_eq (tuple_of m.set r) q) m.xs, kept_short (λ r. tuple_eq (tuple_of m.set r) q) m.ys))));
     }
 
     pub meets_room : (first second : List (List Cell × List (Acc H))) → IsRising (digit_order hash tuple_cmp) (keys_of first) →
         IsRising (digit_order hash tuple_cmp) (keys_of second) → MeetsAt hash first second → length first + length second ≤ cell_limit + 2
     meets_room first second r s m =
-        omega (arith, m.few, stands_short hash m.aggregations m.set m.xs first r m.of_first, stands_short hash m.aggregations m.set m.ys second s m.of_second)
+        omega (arith, (m.rows).few, stands_short hash m.aggregations m.set m.xs first r m.of_first, stands_short hash m.aggregations m.set m.ys second s m.of_second)
 
     stands_joined : (aggregations : List Aggregation) (set : List ℕ) (xs ys : List Entry) (a b c : List (List Cell × List (Acc H))) →
         StandsAt hash aggregations set xs a → StandsAt hash aggregations set ys b → Joins hash a b c → StandsAt hash aggregations set (xs ++ ys) c
@@ -127,16 +128,13 @@ module _ {H : Type 0} where
     stands_any_order plan xs ys tries p s = record { each = each_any_order (aggregations_of plan.items) xs ys p plan.sets tries s.each }
 
     -- ---- the loop over the sets of both
-    -- both stand for rows of one table, few enough together
+    -- both stand for rows that may be put together
     pub record Meets (firsts seconds : List (List (List Cell × List (Acc H)))) : Type 0 where
-      pub table : Table
       pub aggregations : List Aggregation
       pub sets : List (List ℕ)
       pub xs : List Entry
       pub ys : List Entry
-      pub xs_fit : AllByRecursion (IsRowOf table) xs
-      pub ys_fit : AllByRecursion (IsRowOf table) ys
-      pub few : length xs + length ys ≤ cell_limit
+      pub rows : AreTogether xs ys
       pub of_firsts : StandsEach hash aggregations sets xs firsts
       pub of_seconds : StandsEach hash aggregations sets ys seconds
 
@@ -151,65 +149,42 @@ module _ {H : Type 0} where
         subst (λ m. JoiningTries firsts seconds m firsts seconds) (sym e) (record {
           then = λ rest j. j;
           meets = record {
-            table = may.rows.table;
             aggregations = aggregations_of may.plan.items;
             sets = may.plan.sets;
             xs = may.xs;
             ys = may.ys;
-            xs_fit = may.rows.first;
-            ys_fit = may.rows.second;
-            few = may.rows.few;
+            rows = record { table = may.rows.table; first = may.rows.first; second = may.rows.second; few = may.rows.few };
             of_firsts = may.firsts.each;
             of_seconds = may.seconds.each;
           };
         })
 
     module _ (x y : List (List Cell × List (Acc H))) (more later : List (List (List Cell × List (Acc H)))) (m : Meets (x ∷ more) (y ∷ later)) where
-      meets_head : (sets : List (List ℕ)) → StandsEach hash m.aggregations sets m.xs (x ∷ more) → StandsEach hash m.aggregations sets m.ys (y ∷ later) →
-          MeetsAt hash x y
-      meets_head [] s t = absurd s
-      meets_head (c ∷ sets) s t = record {
-        table = m.table;
-        aggregations = m.aggregations;
-        set = c;
-        xs = m.xs;
-        ys = m.ys;
-        xs_fit = m.xs_fit;
-        ys_fit = m.ys_fit;
-        few = m.few;
-        of_first = s.0;
-        of_second = t.0;
-      }
-
-      meets_tail : (sets : List (List ℕ)) → StandsEach hash m.aggregations sets m.xs (x ∷ more) → StandsEach hash m.aggregations sets m.ys (y ∷ later) →
-          Meets more later
-      meets_tail [] s t = absurd s
-      meets_tail (c ∷ sets) s t = record {
-        table = m.table;
-        aggregations = m.aggregations;
-        sets = sets;
-        xs = m.xs;
-        ys = m.ys;
-        xs_fit = m.xs_fit;
-        ys_fit = m.ys_fit;
-        few = m.few;
-        of_firsts = s.1;
-        of_seconds = t.1;
-      }
+      -- the first set of both, and those behind it
+      meets_each : (sets : List (List ℕ)) → StandsEach hash m.aggregations sets m.xs (x ∷ more) → StandsEach hash m.aggregations sets m.ys (y ∷ later) →
+          MeetsAt hash x y × Meets more later
+      meets_each [] s t = absurd s
+      meets_each (c ∷ sets) s t = (
+        record { aggregations = m.aggregations; set = c; xs = m.xs; ys = m.ys; rows = m.rows; of_first = s.0; of_second = t.0 },
+        record { aggregations = m.aggregations; sets = sets; xs = m.xs; ys = m.ys; rows = m.rows; of_firsts = s.1; of_seconds = t.1 },
+      )
 
     module _ {firsts seconds made xs ys : List (List (List Cell × List (Acc H)))} (now : JoiningTries firsts seconds made xs ys) where
       module _ {x y : List (List Cell × List (Acc H))} {more later : List (List (List Cell × List (Acc H)))} (p : xs ≡ x ∷ more) (q : ys ≡ y ∷ later) where
         here : JoiningTries firsts seconds made (x ∷ more) (y ∷ later)
         here = subst (λ l. JoiningTries firsts seconds made l (y ∷ later)) p (subst (λ l. JoiningTries firsts seconds made xs l) q now)
 
+        meeting : MeetsAt hash x y × Meets more later
+        meeting = let m = here.meets in meets_each x y more later m m.sets m.of_firsts m.of_seconds
+
         pub joining_may : MeetsAt hash x y
-        joining_may = let m = here.meets in meets_head x y more later m m.sets m.of_firsts m.of_seconds
+        joining_may = meeting.0
 
         pub joining_more : (v : List (List Cell × List (Acc H))) (new : List (List (List Cell × List (Acc H)))) → Joins hash x y v → new ≡ made ++ v ∷ [] →
             JoiningTries firsts seconds new more later
-        joining_more v new j e = let m = here.meets in subst (λ n. JoiningTries firsts seconds n more later) (sym e) (record {
+        joining_more v new j e = subst (λ n. JoiningTries firsts seconds n more later) (sym e) (record {
           then = λ rest k. subst (JoinsEach hash firsts seconds) (sym (append_assoc made (v ∷ []) rest)) (here.then (v ∷ rest) (j, k));
-          meets = meets_tail x y more later m m.sets m.of_firsts m.of_seconds;
+          meets = meeting.1;
         })
 
       end_joins : (us vs : List (List (List Cell × List (Acc H)))) → (us ≡ []) ⊎ (vs ≡ []) → JoinsEach hash us vs []

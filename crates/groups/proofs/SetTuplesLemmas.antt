@@ -3,7 +3,7 @@ use Rattle.std.specs.Prelude.{◌≡◌, ℕ, suc, ◌+◌, ◌<◌, ◌≤◌, 
 use Rattle.std.specs.Borrow.{Bor}
 use Rattle.std.specs.FinMap.Entries as fin
 use Rattle.std.specs.List.{AllByRecursion, IsDistinct, list_any}
-use Rattle.std.specs.List.Sorted.{IsPermutation, IsSorted}
+use Rattle.std.specs.List.Sorted.{IsPermutation, IsSorted, IsSortedByKey}
 use Rattle.std.specs.Map.{keys_of, lookup}
 use Rattle.std.specs.Ordering.{is_eq, is_lt, match_ordering, ordering_reverse}
 use Rattle.std.specs.declared.cmp.Ordering.{Ordering}
@@ -19,7 +19,6 @@ use Rattle.cells.specs.TupleOrder.{tuple_cmp, tuple_cmp-total, tuple_eq, tuple_e
 use Rattle.cells.specs.Values.{Entry}
 use Rattle.cells.specs.declared.cell.Cell.{Cell}
 use Rattle.groups.specs.Accumulators.{accs_of, group, is_start, no_rows}
-use Rattle.groups.specs.Finishing.{lent_tuples}
 use Rattle.groups.specs.Groups.{different, lay, members, tuple_of, tuples}
 use Rattle.groups.specs.Partials.{StandsAt}
 use Rattle.groups.specs.declared.aggregation.Aggregation.{Aggregation}
@@ -232,15 +231,20 @@ stands_short hash aggregations set rows es rising stands =
     omega (arith, fewer, tuples_short set rows, length-map es (λ e. e.0))
 
 -- ---- tuples that are lent
-pub keys_lent : {H : Type 0} (xs : List (Bor (List Cell) × Bor (List (Acc H)))) → keys_of (lent xs) ≡ map (λ e. e.0.now) xs
+keys_lent : {H : Type 0} (xs : List (Bor (List Cell) × Bor (List (Acc H)))) → keys_of (lent xs) ≡ map (λ e. e.0.now) xs
 keys_lent [] = refl
 keys_lent (x ∷ xs) = ap (λ l. x.0.now ∷ l) (keys_lent xs)
 
-pub sorted_lent : (xs : List (Bor (List Cell))) → IsSorted (λ x y. tuple_cmp x.now y.now) xs → IsSorted tuple_cmp (lent_tuples xs)
-sorted_lent [] up = λ k d l h. absurd (omega arith)
-sorted_lent (x ∷ xs) up = λ k d l h.
-    let n : k + 1 < length (x ∷ xs) = omega (arith, length-map (x ∷ xs) (λ t. t.now)) in
-    let a = get_or-map (λ t. t.now) (x ∷ xs) (k + 1) x d n in
+sorted_lent_keys : {H : Type 0} (xs : List (Bor (List Cell) × Bor (List (Acc H)))) →
+    IsSortedByKey (λ x. x.0) (λ (a b : Bor (List Cell)). tuple_cmp a.now b.now) xs → IsSorted tuple_cmp (map (λ x. x.0.now) xs)
+sorted_lent_keys [] up = λ k d l h. absurd (omega arith)
+sorted_lent_keys (x ∷ xs) up = λ k d l h.
+    let n : k + 1 < length (x ∷ xs) = omega (arith, length-map (x ∷ xs) (λ t. t.0.now)) in
+    let a = get_or-map (λ t. t.0.now) (x ∷ xs) (k + 1) x d n in
     let m : k < length (x ∷ xs) = omega arith in
-    let b = get_or-map (λ t. t.now) (x ∷ xs) k x d m in
+    let b = get_or-map (λ t. t.0.now) (x ∷ xs) k x d m in
     rw (a, b) (up k x l n)
+
+pub sorted_lent : {H : Type 0} (xs : List (Bor (List Cell) × Bor (List (Acc H)))) →
+    IsSortedByKey (λ x. x.0) (λ (a b : Bor (List Cell)). tuple_cmp a.now b.now) xs → IsSorted tuple_cmp (keys_of (lent xs))
+sorted_lent xs up = subst (IsSorted tuple_cmp) (sym (keys_lent xs)) (sorted_lent_keys xs up)

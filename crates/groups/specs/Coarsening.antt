@@ -21,14 +21,6 @@ module _ {H : Type 0} where
   abbrev pub coarser : List ℕ → List (Group H) → List (Group H)
   coarser places groups = map (λ g. (picked places g.0, g.1)) groups
 
-  -- accumulators have gone into the group at a place
-  pub record JoinsAt (place : ℕ) (accs : List (Acc H)) (old new : List (Group H)) : Type 0 where
-    pub tuple : List Cell
-    pub were : List (Acc H)
-    pub within : place < length old
-    pub at : (d : Group H) → slice_index_or old place d ≡ (tuple, were)
-    pub is : new ≡ set old place (tuple, accs_together were accs)
-
   -- accumulators have gone into a group of the tuple
   pub record JoinsGroup (tuple : List Cell) (accs : List (Acc H)) (old new : List (Group H)) : Type 0 where
     pub place : ℕ

@@ -1,24 +1,14 @@
--- How the rows of a report come from groups: tuple by tuple, and item by item with the next accumulator for each aggregate.
+-- How the rows of a report come from groups: group by group, and item by item with the next accumulator for each aggregate.
 use Rattle.std.specs.Prelude.{ℕ, List, [], ◌∷◌, map}
-use Rattle.std.specs.Borrow.{Bor}
-use Rattle.std.specs.List.{flat_map}
-use Rattle.std.specs.Option.{option_map, option_to_list}
 use Rattle.aggs.specs.Accs.{acc_total}
 use Rattle.aggs.specs.Values.{cell_total}
 use Rattle.aggs.specs.declared.acc.Acc.{Acc}
-use Rattle.cells.specs.TupleOrder.{tuple_cmp}
 use Rattle.cells.specs.declared.cell.Cell.{Cell}
 use Rattle.cells.specs.declared.total.Total.{Total}
 use Rattle.cells.specs.declared.total.Total.TheVariants as total
 use Rattle.groups.specs.Groups.{cell_of_place, grouping, place_in}
 use Rattle.query.specs.declared.item.Item.{Item}
 use Rattle.query.specs.declared.item.Item.TheVariants as item
-use Rattle.trie.specs.Digits.{digit_order}
-use Rattle.trie.specs.Entries.{value_at}
-
--- the tuples that references lend
-abbrev pub lent_tuples : List (Bor (List Cell)) → List (List Cell)
-lent_tuples tuples = map (λ t. t.now) tuples
 
 module _ {H : Type 0} where
   -- the value of the first accumulator, and those behind it
@@ -57,7 +47,6 @@ module _ {H : Type 0} where
   row_by set tuple [] accs = []
   row_by set tuple (i ∷ items) accs = value_by set tuple i accs ∷ row_by set tuple items (left_by i accs)
 
-  -- the rows of the tuples that have a group
-  abbrev pub rows_by : (List Cell → ℕ) → List (List Cell × List (Acc H)) → List ℕ → List (Item ℕ) → List (List Cell) → List (List Total)
-  rows_by hash groups set items tuples =
-      flat_map (λ t. option_to_list (option_map (row_by set t items) (value_at (digit_order hash tuple_cmp) groups t))) tuples
+  -- the rows of groups, in their order
+  abbrev pub rows_by : List ℕ → List (Item ℕ) → List (List Cell × List (Acc H)) → List (List Total)
+  rows_by set items groups = map (λ g. row_by set g.0 items g.1) groups

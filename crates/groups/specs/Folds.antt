@@ -1,5 +1,5 @@
 -- Rows folded piece by piece into the groups of the sources of a plan.
-use Rattle.std.specs.Prelude.{◌≡◌, ℕ, List, ◌++◌}
+use Rattle.std.specs.Prelude.{◌≡◌, ℕ, List, ◌++◌, length, sum_by}
 use Rattle.std.specs.List.{AllByRecursion, Contains}
 use Rattle.cells.specs.Values.{Entry}
 use Rattle.groups.specs.Accumulators.{aggregations_of}
@@ -52,6 +52,10 @@ module _ {H : Type 0} where
     pub finer : HaveFiner folding.sources.items plan.sets
     pub among : AllByRecursion (Contains plan.sets) (sets_of folding.sources.items)
     pub covers : IsPool (aggregations_of plan.items) rows folding.sources.items
+
+  -- the groups of all sources together
+  abbrev pub group_count : Folding H → ℕ
+  group_count folding = sum_by (λ s. length s.bag) folding.sources.items
 
   -- what is kept of some rows went in, and they may be folded together with these
   pub record MayTakeMore (folding : Folding H) (rows : List Entry) : Type 0 where

@@ -13,6 +13,13 @@ use Rattle.groups.specs.declared.aggregation.Aggregation.{Aggregation}
 use Rattle.trie.specs.Digits.{digit_order}
 use Rattle.trie.specs.Merging.{IsMerged}
 
+-- two lists of rows of one table, few enough together
+pub record AreTogether (xs ys : List Entry) : Type 0 where
+  pub table : Table
+  pub first : AllByRecursion (IsRowOf table) xs
+  pub second : AllByRecursion (IsRowOf table) ys
+  pub few : length xs + length ys ≤ cell_limit
+
 module _ {H : Type 0} (hash : List Cell → ℕ) where
   -- each tuple has its accumulators of both, put together
   abbrev pub Joins : List (List Cell × List (Acc H)) → List (List Cell × List (Acc H)) → List (List Cell × List (Acc H)) → Type 0
@@ -25,15 +32,12 @@ module _ {H : Type 0} (hash : List Cell → ℕ) where
   JoinsEach (x ∷ firsts) (y ∷ seconds) [] = ⊥
   JoinsEach (x ∷ firsts) (y ∷ seconds) (n ∷ new) = Joins x y n × JoinsEach firsts seconds new
 
-  -- the groups of two lists of rows of one table, in one grouping set; the rows are few enough together
+  -- the groups of two lists of rows that may be put together, in one grouping set
   pub record MeetsAt (first second : List (List Cell × List (Acc H))) : Type 0 where
-    pub table : Table
     pub aggregations : List Aggregation
     pub set : List ℕ
     pub xs : List Entry
     pub ys : List Entry
-    pub xs_fit : AllByRecursion (IsRowOf table) xs
-    pub ys_fit : AllByRecursion (IsRowOf table) ys
-    pub few : length xs + length ys ≤ cell_limit
+    pub rows : AreTogether xs ys
     pub of_first : StandsAt hash aggregations set xs first
     pub of_second : StandsAt hash aggregations set ys second

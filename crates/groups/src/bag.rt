@@ -1,8 +1,9 @@
 //! Bags: groups of rows, found by hash.
-ghost use Rattle.std.specs.Prelude.{◌≡◌, ◌<◌, ◌^◌, [], ◌∷◌, ◌++◌, IfOk, IfSome, length, slice_index_or};
+ghost use Rattle.std.specs.Prelude.{◌≡◌, ◌<◌, ◌^◌, List, [], ◌∷◌, ◌++◌, IfOk, IfSome, length, slice_index_or};
 ghost use Rattle.std.specs.List.{AllByRecursion};
+ghost use Rattle.cells.specs.declared.cell.Cell.{Cell};
 ghost use Rattle.groups.specs.Accumulators.{AllFit};
-ghost use Rattle.groups.specs.Coarsening.{JoinsAt, TakesGroup};
+ghost use Rattle.groups.specs.Coarsening.{JoinsGroup, TakesGroup};
 ghost use Rattle.groups.specs.Bags.{AreWithin, CanTake, Takes, picked};
 
 use crate::accumulators::Accumulators;
@@ -22,7 +23,9 @@ pub struct Bag<H: KeyHash<Cell>> {
 }
 
 impl<H: KeyHash<Cell>> Model for Bag<H> {
-    ghost use Rattle.std.specs.Prelude.{List};
+    ghost use Rattle.std.specs.Prelude.{◌<◌, List, length};
+    ghost use Rattle.std.specs.HashMap.{values};
+    ghost use Rattle.std.specs.List.{All};
     ghost use Rattle.groups.specs.Bags.{Group};
 
     ghost Value = { List (Group H) };
@@ -33,6 +36,9 @@ impl<H: KeyHash<Cell>> Model for Bag<H> {
     ghost coded = { Prim.hlevel (codes, coded_cells) };
 
     ghost view = { λ b. b.groups.items };
+
+    // Each place that is noted is one in the list.
+    ghost invariant = { λ b. All (λ place. place < length b.groups.items) (values b.places) };
 }
 
 impl<H: KeyHash<Cell>> Bag<H> {
@@ -105,9 +111,6 @@ impl<H: KeyHash<Cell>> Bag<H> {
         ensures found { IfSome result (λ i. (slice_index_or self.now i (picked places.now cells.now, [])).0 ≡ picked places.now cells.now) }
     {
         let place = *self.places.get(&hash)?;
-        if place >= self.groups.len() {
-            return None;
-        }
         if is_tuple_of(self.groups[place].0.cells(), cells, places) {
             Some(place)
         } else {
@@ -124,7 +127,8 @@ impl<H: KeyHash<Cell>> Bag<H> {
     ) -> Result<(), AllocError>
         requires within { place < length self.old }
         requires fit { AllByRecursion (λ g. AllFit g.1 accumulators.now) self.old }
-        ensures { IfOk result (λ _. JoinsAt place accumulators.now self.old self.new) }
+        ensures { (tuple : List Cell) → (slice_index_or self.old place (tuple, [])).0 ≡ tuple →
+            IfOk result (λ _. JoinsGroup tuple accumulators.now self.old self.new) }
     {
         let both = self.groups[place].1.join(alloc, accumulators)?;
         self.groups[place].1 = both;

@@ -1,7 +1,7 @@
 //! Rows folded piece by piece.
-ghost use Rattle.std.specs.Prelude.{[], List, ◌++◌, IfOk};
+ghost use Rattle.std.specs.Prelude.{◌≡◌, [], List, ◌++◌, IfOk};
 ghost use Rattle.cells.specs.Values.{Entry};
-ghost use Rattle.groups.specs.Folds.{FillsSources, Folds, MayFillSources, MayEnd, MayTakeMore};
+ghost use Rattle.groups.specs.Folds.{group_count, FillsSources, Folds, MayFillSources, MayEnd, MayTakeMore};
 ghost use Rattle.groups.specs.Groups.{kept};
 ghost use Rattle.groups.specs.Partials.{Stands, rows_of};
 ghost use Rattle.query.specs.Plans.{PlanTree};
@@ -59,6 +59,17 @@ impl<'a, H: KeyHash<Cell> + KeyHash<Tuple>> Folding<'a, H> {
         };
         fill_sources(alloc, &rows, &mut self.sources)?;
         Ok(())
+    }
+
+    /// How many groups it holds so far, those of all sources together. A tuple may have more than one. It takes no memory.
+    pub fn groups(&self) -> u128
+        ensures { result ≡ group_count self.now }
+    {
+        let mut count = 0;
+        for source in &self.sources {
+            count += source.bag.groups().len() as u128;
+        }
+        count
     }
 
     /// The partial result of all rows that were taken.

@@ -1,9 +1,7 @@
-use Rattle.std.proofs.Common.{◌++◌, ap, sym, ◌∙◌}
-use Rattle.std.proofs.lemmas.Iterator.Adapters.{YieldsList-from_vec, fact_from_extend}
-use Rattle.std.proofs.lemmas.List.{map-id}
+use Rattle.groups.proofs.FinishLemmas.{rows_next}
 use Rattle.groups.proofs.finishing.add_rows.Goals as goal
 
-pub returns : goal.returns
-returns c =
-    fact_from_extend (λ x. x) c.extend.result c.extend.ensures.ran (λ it b. YieldsList-from_vec {s = it} _ b.0 (b.1 ∙ c.args.more.ok.0))
-    (λ xs e h. h.0 ∙ ap (λ l. c.args.rows.now.items ++ l) (sym (map-id xs) ∙ e))
+pub loop-group-preserved : goal.loop-group-preserved
+loop-group-preserved g c =
+    rows_next c.args.set.now c.args.items.now c.args.groups.now c.loop-group.group-index c.group-item.result c.loop-group-test.true c.group-item.is
+    c.args.rows.now.items c.loop-group.rows.items c.push.new.self.items c.in_ok-row.row c.loop-group.invariant c.in_ok-row.ensures c.in_ok-push.ensures.items
