@@ -3,6 +3,7 @@
 #![tactic(auto)]
 
 mod boxes;
+mod crossing;
 mod keeper;
 mod law;
 mod laws;
@@ -14,6 +15,7 @@ mod told;
 mod viewer;
 mod writer;
 
+pub use crossing::viewers_cross_threads;
 pub use keeper::Keeper;
 pub use laws::{an_edition_has_a_list_of_rows, rows_have_the_shape_of_their_keys};
 pub use limits::{MAX_PLACES, MAX_ROWS};
