@@ -3,7 +3,7 @@ ghost use Rattle.std.specs.Prelude.{◌≡◌, ◌<◌, ◌==◌, [], IfOk, OnOk
 ghost use Rattle.std.specs.List.{list_all};
 ghost use Rattle.std.specs.List.Sorted.{IsSortedByKey, IsStableByKey};
 ghost use Rattle.std.specs.Ordering.{nat_cmp};
-ghost use Rattle.trie.specs.Building.{AreHashed, AreSpread, CountsEach, HaveOnePrefix, IsMadeOf, IsMadeOnce, is_like, lists, pairs_in};
+ghost use Rattle.trie.specs.Building.{AreHashed, AreSpread, CountsEach, HaveOnePrefix, IsMadeOf, IsMadeOnce, IsMadeWhole, is_like, lists, pairs_in};
 ghost use Rattle.trie.specs.Digits.{digit_count, digits_number, place_count};
 ghost use Rattle.trie.specs.Entries.{with_pairs};
 ghost use Rattle.trie.specs.Holding.{pairs_of};
@@ -184,6 +184,9 @@ pub fn place_of<'a, K: Ord + Drop, V: Drop, H: KeyHash<K>>(
 
     // A node for each entry, and for each prefix that two of their keys share.
     ensures once { IfOk result (λ p. IsMadeOnce H.hash_of K.cmp depth (node_of p) ticks.old ticks.new) }
+
+    // And no fewer.
+    ensures whole { IfOk result (λ p. IsMadeWhole H.hash_of K.cmp depth (node_of p) ticks.old ticks.new) }
 
     // Whatever the answer, for each pair a node for each digit that is left, and one more.
     ensures counted { CountsEach depth (length pairs.now) ticks.old ticks.new }

@@ -301,6 +301,7 @@ pub fn branch_of<K: Drop, V: Drop>(
 ) -> Result<Place<K, V>, AllocError>
     requires fits { sum_by node_len (values made.children.items) < 2 ^ 64 }
     ensures made { IfOk result (λ p. node_of p ≡ Some (Branch (sum_by node_len (values made.children.items)) made.bitmap made.children)) }
+    ensures one { OnOk result (ticks.new ≡ next_count ticks.old) }
     ensures counted { ticks.new ≤ ticks.old + 1 }
     ensures grows { ticks.old ≤ ticks.new }
 {

@@ -83,7 +83,7 @@ impl PartialEq for Prefix {
     ghost laws = { Cmp.partial_equiv_from_equiv nat_list_eq_equiv };
 
     fn eq(&self, other: &Prefix) -> bool {
-        self.digits.as_slice() == other.digits.as_slice()
+        self.digits() == other.digits()
     }
 }
 

@@ -1,4 +1,4 @@
-use Rattle.std.proofs.Common.{◌≡◌, ◌+◌, ◌-◌, ◌<◌, List, [], ◌∷◌, length, ap, refl, sym, Some, arith, rules}
+use Rattle.std.proofs.Common.{◌≡◌, ◌+◌, ◌-◌, ◌<◌, List, [], ◌∷◌, length, ap, refl, sym, None, Some, arith, rules}
 use Rattle.std.specs.Prelude.{slice_get}
 use Rattle.std.proofs.lemmas.List.{length-map}
 use Rattle.std.proofs.lemmas.Result.{IfOk-weaker}
@@ -13,6 +13,7 @@ use Rattle.trie.proofs.DenseLemmas.{length-places_of, none_dense}
 use Rattle.trie.proofs.MapsLemmas.{hashes}
 use Rattle.trie.proofs.OnceLemmas.{once_all, once_more, once_one}
 use Rattle.trie.proofs.SpreadLemmas.{counted_all, counted_end, counted_more, part_is}
+use Rattle.trie.proofs.WholeLemmas.{ok_of_both, whole_all, whole_bucket, whole_leaf, whole_more, whole_none}
 use Rattle.trie.proofs.build.+place_of.Goals as goal
 
 -- where there is a last pair, there is one
@@ -92,6 +93,7 @@ loop-digit-init g t c =
       dense = rw (none.0, none.1) none_dense;
       before = omega (arith, none.0);
       once = record { at = λ prefix deep placed. omega arith };
+      whole = record { at = λ all prefix deep placed among below. omega arith };
       counted = counts_none _ _ _ _ _ refl;
       used = c.requires.used;
     }
@@ -150,6 +152,10 @@ loop-digit-preserved g t c =
           (once_more g.H.KeyHash.hash_of g.K.Ord.cmp c.args.depth c.loop-digit.digit
           (places_in c.loop-digit.made.bitmap c.loop-digit.made.children.items) (node_of c.in_ok-child.child) _ _ _ (omega (arith, wide, lt))
           c.loop-digit.invariant.once c.in_ok-child.ensures.once);
+      whole = rw written.places_are
+          (whole_more g.H.KeyHash.hash_of g.K.Ord.cmp c.args.depth c.loop-digit.digit
+          (places_in c.loop-digit.made.bitmap c.loop-digit.made.children.items) (node_of c.in_ok-child.child) _ _ _ (omega (arith, wide, lt))
+          c.place_of.ensures.counted.grows c.loop-digit.invariant.whole c.in_ok-child.ensures.whole);
       counted = counted_more c.args.depth c.args.pairs.now c.in_ok-parts.parts.items c.in_ok-parts.ensures c.loop-digit.digit lt _ is _ _ _
           c.loop-digit.invariant.counted c.place_of.ensures.counted;
       used = search rules;
@@ -191,3 +197,21 @@ returns-clause-once g t c =
     IfOk-weaker c.branch_of.result _ _
     (λ p made. once_all g.H.KeyHash.hash_of g.K.Ord.cmp c.args.depth c.loop-digit.made.bitmap c.loop-digit.made.children (node_of p) _
     c.loop-digit.digit _ _ _ all c.loop-digit.invariant.once c.branch_of.ensures.counted made) c.branch_of.ensures.made
+
+pub returns-in_default-clause-whole : goal.returns-in_default-clause-whole
+returns-in_default-clause-whole g t c = whole_none g.H.KeyHash.hash_of g.K.Ord.cmp c.args.depth None _ _ refl refl
+
+pub returns-then-have_key_of-clause-whole : goal.returns-then-have_key_of-clause-whole
+returns-then-have_key_of-clause-whole g t c =
+    whole_leaf g.H.KeyHash.hash_of g.K.Ord.cmp c.args.depth _ c.in_ok-try_clone.field-0 _ _ c.in_ok-make.ensures.one (ap Some c.in_ok-make.ensures.made)
+
+pub returns-then-depth-eq-DIGITS-clause-whole : goal.returns-then-depth-eq-DIGITS-clause-whole
+returns-then-depth-eq-DIGITS-clause-whole g t c =
+    whole_bucket g.H.KeyHash.hash_of g.K.Ord.cmp c.args.depth _ c.in_ok-bucket_of.field-0 _ _ c.in_ok-make-2.ensures.one (ap Some c.in_ok-make-2.ensures.made)
+
+pub returns-clause-whole : goal.returns-clause-whole
+returns-clause-whole g t c =
+    let all : c.loop-digit.digit ≡ place_count = omega arith in
+    ok_of_both _ _ c.branch_of.result
+    (λ p made next. whole_all g.H.KeyHash.hash_of g.K.Ord.cmp c.args.depth c.loop-digit.made.bitmap c.loop-digit.made.children (node_of p) _
+    c.loop-digit.digit _ _ _ all c.loop-digit.invariant.whole next c.branch_of.ensures.grows made) c.branch_of.ensures.made c.branch_of.ensures.one

@@ -1,6 +1,6 @@
-use Rattle.std.proofs.Common.{◌≡◌, ◌<◌, ◌∙◌, ap, arith, rules}
+use Rattle.std.proofs.Common.{arith, rules}
 use Rattle.std.proofs.lemmas.List.{take_all}
-use Rattle.trie.specs.Digits.{digit, digit_count, digits, place_count}
+use Rattle.trie.specs.Digits.{digits}
 use Rattle.trie.proofs.DigitsLemmas.{length-digits}
 use Rattle.trie.proofs.SortLemmas.{number_bound, number_fits, number_more}
 use Rattle.trie.proofs.digits.digits_number.Goals as goal

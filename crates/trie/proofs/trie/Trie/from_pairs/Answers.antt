@@ -7,6 +7,7 @@ use Rattle.trie.proofs.BuildLemmas.{root_entries, root_placed, root_prefix, root
 use Rattle.trie.proofs.MapsLemmas.{hashes}
 use Rattle.trie.proofs.OnceLemmas.{once_root}
 use Rattle.trie.proofs.SortLemmas.{sorted_made}
+use Rattle.trie.proofs.WholeLemmas.{whole_root}
 use Rattle.trie.proofs.trie.Trie.from_pairs.Goals as goal
 
 -- what is counted at the root, for a list that stands for one of the same length
@@ -60,3 +61,8 @@ pub returns-clause-once : goal.returns-clause-once
 returns-clause-once g c =
     let placed = root_placed g.H.KeyHash.hash_of g.K.Ord.cmp _ _ c.in_ok-root.ensures.made in
     once_root g.H.KeyHash.hash_of g.K.Ord.cmp _ _ _ c.in_ok-root.ensures.once placed
+
+pub returns-clause-whole : goal.returns-clause-whole
+returns-clause-whole g c =
+    let placed = root_placed g.H.KeyHash.hash_of g.K.Ord.cmp _ _ c.in_ok-root.ensures.made in
+    whole_root g.H.KeyHash.hash_of g.K.Ord.cmp _ _ _ c.in_ok-root.ensures.whole placed
