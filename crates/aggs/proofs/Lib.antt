@@ -1,3 +1,2 @@
 pub mod DifferingLemmas
 pub mod NeededLemmas
-pub mod StoredLemmas

@@ -10,7 +10,6 @@ mod extreme;
 mod greatest;
 mod laws;
 mod least;
-mod stored;
 mod sum;
 
 pub use acc::{Acc, Kind};
@@ -20,5 +19,4 @@ pub use distinct::CountDistinct;
 pub use greatest::Max;
 pub use laws::{accumulators_keep_the_laws, worked_aggregates};
 pub use least::Min;
-pub use stored::{cell_is_stored, cells_are_stored};
 pub use sum::Sum;

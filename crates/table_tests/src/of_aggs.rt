@@ -7,10 +7,8 @@ ghost use Rattle.aggs.specs.declared.acc.Kind.TheVariants as of_kind;
 
 use crate::written::Written::{self, Int, Null, Text};
 use crate::written::{cell_of, cells_of};
-use aggs::{
-    Acc, Kind, accumulators_keep_the_laws, cell_is_stored, cells_are_stored, worked_aggregates,
-};
-use cells::{Cell, Plain, Refused, literal};
+use aggs::{Acc, Kind, accumulators_keep_the_laws, worked_aggregates};
+use cells::{Cell, Plain, Refused, cell_is_stored, cells_are_stored, literal};
 use std::alloc::{AllocError, Global};
 use std::process::Abort;
 use std::test::Fail;

@@ -1,7 +1,7 @@
 //! That integers of cells have 64 bits.
 ghost use Rattle.cells.specs.Fitting.{AreStored, IsStored};
 
-use cells::Cell;
+use crate::cell::Cell;
 
 /// An integer cell has 64 bits. It does nothing.
 pub fn cell_is_stored(cell: &Cell)
