@@ -11,6 +11,7 @@ const TURNS: u64 = 10_000_000;
 /// Two threads meet where the one at place 0, which waits, saw the one at another place come.
 #[derive(Drop)]
 pub struct Meeting {
+    waits: AtomicU64,
     came: AtomicU64,
     met: AtomicU64,
 }
@@ -18,6 +19,7 @@ pub struct Meeting {
 impl Meeting {
     fn new() -> Meeting {
         Meeting {
+            waits: AtomicU64::new(0),
             came: AtomicU64::new(0),
             met: AtomicU64::new(0),
         }
@@ -25,6 +27,11 @@ impl Meeting {
 
     pub fn is_over(&self) -> bool {
         self.met.load(SeqCst) == 1
+    }
+
+    /// Whether one came to place 0 and saw no other come.
+    pub fn was_missed(&self) -> bool {
+        self.waits.load(SeqCst) == 1 && !self.is_over()
     }
 
     fn at(&self, place: u64, other: u64) {
@@ -37,6 +44,7 @@ impl Meeting {
     }
 
     fn wait(&self) {
+        self.waits.store(1, SeqCst);
         for _ in 0..TURNS {
             if self.came.load(SeqCst) == 1 {
                 self.met.store(1, SeqCst);
@@ -80,6 +88,42 @@ impl Gate for Hold {
 
     fn merging(&self, place: u64) {
         self.merging.at(place, self.middle);
+    }
+}
+
+/// How many turns a worker stays at each piece.
+const STAY: u64 = 1_000;
+
+/// Watches pieces, at each of which the worker stays for a while: a thread that nobody waits for has then entered a piece
+/// and not left it.
+#[derive(Drop)]
+pub struct Stay {
+    pub watch: Watch,
+}
+
+impl Stay {
+    pub fn new() -> Stay {
+        Stay {
+            watch: Watch::new(),
+        }
+    }
+
+    /// Whether each piece that was entered was left.
+    pub fn is_empty(&self) -> bool {
+        self.watch.entered.get() == self.watch.left.get()
+    }
+}
+
+impl Gate for Stay {
+    fn entered(&self, place: u64) {
+        self.watch.entered(place);
+        for _ in 0..STAY {
+            thread::yield_now();
+        }
+    }
+
+    fn left(&self, place: u64) {
+        self.watch.left(place);
     }
 }
 

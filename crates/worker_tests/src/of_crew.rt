@@ -3,7 +3,7 @@ ghost use Rattle.std.specs.Prelude.{◌≡◌, ◌≤◌, IfOk, ⊤};
 ghost use Rattle.crew.specs.Limits.{piece_limit, seat_limit};
 ghost use Rattle.crew.specs.Seats.{IsSeatOf};
 
-use crate::gates::{Hold, Watch};
+use crate::gates::{Hold, Stay, Watch};
 use cells::Refused;
 use crew::{Deal, Dealt, Gate, MAX_PIECES, MAX_SEATS, Open, Seat, Task, draws_rise, share_out};
 use std::alloc::{AllocError, Global};
@@ -164,6 +164,16 @@ fn two_workers_run_at_the_same_time(rt: HostRuntime) -> Result<(), Fail> {
     let hold = Hold::new(1);
     assert_eq!(rt; visited(&rt, rt.alloc(), &hold, 4, 2, NOWHERE), Ok((10, 2)));
     assert!(rt; hold.entering.is_over());
+    Ok(())
+}
+
+/// All threads that were started are joined before there is an answer, whatever it is: nobody is at a place then.
+#[test]
+fn nobody_works_behind_the_answer(rt: HostRuntime) -> Result<(), Fail> {
+    let stay = Stay::new();
+    let taken = visited(&rt, rt.alloc(), &stay, 6, 3, NOWHERE);
+    assert!(rt; stay.is_empty());
+    assert_eq!(rt; taken?, (21, 3));
     Ok(())
 }
 

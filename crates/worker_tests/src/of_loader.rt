@@ -85,10 +85,14 @@ fn rows_of_two<G: Gate, R: Threads + Wait>(
     told(load(rt, alloc, &[(1, LOW), (2, MIDDLE)], &schema, 2, gate))
 }
 
+/// The gate is told of a part before it is read: who waits at the front part sees the other come, also where memory is
+/// refused to the reading of that one.
 #[test]
 fn two_parts_are_read_at_the_same_time(rt: HostRuntime) -> Result<(), Fail> {
     let hold = Hold::new(1);
-    assert_eq!(rt; rows_of_two(&rt, rt.alloc(), &hold)?, Ok(3));
+    let found = rows_of_two(&rt, rt.alloc(), &hold);
+    assert!(rt; found == Err(Refused::NoWorker) || !hold.reading.was_missed());
+    assert_eq!(rt; found?, Ok(3));
     assert!(rt; hold.reading.is_over() && hold.merging.is_over());
     Ok(())
 }

@@ -2,7 +2,7 @@
 ghost use Rattle.std.specs.Prelude.{◌≤◌};
 ghost use Rattle.report.specs.Limits.{worker_limit};
 
-use crate::gates::{Hold, Watch};
+use crate::gates::{Hold, Stay, Watch};
 use board::{Keeper, Snapshot};
 use cells::{Plain, Refused, Row, Schema};
 use crew::{Gate, Open};
@@ -78,6 +78,19 @@ fn more_and_fewer_workers_than_pieces(rt: HostRuntime) -> Result<(), Fail> {
         assert!(rt; is_counted(&rt, rt.alloc(), &edition, depth, workers, &watch, FOUR)?);
         assert_eq!(rt; (watch.entered.get(), watch.left.get()), (sum, sum));
     }
+    Ok(())
+}
+
+/// Each piece that a worker entered it left, whatever the answer is: also where memory was refused to its work there, and
+/// where a thread could not be started.
+#[test]
+fn each_piece_is_left(rt: HostRuntime) -> Result<(), Fail> {
+    let edition = edition_of(&rt, rt.alloc(), &KEYS)?;
+    let stay = Stay::new();
+    let counted = is_counted(&rt, rt.alloc(), &edition, 1, 2, &stay, FOUR);
+    assert!(rt; stay.is_empty());
+    assert!(rt; counted?);
+    assert_eq!(rt; stay.watch.left.get(), 3);
     Ok(())
 }
 
