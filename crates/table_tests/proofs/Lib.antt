@@ -1,1 +1,2 @@
 pub mod AccsLemmas
+mod RepeatedLemmas

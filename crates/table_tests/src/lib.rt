@@ -1,4 +1,4 @@
-//! Tests of `cells`, `trie`, `aggs` and `board` by their public items: what no clause says of them, and no script can
+//! Tests of `cells`, `trie`, `aggs`, `groups` and `board` by their public items: what no clause says of them, and no script can
 //! show.
 #![tactic(auto)]
 
@@ -8,6 +8,8 @@ mod of_aggs;
 mod of_board;
 #[cfg(test)]
 mod of_cells;
+#[cfg(test)]
+mod of_groups;
 #[cfg(test)]
 mod of_trie;
 #[cfg(test)]
