@@ -39,15 +39,7 @@ output_of_job file job script parts s p whole is = record { script = script; scr
 
 -- the output that the words ask for, from that of their job
 pub asked : (file : List ℕ → Option (List ℕ)) (words : List Text) (job : Job) → AsksToRun words job → (whole : List ℕ) → IsOutputOfJob file job whole → AskToWrite file words whole
-asked file words job a whole of = record {
-  job = job;
-  asked = a;
-  script = of.script;
-  script_told = of.script_told;
-  parts = of.parts;
-  parts_told = of.parts_told;
-  is_output = of.is_output;
-}
+asked file words job a whole of = record { job = job; asked = a; output = of }
 
 module _ (Is IsWhole : List ℕ → Type 0) (a b : Option (List ℕ)) (so : (whole : List ℕ) → Is whole → IsWhole whole) where
   -- what was written is so, since what it was said to be is

@@ -1,5 +1,6 @@
 -- What files hold, where that is told.
-use Rattle.std.specs.Prelude.{◌≡◌, ℕ, List, [], ◌∷◌, ⊤, Option, IfSome}
+use Rattle.std.specs.Prelude.{◌≡◌, ℕ, List, [], ◌∷◌, ◌++◌, ⊤, Option, IfSome}
+use Rattle.std.specs.List.{AllByRecursion}
 
 -- these are the bytes that are told, or none are told
 abbrev pub Tells : Option (List ℕ) → List ℕ → Type 0
@@ -11,3 +12,10 @@ AreTold file [] [] = ⊤
 AreTold file [] (bytes ∷ more) = ⊥
 AreTold file (name ∷ names) [] = ⊥
 AreTold file (name ∷ names) (bytes ∷ more) = Tells (file name) bytes × AreTold file names more
+
+-- the file of this name is the first of these that can't be read: those before it were
+pub record IsFirstUnread (was_read : List ℕ → Type 0) (names : List (List ℕ)) (name : List ℕ) : Type 0 where
+  pub before : List (List ℕ)
+  pub later : List (List ℕ)
+  pub parted : names ≡ before ++ name ∷ later
+  pub read : AllByRecursion was_read before

@@ -25,11 +25,7 @@ pub record IsOutputOfJob (file : Text → Option (List ℕ)) (job : Job) (whole 
 pub record AskToWrite (file : Text → Option (List ℕ)) (words : List Text) (whole : List ℕ) : Type 0 where
   pub job : Job
   pub asked : AsksToRun words job
-  pub script : List ℕ
-  pub script_told : Tells (file job.script) script
-  pub parts : List (List ℕ)
-  pub parts_told : AreTold file job.parts.items parts
-  pub is_output : IsOutput (hash_of_choice job.hash) (record { limit = job.how.rows; parts = parts }) script whole
+  pub output : IsOutputOfJob file job whole
 
 -- this is the output of the script that standard input holds, with the defaults and no parts
 pub record IsOutputOf (input : Option (List ℕ)) (whole : List ℕ) : Type 0 where

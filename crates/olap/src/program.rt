@@ -15,7 +15,7 @@ use crate::job::{Job, WordsFault};
 use crate::words::job_of;
 use crew::Open;
 use report::Pour;
-use script::{HashChoice, How, run_by};
+use script::{HashChoice, How, run_last};
 use std::alloc::Global;
 use std::io::{BufWriter, Read, Write};
 use std::sync::Wait;
@@ -107,7 +107,7 @@ pub fn run_standard_input<I: Read + Drop, W: Write + Drop, E: Write, R: Threads 
 
 /// Runs the script over the parts, flushes what it wrote, and gives the program's status and the
 /// writer back: 0 where the output was written whole and none of it waits in the buffer, and 3 where a
-/// beginning of it was written, and why it ended is on `err`.
+/// beginning of it was written, and why it ended is on `err`. The memory of the run's table is left to the system.
 pub fn run_input<W: Write + Drop, E: Write, R: Threads + Wait + Sync>(
     rt: &R,
     alloc: Global,
@@ -126,7 +126,7 @@ pub fn run_input<W: Write + Drop, E: Write, R: Threads + Wait + Sync>(
     ensures quiet { result.0 ≡ 0 → err.new ≡ err.old }
 {
     let mut pour = Pour::new(out);
-    let ended = run_by(
+    let ended = run_last(
         rt,
         alloc,
         hash,

@@ -1,6 +1,10 @@
 use Rattle.std.proofs.Common.{map, take}
+use Rattle.std.specs.List.{AllByRecursion}
 use Rattle.olap.specs.Folders.{AreTold}
 use Rattle.olap.proofs.input.read_parts.Given as goal
 
 abbrev pub invariant-loop-name : goal.invariant-loop-name
-invariant-loop-name g l = AreTold (g.F.Folder.file l.folder) (take l.name-index l.names) (map (λ p. p.items) l.parts.items)
+invariant-loop-name g l = record {
+  told : AreTold (g.F.Folder.file l.folder) (take l.name-index l.names) (map (λ p. p.items) l.parts.items);
+  read : AllByRecursion (g.F.Folder.was_read l.folder) (take l.name-index l.names);
+}

@@ -8,9 +8,9 @@ use Rattle.olap.proofs.program.run_input.Goals as goal
 
 pub returns-clause-beginning : goal.returns-clause-beginning
 returns-clause-beginning g c =
-    let all = c.run_by-ended.ensures.delivered.output in
-    let part = c.run_by-ended.ensures.delivered.beginning in
+    let all = c.run_last-ended.ensures.delivered.output in
+    let part = c.run_last-ended.ensures.delivered.beginning in
     begins_closed (IsOutput (hash_of_choice c.args.hash) (givens c.args.how.now.rows c.args.input.now.parts.items) c.args.input.now.script.items)
     (writer_contents g.W.Write.contents c.args.out) (writer_contents g.W.Write.contents c.into_inner-out.result)
     (writer_contents g.W.Write.contents c.close_run-status.new.out)
-    c.run_by-ended.result (search rules) (search rules) (search rules)
+    c.run_last-ended.result (search rules) (search rules) (search rules)
