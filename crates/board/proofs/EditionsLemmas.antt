@@ -2,13 +2,13 @@
 use Rattle.std.proofs.Common.{◌≡◌, ℕ, ◌+◌, ◌-◌, ◌≤◌, Bool, true, false, None, Some, refl, ◌∙◌, arith, cond}
 use Rattle.std.specs.FinMap.{contains_key, empty, get, insert, len, len-empty, len-insert, len-remove, remove}
 use Rattle.cells.specs.CellOrder.{cell_cmp, cell_cmp-total}
-use Rattle.cells.specs.Values.{Entry}
+use Rattle.cells.specs.Values.{RowValue}
 use Rattle.cells.specs.declared.cell.Cell.{Cell}
 use Rattle.cells.specs.Tables.{Rows}
 
 -- no rows keep any limit
 pub empty_within : (rows : Rows) (most : ℕ) → rows ≡ empty → len rows ≤ most
-empty_within rows most none = rw (none, len-empty cell_cmp Entry) (omega arith)
+empty_within rows most none = rw (none, len-empty cell_cmp RowValue) (omega arith)
 
 -- a delete keeps the limit
 pub remove_within : (old new : Rows) (key : Cell) (most : ℕ) → new ≡ remove old key → len old ≤ most → len new ≤ most
@@ -26,8 +26,8 @@ same_within old new most is within = rw is within
 pub ruleset limit_stays = (empty_within, remove_within, same_within)
 
 -- a row of a key that is there takes no new room, and any other takes that of one row
-pub len_over : (old : Rows) (key : Cell) (row there : Entry) → get old key ≡ Some there → len (insert old key row) ≡ len old
+pub len_over : (old : Rows) (key : Cell) (row there : RowValue) → get old key ≡ Some there → len (insert old key row) ≡ len old
 len_over old key row there e = len-insert cell_cmp-total old key row ∙ rw e refl
 
-pub len_beside : (old : Rows) (key : Cell) (row : Entry) → get old key ≡ None → len (insert old key row) ≡ len old + 1
+pub len_beside : (old : Rows) (key : Cell) (row : RowValue) → get old key ≡ None → len (insert old key row) ≡ len old + 1
 len_beside old key row e = len-insert cell_cmp-total old key row ∙ rw e refl

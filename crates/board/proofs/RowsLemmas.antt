@@ -7,25 +7,25 @@ use Rattle.cells.specs.Laws.{table_rows_put}
 use Rattle.cells.specs.SameKeys.{exact_cells, same_cells}
 use Rattle.cells.specs.Tables.{AreRowsOf, Rows, table}
 use Rattle.cells.specs.Updates.{Put, Update, rows}
-use Rattle.cells.specs.Values.{Entry, Table}
+use Rattle.cells.specs.Values.{RowValue, Table}
 use Rattle.cells.specs.declared.cell.Cell.{Cell}
 use Rattle.board.specs.Editions.{AreListed}
 
 -- one more put, of a row that stands at its own key
-abbrev with_put : (own : Bool) → Entry → List Update → List Update
+abbrev with_put : (own : Bool) → RowValue → List Update → List Update
 with_put true row us = us ++ Put row ∷ []
 with_put false row us = us
 
 -- puts of the rows, the last one first
-abbrev puts_of : List (Cell × Entry) → List Update
+abbrev puts_of : List (Cell × RowValue) → List Update
 puts_of [] = []
 puts_of (e ∷ es) = with_put (cell_eq e.1.key e.0) e.1 (puts_of es)
 
 -- the first entry of the key is what the puts leave there, where it is a row of that key
 module _ (q : Cell) where
-  step : (own here : Bool) (e : Cell × Entry) (es : List (Cell × Entry)) → cell_eq e.1.key e.0 ≡ own → cell_eq q e.0 ≡ here
-      → ((r : Entry) → cond here (Some e.1) (find cell_cmp q es) ≡ Some r → r.key ≡ q)
-      → (((r : Entry) → find cell_cmp q es ≡ Some r → r.key ≡ q) → get (table (rows (puts_of es))) q ≡ find cell_cmp q es)
+  step : (own here : Bool) (e : Cell × RowValue) (es : List (Cell × RowValue)) → cell_eq e.1.key e.0 ≡ own → cell_eq q e.0 ≡ here
+      → ((r : RowValue) → cond here (Some e.1) (find cell_cmp q es) ≡ Some r → r.key ≡ q)
+      → (((r : RowValue) → find cell_cmp q es ≡ Some r → r.key ≡ q) → get (table (rows (puts_of es))) q ≡ find cell_cmp q es)
       → get (table (rows (with_put own e.1 (puts_of es)))) q ≡ cond here (Some e.1) (find cell_cmp q es)
   step true here e es own is keyed ih =
       let same : e.1.key ≡ e.0 = same_cells e.1.key e.0 own in
@@ -34,7 +34,7 @@ module _ (q : Cell) where
       ∙ ap (λ (b : Bool). cond b (Some e.1) (get (table (rows (puts_of es))) q)) (ap (λ (k : Cell). cell_eq q k) same ∙ is)
       ∙ at here keyed
     where
-      at : (b : Bool) → ((r : Entry) → cond b (Some e.1) (find cell_cmp q es) ≡ Some r → r.key ≡ q) → cond b (Some e.1) (get (table (rows (puts_of es))) q) ≡ cond b (Some e.1) (find cell_cmp q es)
+      at : (b : Bool) → ((r : RowValue) → cond b (Some e.1) (find cell_cmp q es) ≡ Some r → r.key ≡ q) → cond b (Some e.1) (get (table (rows (puts_of es))) q) ≡ cond b (Some e.1) (find cell_cmp q es)
       at true k = refl
       at false k = ih k
   step false true e es own is keyed ih =
@@ -42,8 +42,8 @@ module _ (q : Cell) where
       absurd (subst T (sym e1 ∙ own) tt)
   step false false e es own is keyed ih = ih keyed
 
-  first_stands : (es : List (Cell × Entry)) → ((r : Entry) → find cell_cmp q es ≡ Some r → r.key ≡ q) → get (table (rows (puts_of es))) q ≡ find cell_cmp q es
-  first_stands [] keyed = get-empty {X = Entry} cell_cmp q
+  first_stands : (es : List (Cell × RowValue)) → ((r : RowValue) → find cell_cmp q es ≡ Some r → r.key ≡ q) → get (table (rows (puts_of es))) q ≡ find cell_cmp q es
+  first_stands [] keyed = get-empty {X = RowValue} cell_cmp q
   first_stands (e ∷ es) keyed = step (cell_eq e.1.key e.0) (cell_eq q e.0) e es refl refl keyed (first_stands es)
 
 -- rows that each stand at their own key are those of a list that updates leave

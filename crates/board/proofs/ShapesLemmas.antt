@@ -6,12 +6,12 @@ use Rattle.std.proofs.lemmas.List.{length-map}
 use Rattle.cells.specs.Laws.{len_left}
 use Rattle.cells.specs.Tables.{keyed_rows, table}
 use Rattle.cells.specs.Updates.{AreLeft}
-use Rattle.cells.specs.Values.{Entry}
+use Rattle.cells.specs.Values.{RowValue}
 
-pub keys_of_rows : (rs : List Entry) → keys_of (keyed_rows rs) ≡ map (λ r. r.key) rs
+pub keys_of_rows : (rs : List RowValue) → keys_of (keyed_rows rs) ≡ map (λ r. r.key) rs
 keys_of_rows [] = refl
 keys_of_rows (r ∷ rs) = ap (λ ks. r.key ∷ ks) (keys_of_rows rs)
 
 -- none comes twice
-pub once : (rs : List Entry) → AreLeft rs → len (table rs) ≡ length (keyed_rows rs)
+pub once : (rs : List RowValue) → AreLeft rs → len (table rs) ≡ length (keyed_rows rs)
 once rs left = len_left rs left ∙ sym (length-map rs (λ r. (r.key, r)))

@@ -7,7 +7,7 @@ use Rattle.atomic_table.specs.Seated.{TableId, table_id_coded}
 use Rattle.cells.specs.Codes.{coded_cell, coded_row, coded_table}
 use Rattle.cells.specs.Tables.{AreRowsOf, Rows, table as table_of}
 use Rattle.cells.specs.Updates.{AreLeft}
-use Rattle.cells.specs.Values.{Entry, Table}
+use Rattle.cells.specs.Values.{RowValue, Table}
 use Rattle.board.specs.Limits.{row_limit}
 
 -- an edition: its number, its rows, and the schema of its table
@@ -82,7 +82,7 @@ pub record IsEdition (table : Table) (rows : Rows) : Type 0 where
 
 -- the rows are those of a list that updates leave
 pub record AreListed (rows : Rows) : Type 0 where
-  pub list : List Entry
+  pub list : List RowValue
   pub left : AreLeft list
   pub is : rows ≡ table_of list
 

@@ -4,7 +4,7 @@ ghost use Rattle.std.specs.FinMap as map;
 ghost use Rattle.cells.specs.CellOrder.{cell_cmp};
 ghost use Rattle.cells.specs.Fitting.{IsRowOf};
 ghost use Rattle.cells.specs.Tables.{AreRowsOf, laid_over};
-ghost use Rattle.cells.specs.Values.{Entry};
+ghost use Rattle.cells.specs.Values.{RowValue};
 ghost use Rattle.trie.specs.Maps.{map_of};
 ghost use Rattle.board.specs.Editions.{Begins, ChangesDraft, IsHistory, IsLastOf, IsNewViewer, KnowsAllOf, Publishes, draft, edition, history, limit, published, schema};
 ghost use Rattle.board.specs.Limits.{place_limit, row_limit};
@@ -222,7 +222,7 @@ impl<H: KeyHash<Cell>> Keeper<H> {
 #[tactic(auto, using(crate::proofs::EditionsLemmas::len_over, crate::proofs::EditionsLemmas::len_beside))]
 fn has_room<H: KeyHash<Cell>>(draft: &Root<H>, key: &Cell, limit: u64) -> bool
     requires { map.len draft.now ≤ limit }
-    ensures { (row : Entry) → IsTrue result ↔ (map.len (map.insert draft.now key.now row) ≤ limit) }
+    ensures { (row : RowValue) → IsTrue result ↔ (map.len (map.insert draft.now key.now row) ≤ limit) }
 {
     match draft.get(key) {
         Some(_) => true,

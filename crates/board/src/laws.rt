@@ -3,7 +3,7 @@ ghost use Rattle.std.specs.Prelude.{◌≡◌, List, map};
 ghost use Rattle.std.specs.FinMap.{keys};
 ghost use Rattle.cells.specs.Tables.{table};
 ghost use Rattle.cells.specs.Updates.{AreLeft};
-ghost use Rattle.cells.specs.Values.{Entry};
+ghost use Rattle.cells.specs.Values.{RowValue};
 ghost use Rattle.trie.specs.Shapes.{shape_of};
 ghost use Rattle.board.specs.Editions.{AreListed};
 
@@ -13,7 +13,7 @@ use trie::a_map_has_the_shape_of_its_keys;
 
 /// A table has the shape of the keys of its rows, in whatever order updates leave them.
 pub fn rows_have_the_shape_of_their_keys<H: KeyHash<Cell>>()
-    ensures { (rs : List Entry) → AreLeft rs → shape_of H.hash_of (keys (table rs)) ≡ shape_of H.hash_of (map (λ r. r.key) rs) }
+    ensures { (rs : List RowValue) → AreLeft rs → shape_of H.hash_of (keys (table rs)) ≡ shape_of H.hash_of (map (λ r. r.key) rs) }
 {
     a_map_has_the_shape_of_its_keys::<Cell, Row, H>();
 }

@@ -12,7 +12,7 @@ use Rattle.cells.specs.Fitting.{AreOfColumns, IsOfType, IsRowOf}
 use Rattle.cells.specs.Integers.{integer_of, natural_of, negative, positive}
 use Rattle.cells.specs.Limits.{integer_limit, text_limit}
 use Rattle.cells.specs.Records.{cell_of, cells_of, keyed, row_of, text_cell}
-use Rattle.cells.specs.Values.{Entry, Table}
+use Rattle.cells.specs.Values.{RowValue, Table}
 use Rattle.cells.specs.declared.cell.Cell.{Cell}
 use Rattle.cells.specs.declared.cell.Cell.TheVariants as cell
 use Rattle.cells.specs.declared.schema.Column.{Column}
@@ -104,16 +104,16 @@ row_fits_at t x xs fit place full = record {
   full = full;
 }
 
-keyed_fits : (t : Table) (x : Cell) (xs : List Cell) (row : Entry) → AreOfColumns xs t.columns → slice_index_or xs t.key cell.Null ≡ x →
+keyed_fits : (t : Table) (x : Cell) (xs : List Cell) (row : RowValue) → AreOfColumns xs t.columns → slice_index_or xs t.key cell.Null ≡ x →
     keyed x xs ≡ Some row → IsRowOf t row
 keyed_fits t cell.Null xs row fit place e = absurd (cc)
 keyed_fits t (cell.Int n) xs row fit place e = subst (IsRowOf t) (some_same _ row e) (row_fits_at t (cell.Int n) xs fit place (λ null. cc))
 keyed_fits t (cell.Text s) xs row fit place e = subst (IsRowOf t) (some_same _ row e) (row_fits_at t (cell.Text s) xs fit place (λ null. cc))
 
-read_fits : (t : Table) (o : Option (List Cell)) (row : Entry) → FitAll t.columns o →
+read_fits : (t : Table) (o : Option (List Cell)) (row : RowValue) → FitAll t.columns o →
     option_and_then (λ xs. keyed (slice_index_or xs t.key cell.Null) xs) o ≡ Some row → IsRowOf t row
 read_fits t None row fit e = absurd (cc)
 read_fits t (Some xs) row fit e = keyed_fits t (slice_index_or xs t.key cell.Null) xs row fit refl e
 
-pub row_fits : (t : Table) (fields : List (List ℕ)) (row : Entry) → row_of t fields ≡ Some row → IsRowOf t row
+pub row_fits : (t : Table) (fields : List (List ℕ)) (row : RowValue) → row_of t fields ≡ Some row → IsRowOf t row
 row_fits t fields row e = read_fits t (cells_of t.columns fields) row (cells_fit t.columns fields) e

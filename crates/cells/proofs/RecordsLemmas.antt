@@ -16,7 +16,7 @@ use Rattle.cells.specs.RowReading.{HasRead, RowStart}
 use Rattle.cells.specs.declared.refused.Refused.{Refused}
 use Rattle.cells.specs.declared.refused.Refused.TheVariants.{BadRecord, OutOfMemory}
 use Rattle.cells.specs.Refusals.{Answers}
-use Rattle.cells.specs.Values.{Entry, Table}
+use Rattle.cells.specs.Values.{RowValue, Table}
 
 -- a field that is not empty is a cell's text, or no text
 pub cell_of_text : (kind : ColumnType) (bs : List ℕ) → length bs ≢ 0 → IsUtf8 bs → cell_of kind bs ≡ text_cell kind bs
@@ -109,7 +109,7 @@ parted (f ∷ fields) (suc place) d inside = ap (λ fs. f.now ∷ fs) (parted fi
 pub refused_field : (t : Table) (fields : List (Bor (List ℕ))) (place : ℕ) (d : Bor (List ℕ)) (start : RowStart) (e : Refused) → start.table ≡ t → place < length fields →
     HasRead (texts (take place fields)) start → (e ≡ BadRecord) ⊎ (e ≡ OutOfMemory) →
     (e ≡ BadRecord → (fs more : List (List ℕ)) → HasRead fs start → row_of start.table (fs ++ (get_or fields place d).now ∷ more) ≡ None) →
-    Answers {T = Entry} BadRecord (row_of t (texts fields)) (Err e)
+    Answers {T = RowValue} BadRecord (row_of t (texts fields)) (Err e)
 refused_field t fields place d start e of_table inside read (inr memory) bad = inl memory
 refused_field t fields place d start e of_table inside read (inl is) bad =
     inr (

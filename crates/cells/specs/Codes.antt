@@ -2,7 +2,7 @@
 use Rattle.std.specs.Prelude.{◌≡◌, ℕ, ℤ, Bool, true, false, List, ◌⊎◌, Option, Some, None, refl}
 use Rattle.std.proofs.Common.{inl, inr}
 use Rattle.std.specs.Coded.{Coded, code_by, coded×, coded⊎, coded_bool, coded_list, coded_option, coded_ℕ, coded_ℤ}
-use Rattle.cells.specs.Values.{Entry, Table}
+use Rattle.cells.specs.Values.{RowValue, Table}
 use Rattle.cells.specs.declared.cell.Cell.{Cell}
 use Rattle.cells.specs.declared.cell.Cell.TheVariants.{Null, Int, Text}
 use Rattle.cells.specs.declared.schema.Column.{Column}
@@ -29,7 +29,7 @@ abbrev pub coded_cell : Coded Cell
 coded_cell = code_by (Option (ℤ ⊎ List ℕ)) (coded_option (coded⊎ coded_ℤ (coded_list coded_ℕ))) stored_cell cell_stored cell_stored_again
 
 -- a row as its key and its cells
-abbrev pub coded_row : Coded Entry
+abbrev pub coded_row : Coded RowValue
 coded_row = code_by (Cell × List Cell) (coded× coded_cell (coded_list coded_cell)) (λ r. (r.key, r.cells)) (λ p. record { key = p.0; cells = p.1 }) (λ _. refl)
 
 -- a type as whether it is INT

@@ -3,7 +3,7 @@ use Rattle.std.specs.Prelude.{◌≡◌, ◌≢◌, ◌≤◌, ℤ, List, [], �
 use Rattle.std.specs.Int.RustNames.{unsigned_abs}
 use Rattle.std.specs.List.{AllByRecursion, slice_get}
 use Rattle.cells.specs.Limits.{integer_limit}
-use Rattle.cells.specs.Values.{Entry, Table}
+use Rattle.cells.specs.Values.{RowValue, Table}
 use Rattle.cells.specs.declared.cell.Cell.{Cell}
 use Rattle.cells.specs.declared.cell.Cell.TheVariants as cell
 use Rattle.cells.specs.declared.schema.Column.{Column}
@@ -35,7 +35,7 @@ AreOfColumns (x ∷ cells) [] = ⊥
 AreOfColumns (x ∷ cells) (c ∷ columns) = IsOfType x c.kind × AreOfColumns cells columns
 
 -- the row may stand in the table: its key is the cell in the key column, and no NULL
-pub record IsRowOf (table : Table) (row : Entry) : Type 0 where
+pub record IsRowOf (table : Table) (row : RowValue) : Type 0 where
   pub cells : AreOfColumns row.cells table.columns
   pub key : slice_get row.cells table.key ≡ Some row.key
   pub full : row.key ≢ cell.Null

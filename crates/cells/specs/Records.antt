@@ -8,7 +8,7 @@ use Rattle.cells.specs.declared.schema.ColumnType.{ColumnType}
 use Rattle.cells.specs.declared.schema.ColumnType.TheVariants as column
 use Rattle.cells.specs.Integers.{integer_of}
 use Rattle.cells.specs.Limits.{text_limit}
-use Rattle.cells.specs.Values.{Entry, Table}
+use Rattle.cells.specs.Values.{RowValue, Table}
 
 -- the cell that a text spells in a column of the type
 abbrev pub text_cell : ColumnType → List ℕ → Option Cell
@@ -29,11 +29,11 @@ cells_of (c ∷ cs) (f ∷ fs) =
     option_and_then (λ x. option_map (λ xs. x ∷ xs) (cells_of cs fs)) (cell_of c.kind f)
 
 -- the row of these cells, where no NULL stands at the key
-abbrev pub keyed : Cell → List Cell → Option Entry
+abbrev pub keyed : Cell → List Cell → Option RowValue
 keyed cell.Null xs = None
 keyed (cell.Int n) xs = Some (record { key = cell.Int n; cells = xs })
 keyed (cell.Text t) xs = Some (record { key = cell.Text t; cells = xs })
 
 -- the row that the fields spell
-abbrev pub row_of : Table → List (List ℕ) → Option Entry
+abbrev pub row_of : Table → List (List ℕ) → Option RowValue
 row_of t fields = option_and_then (λ xs. keyed (slice_index_or xs t.key cell.Null) xs) (cells_of t.columns fields)

@@ -10,6 +10,6 @@ pub record Table : Type 0 where
   pub key : ℕ
 
 -- a row: the cell at the key, and all its cells in the order of the columns
-pub record Entry : Type 0 where
+pub record RowValue : Type 0 where
   pub key : Cell
   pub cells : List Cell

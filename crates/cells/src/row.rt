@@ -23,10 +23,10 @@ pub struct Row {
 
 impl Model for Row {
     ghost use Rattle.std.specs.Prelude.{◌<◌, length, slice_index_or};
-    ghost use Rattle.cells.specs.Values.{Entry};
+    ghost use Rattle.cells.specs.Values.{RowValue};
     ghost use Rattle.cells.specs.declared.cell.Cell.TheVariants.{Null};
 
-    ghost Value = { Entry };
+    ghost Value = { RowValue };
 
     ghost view = { λ r. record { key = slice_index_or r.cells.items r.key Null; cells = r.cells.items } };
 

@@ -6,7 +6,7 @@ use Rattle.std.proofs.lemmas.List.{append-nil, at_drop_more, length-drop, nil_fr
 use Rattle.std.proofs.lemmas.List.Concat.{flat_map-append}
 use Rattle.std.proofs.lemmas.List.Sorted.{IsPermutation-sym}
 use Rattle.aggs.specs.declared.acc.Acc.{Acc}
-use Rattle.cells.specs.Values.{Entry}
+use Rattle.cells.specs.Values.{RowValue}
 use Rattle.cells.specs.declared.cell.Cell.{Cell}
 use Rattle.crew.specs.Gathering.{PieceValue, Planned, kept_at, kept_in, rows_at, rows_in}
 use Rattle.crew.specs.Shares.{AreShared}
@@ -22,7 +22,7 @@ use Rattle.crew.proofs.PlacesLemmas.{all_of, all_weaker, at_last, part_of, permu
 
 -- ---- rows at places
 
-abbrev row_list : List PieceValue → ℕ → List Entry
+abbrev row_list : List PieceValue → ℕ → List RowValue
 row_list pieces = λ place. rows_of (slice_index_or pieces place [])
 
 rows_from : (pieces : List PieceValue) (count from : ℕ) → from + count ≡ length pieces → rows_at pieces (range_with_len from count) ≡ rows_in (drop from pieces)
@@ -55,10 +55,10 @@ rows_shared : (pieces : List PieceValue) (places : List ℕ) → IsPermutation p
 rows_shared pieces places whole = subst (IsPermutation (rows_at pieces places)) (rows_at_all pieces)
     (permutation_flat_map (row_list pieces) places (range_with_len 0 (length pieces)) whole)
 
-module _ (planned : Planned) (fold : (plan : PlanTree) (xs ys : List Entry) → IsPermutation xs ys → MayFold plan xs → MayFold plan ys)
+module _ (planned : Planned) (fold : (plan : PlanTree) (xs ys : List RowValue) → IsPermutation xs ys → MayFold plan xs → MayFold plan ys)
     (may : MayFold planned.plan (rows_in planned.pieces)) where
   -- what permuted is all rows may be folded up to some place
-  front_may_fold : (xs ys : List Entry) → IsPermutation (xs ++ ys) (rows_in planned.pieces) → MayFold planned.plan xs
+  front_may_fold : (xs ys : List RowValue) → IsPermutation (xs ++ ys) (rows_in planned.pieces) → MayFold planned.plan xs
   front_may_fold xs ys moved =
       may_fold_first planned.plan xs ys (fold planned.plan (rows_in planned.pieces) (xs ++ ys) (IsPermutation-sym (xs ++ ys) (rows_in planned.pieces) moved) may)
 
@@ -119,7 +119,7 @@ module _ {H : Type 0} (hash : List Cell → ℕ) (planned : Planned) where
 
   -- the partial result stands for some rows, and these and those of the shares left are all
   pub record Reached (left : List (PartialValue H)) (partial : PartialValue H) : Type 0 where
-    pub done : List Entry
+    pub done : List RowValue
     pub shares : List (List ℕ)
     pub whole : IsPermutation (done ++ flat_map (rows_at planned.pieces) shares) (rows_in planned.pieces)
     pub each : AllZip (Gives) shares left
@@ -137,7 +137,7 @@ module _ {H : Type 0} (hash : List Cell → ℕ) (planned : Planned) where
 
   -- the share of the next one
   pub record IsNext (other : PartialValue H) (left : List (PartialValue H)) (partial : PartialValue H) : Type 0 where
-    pub done : List Entry
+    pub done : List RowValue
     pub places : List ℕ
     pub shares : List (List ℕ)
     pub whole : IsPermutation ((done ++ rows_at planned.pieces places) ++ flat_map (rows_at planned.pieces) shares) (rows_in planned.pieces)
@@ -163,7 +163,7 @@ module _ {H : Type 0} (hash : List Cell → ℕ) (planned : Planned) where
       }
 
   -- it may be joined
-  pub meets : (other : PartialValue H) (left : List (PartialValue H)) (partial : PartialValue H) → ((plan : PlanTree) (xs ys : List Entry) → IsPermutation xs ys → MayFold plan xs → MayFold plan ys) →
+  pub meets : (other : PartialValue H) (left : List (PartialValue H)) (partial : PartialValue H) → ((plan : PlanTree) (xs ys : List RowValue) → IsPermutation xs ys → MayFold plan xs → MayFold plan ys) →
       MayFold planned.plan (rows_in planned.pieces) → IsNext other left partial → MayMeet hash partial other
   meets other left partial fold may it = record {
     plan = planned.plan;
@@ -177,7 +177,7 @@ module _ {H : Type 0} (hash : List Cell → ℕ) (planned : Planned) where
 
   -- and both together stand for one share more
   pub reached_more : (other new : PartialValue H) (left : List (PartialValue H)) (partial : PartialValue H) → IsNext other left partial →
-      ((xs ys : List Entry) → Stands hash planned.plan xs partial → Stands hash planned.plan ys other → Stands hash planned.plan (xs ++ ys) new) → Reached left new
+      ((xs ys : List RowValue) → Stands hash planned.plan xs partial → Stands hash planned.plan ys other → Stands hash planned.plan (xs ++ ys) new) → Reached left new
   reached_more other new left partial it joins = record {
     done = it.done ++ rows_at planned.pieces it.places;
     shares = it.shares;
@@ -187,7 +187,7 @@ module _ {H : Type 0} (hash : List Cell → ℕ) (planned : Planned) where
         (joins (kept planned.plan.condition it.done) (kept_at planned it.places) it.first it.second);
   }
 
-  pub reached_all : (partial : PartialValue H) → ((plan : PlanTree) (xs ys : List Entry) (tries : PartialValue H) → IsPermutation xs ys → Stands hash plan xs tries → Stands hash plan ys tries) →
+  pub reached_all : (partial : PartialValue H) → ((plan : PlanTree) (xs ys : List RowValue) (tries : PartialValue H) → IsPermutation xs ys → Stands hash plan xs tries → Stands hash plan ys tries) →
       Reached [] partial → Stands hash planned.plan (kept_in planned) partial
   reached_all partial order reached = by reached.shares reached.whole reached.each
     where

@@ -6,7 +6,7 @@ use Rattle.std.proofs.lemmas.List.{take_more, append_assoc, append-nil, drop_mor
 use Rattle.std.proofs.lemmas.List.Elements.{filter_map-append}
 use Rattle.aggs.specs.Accs.{AccsFit, acc_of, acc_together, kind_of}
 use Rattle.aggs.specs.declared.acc.Acc.{Acc}
-use Rattle.cells.specs.Values.{Entry}
+use Rattle.cells.specs.Values.{RowValue}
 use Rattle.cells.specs.declared.cell.Cell.{Cell}
 use Rattle.cells.specs.declared.cell.Cell.TheVariants.{Null}
 use Rattle.groups.specs.Accumulators.{aggregation_of, aggregations_of, AllFit, CanStep, MayStep, accs_together, stepped}
@@ -16,18 +16,18 @@ use Rattle.query.specs.declared.item.Item.{Item}
 
 module _ {H : Type 0} where
   -- the first i of the accumulators have taken the row
-  pub record Stepping (row : Entry) (aggregations : List Aggregation) (old : List (Acc H)) (i : ℕ) (accs : List (Acc H)) : Type 0 where
+  pub record Stepping (row : RowValue) (aggregations : List Aggregation) (old : List (Acc H)) (i : ℕ) (accs : List (Acc H)) : Type 0 where
     pub same : take i accs ++ stepped row (drop i aggregations) (drop i accs) ≡ stepped row aggregations old
     pub can : CanStep row (drop i aggregations) (drop i accs)
 
-  pub stepping_first : (row : Entry) (aggregations : List Aggregation) (old accs : List (Acc H)) → accs ≡ old → CanStep row aggregations old → Stepping row aggregations old 0 accs
+  pub stepping_first : (row : RowValue) (aggregations : List Aggregation) (old accs : List (Acc H)) → accs ≡ old → CanStep row aggregations old → Stepping row aggregations old 0 accs
   stepping_first row aggregations old accs e can = record { same = ap (stepped row aggregations) e; can = subst (CanStep row aggregations) (sym e) can }
 
-  many_left : (row : Entry) (a : Aggregation) (aggregations : List Aggregation) (accs : List (Acc H)) → CanStep row (a ∷ aggregations) accs → 0 < length accs
+  many_left : (row : RowValue) (a : Aggregation) (aggregations : List Aggregation) (accs : List (Acc H)) → CanStep row (a ∷ aggregations) accs → 0 < length accs
   many_left row a aggregations [] can = absurd can
   many_left row a aggregations (x ∷ accs) can = omega arith
 
-  module _ {row : Entry} {aggregations : List Aggregation} {old accs : List (Acc H)} {i : ℕ} (now : Stepping row aggregations old i accs)
+  module _ {row : RowValue} {aggregations : List Aggregation} {old accs : List (Acc H)} {i : ℕ} (now : Stepping row aggregations old i accs)
       (a : Aggregation) (within : i < length aggregations) (is : a ≡ get_or aggregations i a) where
     rest : drop i aggregations ≡ a ∷ drop (i + 1) aggregations
     rest = drop_more aggregations i a within ∙ ap (λ b. b ∷ drop (i + 1) aggregations) (sym is)
@@ -60,7 +60,7 @@ module _ {H : Type 0} where
             can = rw after can_here.1;
           }
 
-  pub stepping_all : {row : Entry} {aggregations : List Aggregation} {old accs : List (Acc H)} {i : ℕ} → Stepping row aggregations old i accs →
+  pub stepping_all : {row : RowValue} {aggregations : List Aggregation} {old accs : List (Acc H)} {i : ℕ} → Stepping row aggregations old i accs →
       length aggregations ≤ i → accs ≡ stepped row aggregations old
   stepping_all {row} {aggregations} {old} {accs} {i} now past =
       sym (take-append-drop i accs) ∙ (rw (drop_all i aggregations past) at now.same)
@@ -116,7 +116,7 @@ item_default (x ∷ xs) zero h d = refl
 item_default (x ∷ xs) (suc i) h d = item_default xs i (omega arith) d
 
 -- the cell that was read is the row's in the aggregate's column
-pub cell_read : (row : Entry) (cells : List Cell) (aggregations : List Aggregation) (i : ℕ) (h : i < length aggregations) (d : Aggregation) (x : Cell) →
+pub cell_read : (row : RowValue) (cells : List Cell) (aggregations : List Aggregation) (i : ℕ) (h : i < length aggregations) (d : Aggregation) (x : Cell) →
     cells ≡ row.cells → x ≡ get_or cells (get_or aggregations i d).column x → (item aggregations i h).column < length row.cells →
     x ≡ cell_at (item aggregations i h).column row
 cell_read row cells aggregations i h d x same is within =

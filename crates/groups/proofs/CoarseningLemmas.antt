@@ -7,7 +7,7 @@ use Rattle.std.proofs.lemmas.List.{append_assoc, append-nil, get_or-map, length-
 use Rattle.std.proofs.lemmas.List.Sorted.{IsPermutation-append_comm, IsPermutation-append_left, IsPermutation-append_right, IsPermutation-refl, IsPermutation-trans, length_permutation}
 use Rattle.aggs.specs.Room.{cell_limit}
 use Rattle.aggs.specs.declared.acc.Acc.{Acc}
-use Rattle.cells.specs.Values.{Entry}
+use Rattle.cells.specs.Values.{RowValue}
 use Rattle.cells.specs.declared.cell.Cell.{Cell}
 use Rattle.cells.specs.declared.cell.Cell.TheVariants.{Null}
 use Rattle.groups.specs.Accumulators.{AllFit, accs_of, accs_together, no_rows}
@@ -20,20 +20,20 @@ use Rattle.groups.proofs.BagLemmas.{all_in_order}
 use Rattle.groups.proofs.LayingLemmas.{all_fit}
 use Rattle.groups.proofs.TuplesLemmas.{all_both, all_first, all_second}
 
-some_both : (xs ys : List Entry) → no_rows xs ≡ false → no_rows (xs ++ ys) ≡ false
+some_both : (xs ys : List RowValue) → no_rows xs ≡ false → no_rows (xs ++ ys) ≡ false
 some_both [] ys e = cc
 some_both (x ∷ xs) ys e = refl
 
-behind : (p q r : List Entry) → IsPermutation ((p ++ q) ++ r) ((p ++ r) ++ q)
+behind : (p q r : List RowValue) → IsPermutation ((p ++ q) ++ r) ((p ++ r) ++ q)
 behind p q r = rw (append_assoc p q r, append_assoc p r q) (IsPermutation-append_right p (q ++ r) (r ++ q) (IsPermutation-append_comm q r))
 
 module _ {H : Type 0} (aggregations : List Aggregation) (columns : List ℕ) where
-  record LaterPart (groups : List (Group H)) (parts : List (List Entry)) (part : List Entry) : Type 0 where
-    new : List (List Entry)
+  record LaterPart (groups : List (Group H)) (parts : List (List RowValue)) (part : List RowValue) : Type 0 where
+    new : List (List RowValue)
     each : AreParts aggregations columns groups new
     all : IsPermutation (joined parts ++ part) (joined new)
 
-  part_joined : (g : Group H) (p : List Entry) (t : List Cell) (accs were : List (Acc H)) (part : List Entry) →
+  part_joined : (g : Group H) (p : List RowValue) (t : List Cell) (accs were : List (Acc H)) (part : List RowValue) →
       IsPart aggregations columns g p → IsPart aggregations columns (t, accs) part →
       g ≡ (t, were) → IsPart aggregations columns (t, accs_together were accs) (p ++ part)
   part_joined g p t accs were part is more e = record {
@@ -42,8 +42,8 @@ module _ {H : Type 0} (aggregations : List Aggregation) (columns : List ℕ) whe
     accs = ap₂ accs_together (sym (ap (λ h. h.1) e) ∙ is.accs) more.accs ∙ sym (accs_join aggregations p part);
   }
 
-  module _ (t : List Cell) (accs : List (Acc H)) (part : List Entry) (is : IsPart aggregations columns (t, accs) part) where
-    joined_at : (were : List (Acc H)) (groups : List (Group H)) (parts : List (List Entry)) (i : ℕ) →
+  module _ (t : List Cell) (accs : List (Acc H)) (part : List RowValue) (is : IsPart aggregations columns (t, accs) part) where
+    joined_at : (were : List (Acc H)) (groups : List (Group H)) (parts : List (List RowValue)) (i : ℕ) →
         AreParts aggregations columns groups parts → i < length groups → ((d : Group H) → get_or groups i d ≡ (t, were)) →
         LaterPart (set groups i (t, accs_together were accs)) parts part
     joined_at were [] parts i are h e = absurd (omega arith)
@@ -61,7 +61,7 @@ module _ {H : Type 0} (aggregations : List Aggregation) (columns : List ℕ) whe
           all = rw append_assoc (IsPermutation-append_right p (joined parts ++ part) (joined rest.new) rest.all);
         }
 
-    added_part : (groups : List (Group H)) (parts : List (List Entry)) → AreParts aggregations columns groups parts →
+    added_part : (groups : List (Group H)) (parts : List (List RowValue)) → AreParts aggregations columns groups parts →
         LaterPart (groups ++ (t, accs) ∷ []) parts part
     added_part [] [] are = record { new = part ∷ []; each = (is, tt); all = rw (append-nil part) (IsPermutation-refl part) }
     added_part [] (p ∷ parts) are = absurd are
@@ -74,7 +74,7 @@ module _ {H : Type 0} (aggregations : List Aggregation) (columns : List ℕ) whe
           all = rw append_assoc (IsPermutation-append_right p (joined parts ++ part) (joined rest.new) rest.all);
         }
 
-    covers_part : (rows : List Entry) (old new : List (Group H)) → Covers aggregations columns rows old →
+    covers_part : (rows : List RowValue) (old new : List (Group H)) → Covers aggregations columns rows old →
         TakesGroup t accs old new → Covers aggregations columns (rows ++ part) new
     covers_part rows old new covers (inl steps) =
         let later = joined_at steps.were old covers.parts steps.place covers.each steps.within steps.at in
@@ -92,14 +92,14 @@ module _ {H : Type 0} (aggregations : List Aggregation) (columns : List ℕ) whe
         }
 
   -- what is left of the parts when the last one is taken off
-  record LastPart (groups : List (Group H)) (g : Group H) (parts : List (List Entry)) : Type 0 where
-    firsts : List (List Entry)
-    part : List Entry
+  record LastPart (groups : List (Group H)) (g : Group H) (parts : List (List RowValue)) : Type 0 where
+    firsts : List (List RowValue)
+    part : List RowValue
     are : AreParts aggregations columns groups firsts
     is : IsPart aggregations columns g part
     whole : joined parts ≡ joined firsts ++ part
 
-  last_part : (groups : List (Group H)) (g : Group H) (parts : List (List Entry)) →
+  last_part : (groups : List (Group H)) (g : Group H) (parts : List (List RowValue)) →
       AreParts aggregations columns (groups ++ g ∷ []) parts → LastPart groups g parts
   last_part [] g [] are = absurd are
   last_part [] g (p ∷ []) are = record { firsts = []; part = p; are = tt; is = are.0; whole = append-nil p }
@@ -118,7 +118,7 @@ module _ {H : Type 0} (aggregations : List Aggregation) (columns : List ℕ) whe
   pub regroups_none : (new : List (Group H)) → new ≡ [] → Regroups aggregations columns [] new
   regroups_none new e = record { serves = λ parts are. subst (λ gs. Covers aggregations columns (joined parts) gs) (sym e) (none parts are) }
     where
-      none : (parts : List (List Entry)) → AreParts {H = H} aggregations columns [] parts → Covers {H = H} aggregations columns (joined parts) []
+      none : (parts : List (List RowValue)) → AreParts {H = H} aggregations columns [] parts → Covers {H = H} aggregations columns (joined parts) []
       none [] are = record { parts = []; each = tt; all = IsPermutation-refl [] }
       none (p ∷ parts) are = absurd are
 
@@ -132,8 +132,8 @@ module _ {H : Type 0} (aggregations : List Aggregation) (columns : List ℕ) whe
   }
 
   -- each group that is there takes one more
-  parts_fit : (part : List Entry) (accs : List (Acc H)) → AllByRecursion (FitsRow aggregations) part → accs ≡ accs_of aggregations part →
-      (groups : List (Group H)) (parts : List (List Entry)) → AreParts aggregations columns groups parts → AllByRecursion (FitsRow aggregations) (joined parts) →
+  parts_fit : (part : List RowValue) (accs : List (Acc H)) → AllByRecursion (FitsRow aggregations) part → accs ≡ accs_of aggregations part →
+      (groups : List (Group H)) (parts : List (List RowValue)) → AreParts aggregations columns groups parts → AllByRecursion (FitsRow aggregations) (joined parts) →
       length (joined parts) + length part ≤ cell_limit → AllByRecursion (λ h. AllFit h.1 accs) groups
   parts_fit part accs fit e [] parts are all few = tt
   parts_fit part accs fit e (h ∷ groups) [] are all few = absurd are
@@ -143,7 +143,7 @@ module _ {H : Type 0} (aggregations : List Aggregation) (columns : List ℕ) whe
     parts_fit part accs fit e groups parts are.1 (all_second _ p (joined parts) all) (omega (arith, few, length-append p (joined parts))),
   )
 
-  pub regroups_fit : (groups : List (Group H)) (g : Group H) (parts : List (List Entry)) (old : List (Group H)) →
+  pub regroups_fit : (groups : List (Group H)) (g : Group H) (parts : List (List RowValue)) (old : List (Group H)) →
       Regroups aggregations columns groups old → AreParts aggregations columns (groups ++ g ∷ []) parts → CanCount aggregations (joined parts) →
       AllByRecursion (λ h. AllFit h.1 g.1) old
   regroups_fit groups g parts old now are can =
@@ -155,13 +155,13 @@ module _ {H : Type 0} (aggregations : List Aggregation) (columns : List ℕ) whe
       (omega (arith, can.few, ap length last.whole, length-append (joined last.firsts) last.part, length_permutation (joined last.firsts) (joined covers.parts) covers.all))
 
 module _ {H : Type 0} (aggregations : List Aggregation) (columns : List ℕ) where
-  record FirstParts (before : List (Group H)) (parts : List (List Entry)) : Type 0 where
-    firsts : List (List Entry)
+  record FirstParts (before : List (Group H)) (parts : List (List RowValue)) : Type 0 where
+    firsts : List (List RowValue)
     are : AreParts aggregations columns before firsts
     fit : AllByRecursion (FitsRow aggregations) (joined firsts)
     short : length (joined firsts) ≤ length (joined parts)
 
-  first_parts : (before after : List (Group H)) (parts : List (List Entry)) → AreParts aggregations columns (before ++ after) parts →
+  first_parts : (before after : List (Group H)) (parts : List (List RowValue)) → AreParts aggregations columns (before ++ after) parts →
       AllByRecursion (FitsRow aggregations) (joined parts) → FirstParts before parts
   first_parts [] after parts are all = record { firsts = []; are = tt; fit = tt; short = omega arith }
   first_parts (g ∷ before) after [] are all = absurd are
@@ -174,14 +174,14 @@ module _ {H : Type 0} (aggregations : List Aggregation) (columns : List ℕ) whe
         short = omega (arith, rest.short, length-append p (joined parts), length-append p (joined rest.firsts));
       }
 
-  wide_tuple : (g : Group H) (part : List Entry) → IsPart aggregations columns g part → length g.0 ≡ length columns
+  wide_tuple : (g : Group H) (part : List RowValue) → IsPart aggregations columns g part → length g.0 ≡ length columns
   wide_tuple g part is = by_part part is.some is.alike
     where
-      by_part : (part : List Entry) → no_rows part ≡ false → AllByRecursion (λ r. tuple_of columns r ≡ g.0) part → length g.0 ≡ length columns
+      by_part : (part : List RowValue) → no_rows part ≡ false → AllByRecursion (λ r. tuple_of columns r ≡ g.0) part → length g.0 ≡ length columns
       by_part [] e alike = cc
       by_part (r ∷ part) e alike = ap length (sym alike.0) ∙ length-map columns (λ c. get_or r.cells c Null)
 
-  wide_at : (groups : List (Group H)) (parts : List (List Entry)) (i : ℕ) (g : Group H) →
+  wide_at : (groups : List (Group H)) (parts : List (List RowValue)) (i : ℕ) (g : Group H) →
       AreParts aggregations columns groups parts → i < length groups → g ≡ get_or groups i g → length g.0 ≡ length columns
   wide_at [] parts i g are h is = absurd (omega arith)
   wide_at (f ∷ groups) [] i g are h is = absurd are
@@ -189,13 +189,13 @@ module _ {H : Type 0} (aggregations : List Aggregation) (columns : List ℕ) whe
   wide_at (f ∷ groups) (p ∷ parts) (suc i) g are h is = wide_at groups parts i g are.1 (omega arith) is
 
 -- ---- coarser tuples
-picked_tuple : (columns places : List ℕ) (row : Entry) → AreWithin (length columns) places →
+picked_tuple : (columns places : List ℕ) (row : RowValue) → AreWithin (length columns) places →
     tuple_of (picked_columns columns places) row ≡ picked places (tuple_of columns row)
 picked_tuple columns [] row all = refl
 picked_tuple columns (i ∷ places) row all = ap₂ (λ (c : Cell) (cs : List Cell). c ∷ cs)
     (sym (get_or-map (λ c. cell_at c row) columns i 0 Null all.0)) (picked_tuple columns places row all.1)
 
-alike_coarser : (columns places : List ℕ) → AreWithin (length columns) places → (t : List Cell) (part : List Entry) →
+alike_coarser : (columns places : List ℕ) → AreWithin (length columns) places → (t : List Cell) (part : List RowValue) →
     AllByRecursion (λ r. tuple_of columns r ≡ t) part → AllByRecursion (λ r. tuple_of (picked_columns columns places) r ≡ picked places t) part
 alike_coarser columns places all t [] alike = tt
 alike_coarser columns places all t (r ∷ part) alike =
@@ -212,7 +212,7 @@ module _ {H : Type 0} (places : List ℕ) (groups : List (Group H)) (i : ℕ) (g
       (regroups_more aggregations (picked_columns columns places) (coarser places (take i groups)) (picked places g.0, g.1) old new now takes)
 
 module _ {H : Type 0} (aggregations : List Aggregation) (columns places : List ℕ) (all : AreWithin (length columns) places) where
-  parts_coarser : (groups : List (Group H)) (parts : List (List Entry)) → AreParts aggregations columns groups parts →
+  parts_coarser : (groups : List (Group H)) (parts : List (List RowValue)) → AreParts aggregations columns groups parts →
       AreParts aggregations (picked_columns columns places) (coarser places groups) parts
   parts_coarser [] [] are = tt
   parts_coarser [] (p ∷ parts) are = absurd are
@@ -221,13 +221,13 @@ module _ {H : Type 0} (aggregations : List Aggregation) (columns places : List �
       let is = are.0 in
       (record { some = is.some; alike = alike_coarser columns places all g.0 p is.alike; accs = is.accs }, parts_coarser groups parts are.1)
 
-  covers_coarser : (rows : List Entry) (groups : List (Group H)) → Covers aggregations columns rows groups →
+  covers_coarser : (rows : List RowValue) (groups : List (Group H)) → Covers aggregations columns rows groups →
       Covers aggregations (picked_columns columns places) rows (coarser places groups)
   covers_coarser rows groups covers = record { parts = covers.parts; each = parts_coarser groups covers.parts covers.each; all = covers.all }
 
 module _ {H : Type 0} (aggregations : List Aggregation) (columns places : List ℕ) (all : AreWithin (length columns) places)
     (groups : List (Group H)) where
-  regrouped_all : (rows : List Entry) (bag : List (Group H)) (i : ℕ) → length groups ≤ i →
+  regrouped_all : (rows : List RowValue) (bag : List (Group H)) (i : ℕ) → length groups ≤ i →
       Regroups aggregations (picked_columns columns places) (coarser places (take i groups)) bag →
       Covers aggregations columns rows groups → Covers aggregations (picked_columns columns places) rows bag
   regrouped_all rows bag i past now covers =
@@ -237,7 +237,7 @@ module _ {H : Type 0} (aggregations : List Aggregation) (columns places : List �
       record { parts = made.parts; each = made.each; all = IsPermutation-trans _ _ _ served.all made.all }
 
   module _ (i : ℕ) (g : Group H) (h : i < length groups) (is : g ≡ get_or groups i g) where
-    coarse_wide : (rows : List Entry) → Covers aggregations columns rows groups → AreWithin (length g.0) places
+    coarse_wide : (rows : List RowValue) → Covers aggregations columns rows groups → AreWithin (length g.0) places
     coarse_wide rows covers = subst (λ n. AreWithin n places) (sym (wide_at aggregations columns groups covers.parts i g covers.each h is)) all
 
     coarse_fit : (old : List (Group H)) → IsCounted aggregations columns groups →
@@ -264,7 +264,7 @@ module _ {H : Type 0} (places : List ℕ) (groups : List (Group H)) where
   pub coarsening_first : (bag : List (Group H)) → bag ≡ [] → Coarsening places groups 0 bag
   coarsening_first bag e = record { regroups = λ aggregations columns. regroups_none aggregations (picked_columns columns places) bag e }
 
-  pub coarsening_all : (bag : List (Group H)) (i : ℕ) → length groups ≤ i → Coarsening places groups i bag → (aggregations : List Aggregation) (columns : List ℕ) (rows : List Entry) →
+  pub coarsening_all : (bag : List (Group H)) (i : ℕ) → length groups ≤ i → Coarsening places groups i bag → (aggregations : List Aggregation) (columns : List ℕ) (rows : List RowValue) →
       AreWithin (length columns) places → Covers aggregations columns rows groups → Covers aggregations (picked_columns columns places) rows bag
   coarsening_all bag i past now aggregations columns rows all covers =
       regrouped_all aggregations columns places all groups rows bag i past (now.regroups aggregations columns) covers

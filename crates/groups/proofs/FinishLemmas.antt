@@ -12,7 +12,7 @@ use Rattle.aggs.specs.Accs.{acc_finishes}
 use Rattle.aggs.specs.declared.acc.Acc.{Acc}
 use Rattle.aggs.specs.declared.acc.Kind.TheVariants as kind
 use Rattle.cells.specs.TupleOrder.{tuple_cmp, tuple_eq-equiv}
-use Rattle.cells.specs.Values.{Entry}
+use Rattle.cells.specs.Values.{RowValue}
 use Rattle.cells.specs.declared.cell.Cell.{Cell}
 use Rattle.cells.specs.declared.total.Total.{Total}
 use Rattle.cells.specs.declared.total.Total.TheVariants as total
@@ -35,7 +35,7 @@ more_values : {x y : Total} {xs ys : List Total} → x ≡ y → xs ≡ ys → x
 more_values e f = ap₂ (λ (x : Total) (l : List Total). x ∷ l) e f
 
 -- each aggregate meets its own accumulator
-pub row_is : (H : Type 0) (set : List ℕ) (tuple : List Cell) (rows : List Entry) (items : List (Item ℕ)) →
+pub row_is : (H : Type 0) (set : List ℕ) (tuple : List Cell) (rows : List RowValue) (items : List (Item ℕ)) →
     row_by set tuple items (accs_of {H = H} (aggregations_of items) rows) ≡ map (item_value set tuple rows) items
 row_is H set tuple rows [] = refl
 row_is H set tuple rows (item.Column c ∷ items) = more_values refl (row_is H set tuple rows items)
@@ -74,7 +74,7 @@ module _ {H : Type 0} where
   rows_next set items xs i x h is old made new row now of e = e ∙ ap (λ l. l ++ row ∷ []) now ∙ append_assoc old (rows_by set items (take i (lent xs))) (row ∷ [])
       ∙ ap (λ l. old ++ l) (ap (λ r. rows_by set items (take i (lent xs)) ++ r ∷ []) of ∙ sym (rows_more set items xs i x h is))
 
-  module _ (hash : List Cell → ℕ) (set : List ℕ) (items : List (Item ℕ)) (rows : List Entry) where
+  module _ (hash : List Cell → ℕ) (set : List ℕ) (items : List (Item ℕ)) (rows : List RowValue) where
     -- a group has the accumulators of its tuple's rows
     abbrev HasAccs : List Cell × List (Acc H) → Type 0
     HasAccs g = g.1 ≡ accs_of (aggregations_of items) (members set g.0 rows)
@@ -106,8 +106,8 @@ module _ {H : Type 0} where
   -- the rows so far, with those of the sets that are left, are all rows
   pub record Finishing (hash : List Cell → ℕ) (plan : PlanTree) (tries : List (List (List Cell × List (Acc H))))
       (made : List (List Total)) (left : List (List ℕ)) (later : List (List (List Cell × List (Acc H)))) : Type 0 where
-    pub stand : (rows : List Entry) → Stands hash plan rows tries → StandsEach hash (aggregations_of plan.items) left rows later
-    pub same : (rows : List Entry) → Stands hash plan rows tries → made ++ flat_map (λ set. set_rows plan.items set rows) left ≡ rows_over plan rows
+    pub stand : (rows : List RowValue) → Stands hash plan rows tries → StandsEach hash (aggregations_of plan.items) left rows later
+    pub same : (rows : List RowValue) → Stands hash plan rows tries → made ++ flat_map (λ set. set_rows plan.items set rows) left ≡ rows_over plan rows
 
   module _ (hash : List Cell → ℕ) (plan : PlanTree) (tries : List (List (List Cell × List (Acc H)))) where
     pub finishing_first : (made : List (List Total)) → made ≡ [] → Finishing hash plan tries made plan.sets tries
@@ -116,10 +116,10 @@ module _ {H : Type 0} where
     module _ {made : List (List Total)} {left : List (List ℕ)} {later : List (List (List Cell × List (Acc H)))} (now : Finishing hash plan tries made left later) where
       pub finishing_more : {set : List ℕ} {t : List (List Cell × List (Acc H))} {sets : List (List ℕ)} {more : List (List (List Cell × List (Acc H)))} →
           left ≡ set ∷ sets → later ≡ t ∷ more → (new : List (List Total)) →
-          ((rows : List Entry) → StandsAt hash (aggregations_of plan.items) set rows t → new ≡ made ++ set_rows plan.items set rows) →
+          ((rows : List RowValue) → StandsAt hash (aggregations_of plan.items) set rows t → new ≡ made ++ set_rows plan.items set rows) →
           Finishing hash plan tries new sets more
       finishing_more {set} {t} {sets} {more} p q new e =
-          let at : (rows : List Entry) → Stands hash plan rows tries → StandsEach hash (aggregations_of plan.items) (set ∷ sets) rows (t ∷ more) =
+          let at : (rows : List RowValue) → Stands hash plan rows tries → StandsEach hash (aggregations_of plan.items) (set ∷ sets) rows (t ∷ more) =
           λ rows s. subst (λ l. StandsEach hash (aggregations_of plan.items) l rows (t ∷ more)) p
           (subst (λ l. StandsEach hash (aggregations_of plan.items) left rows l) q (now.stand rows s)) in
           record {
@@ -129,13 +129,13 @@ module _ {H : Type 0} where
                 ∙ ap (λ l. made ++ flat_map (λ set. set_rows plan.items set rows) l) (sym p) ∙ now.same rows s;
           }
 
-      no_sets : (rows : List Entry) (ss : List (List ℕ)) (ts : List (List (List Cell × List (Acc H)))) →
+      no_sets : (rows : List RowValue) (ss : List (List ℕ)) (ts : List (List (List Cell × List (Acc H)))) →
           StandsEach hash (aggregations_of plan.items) ss rows ts → (ss ≡ []) ⊎ (ts ≡ []) → ss ≡ []
       no_sets rows [] ts s h = refl
       no_sets rows (c ∷ ss) [] s h = absurd s
       no_sets rows (c ∷ ss) (t ∷ ts) s (inl e) = cc
       no_sets rows (c ∷ ss) (t ∷ ts) s (inr e) = cc
 
-      pub finishing_all : (left ≡ []) ⊎ (later ≡ []) → (rows : List Entry) → Stands hash plan rows tries → made ≡ rows_over plan rows
+      pub finishing_all : (left ≡ []) ⊎ (later ≡ []) → (rows : List RowValue) → Stands hash plan rows tries → made ≡ rows_over plan rows
       finishing_all h rows s = sym (append-nil made)
           ∙ ap (λ l. made ++ flat_map (λ set. set_rows plan.items set rows) l) (sym (no_sets rows left later (now.stand rows s) h)) ∙ now.same rows s

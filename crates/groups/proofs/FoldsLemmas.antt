@@ -5,7 +5,7 @@ use Rattle.std.specs.List.Sorted.{IsPermutation}
 use Rattle.std.proofs.Common.{get_or, ap, ap₂, sym, ◌∙◌, subst, arith}
 use Rattle.std.proofs.lemmas.List.Sorted.{length_permutation}
 use Rattle.cells.specs.Fitting.{IsRowOf}
-use Rattle.cells.specs.Values.{Entry}
+use Rattle.cells.specs.Values.{RowValue}
 use Rattle.cells.specs.declared.cell.Cell.{Cell}
 use Rattle.groups.specs.Accumulators.{aggregations_of}
 use Rattle.groups.specs.Bags.{CanFoldSet, Covers, Group}
@@ -26,7 +26,7 @@ use Rattle.query.specs.Plans.{PlanTree}
 -- ---- source by source
 module _ {H : Type 0} (rows : KeptRows H) where
   pub fills_source : (columns : List ℕ) (was : List (Group H)) (old new : SetBag H) → columns ≡ old.set.items → was ≡ old.bag → new.set.items ≡ old.set.items →
-      ((befores : List Entry) → Covers rows.aggregations.now columns befores was → Covers rows.aggregations.now columns (befores ++ kept_of rows) new.bag) → FillsSource rows old new
+      ((befores : List RowValue) → Covers rows.aggregations.now columns befores was → Covers rows.aggregations.now columns (befores ++ kept_of rows) new.bag) → FillsSource rows old new
   fills_source columns was old new same is stays serves = record {
     set_stays = stays;
     serves = λ befores covers.
@@ -75,7 +75,7 @@ module _ {H : Type 0} (rows : KeptRows H) where
   gone_sets zero (o ∷ old) (n ∷ new) h now = absurd (omega (arith, h))
   gone_sets (suc i) (o ∷ old) (n ∷ new) h now = ap₂ (λ (s : List ℕ) (rest : List (List ℕ)). s ∷ rest) (now.0).set_stays (gone_sets i old new (omega (arith, h)) now.1)
 
-  gone_covers : (befores : List Entry) (i : ℕ) (old new : List (SetBag H)) → length old ≤ i → GoneOn i old new →
+  gone_covers : (befores : List RowValue) (i : ℕ) (old new : List (SetBag H)) → length old ≤ i → GoneOn i old new →
       AllByRecursion (λ (f : SetBag H). Covers rows.aggregations.now f.set.items befores f.bag) old →
       AllByRecursion (λ (f : SetBag H). Covers rows.aggregations.now f.set.items (befores ++ kept_of rows) f.bag) new
   gone_covers befores i [] [] h now all = tt
@@ -104,7 +104,7 @@ module _ {H : Type 0} (rows : KeptRows H) where
       (subst (λ n. GoneOn n old (set now i g)) next (gone_more i old now g f h gone (subst (λ x. FillsSource rows x g) (is ∙ gone_at i old now f gone) goes)))
 
 -- ---- the sources of a plan
-pub may_fold_any_order : (plan : PlanTree) (xs ys : List Entry) → IsPermutation xs ys → MayFold plan xs → MayFold plan ys
+pub may_fold_any_order : (plan : PlanTree) (xs ys : List RowValue) → IsPermutation xs ys → MayFold plan xs → MayFold plan ys
 may_fold_any_order plan xs ys p may = record {
   table = may.table;
   planned = may.planned;
@@ -112,7 +112,7 @@ may_fold_any_order plan xs ys p may = record {
   few = omega (arith, may.few, length_permutation xs ys p);
 }
 
-can_by : (laws : PlansFitRows) (plan : PlanTree) (rows : List Entry) (columns : List ℕ) → MayFold plan rows → Contains plan.sets columns → CanFoldSet plan.condition (aggregations_of plan.items) columns rows
+can_by : (laws : PlansFitRows) (plan : PlanTree) (rows : List RowValue) (columns : List ℕ) → MayFold plan rows → Contains plan.sets columns → CanFoldSet plan.condition (aggregations_of plan.items) columns rows
 can_by laws plan rows columns may contains =
     let can : CanFold plan (aggregations_of plan.items) rows = can_fold laws plan (aggregations_of plan.items) rows refl may in
     subst (λ s. CanFoldSet plan.condition (aggregations_of plan.items) s rows) contains.2
@@ -136,7 +136,7 @@ module _ {H : Type 0} where
     covers = (sources.planned).none (aggregations_of plan.items);
   }
 
-  pub folds_more : (plan : PlanTree) (befores : List Entry) (old new : Folding H) (rows : KeptRows H) → Folds plan befores old → new.plan.now ≡ old.plan.now →
+  pub folds_more : (plan : PlanTree) (befores : List RowValue) (old new : Folding H) (rows : KeptRows H) → Folds plan befores old → new.plan.now ≡ old.plan.now →
       new.aggregations.items ≡ old.aggregations.items → rows.plan.now ≡ old.plan.now → rows.aggregations.now ≡ old.aggregations.items →
       FillsSources rows old.sources.items new.sources.items → Folds plan (befores ++ kept plan.condition (rows_of rows.piece.now)) new
   folds_more plan befores old new rows folds same_plan same_aggregations by with all = record {
@@ -159,7 +159,7 @@ module _ {H : Type 0} where
           (subst (λ p. IsPool rows.aggregations.now (befores ++ kept p.condition (rows_of rows.piece.now)) new.sources.items) is_plan
           (all.serves befores (subst (λ a. IsPool a befores old.sources.items) (sym are) folds.covers)))
 
-  go_each : (rows : KeptRows H) (plan : PlanTree) (taken : List Entry) → ((set : List ℕ) → Contains plan.sets set → CanFoldSet rows.plan.now.condition rows.aggregations.now set (taken ++ rows_of rows.piece.now)) →
+  go_each : (rows : KeptRows H) (plan : PlanTree) (taken : List RowValue) → ((set : List ℕ) → Contains plan.sets set → CanFoldSet rows.plan.now.condition rows.aggregations.now set (taken ++ rows_of rows.piece.now)) →
       (sources : List (SetBag H)) → AllByRecursion (Contains plan.sets) (sets_of sources) →
       AllByRecursion (λ (f : SetBag H). Covers rows.aggregations.now f.set.items (kept rows.plan.now.condition taken) f.bag) sources → AllByRecursion (MayFillSource rows) sources
   go_each rows plan taken can [] among covers = tt
@@ -193,9 +193,9 @@ module _ {H : Type 0} where
   pub end_finer : (folding : Folding H) (sets : List (List ℕ)) → sets ≡ folding.plan.now.sets → MayEnd folding → HaveFiner folding.sources.items sets
   end_finer folding sets is may = rw (is, (may.folds).planned) (may.folds).finer
 
-  pub stands_end : (hash : List Cell → ℕ) (folding : Folding H) (aggregations : List Aggregation) (sets : List (List ℕ)) (tries : List (List (Group H))) (plan : PlanTree) (rows : List Entry) →
+  pub stands_end : (hash : List Cell → ℕ) (folding : Folding H) (aggregations : List Aggregation) (sets : List (List ℕ)) (tries : List (List (Group H))) (plan : PlanTree) (rows : List RowValue) →
       aggregations ≡ folding.aggregations.items → sets ≡ folding.plan.now.sets → Folds plan rows folding →
-      ((rows : List Entry) → IsPool aggregations rows folding.sources.items → StandsEach hash aggregations sets rows tries) → Stands hash plan rows tries
+      ((rows : List RowValue) → IsPool aggregations rows folding.sources.items → StandsEach hash aggregations sets rows tries) → Stands hash plan rows tries
   stands_end hash folding aggregations sets tries plan rows is are folds stands =
       let same : aggregations ≡ aggregations_of plan.items = is ∙ folds.aggregations in
       let each : StandsEach hash aggregations sets rows tries = stands rows (rw same folds.covers) in

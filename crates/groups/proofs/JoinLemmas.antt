@@ -10,7 +10,7 @@ use Rattle.aggs.specs.Room.{cell_limit}
 use Rattle.aggs.specs.declared.acc.Acc.{Acc}
 use Rattle.cells.specs.Fitting.{AreStored, IsRowOf, IsStored, cells_are_stored}
 use Rattle.cells.specs.TupleOrder.{tuple_cmp, tuple_eq}
-use Rattle.cells.specs.Values.{Entry, Table}
+use Rattle.cells.specs.Values.{RowValue, Table}
 use Rattle.cells.specs.declared.cell.Cell.{Cell}
 use Rattle.cells.specs.declared.cell.Cell.TheVariants.{Null}
 use Rattle.groups.specs.Accumulators.{AllFit, accs_of, accs_together, aggregations_of, both, group, group_or, is_start}
@@ -31,7 +31,7 @@ stored_at [] i s = tt
 stored_at (c ∷ cells) zero s = s.0
 stored_at (c ∷ cells) (suc i) s = stored_at cells i s.1
 
-stored_column : (table : Table) (column : ℕ) (rows : List Entry) → AllByRecursion (IsRowOf table) rows → AreStored (column_of column rows)
+stored_column : (table : Table) (column : ℕ) (rows : List RowValue) → AllByRecursion (IsRowOf table) rows → AreStored (column_of column rows)
 stored_column table column [] fit = tt
 stored_column table column (r ∷ rows) fit = (
   stored_at r.cells column (cells_are_stored r.cells table.columns (fit.0).cells),
@@ -39,7 +39,7 @@ stored_column table column (r ∷ rows) fit = (
 )
 
 -- what rows of one table went into can be put together
-all_fit : (H : Type 0) (table : Table) (aggregations : List Aggregation) (xs ys : List Entry) → AllByRecursion (IsRowOf table) xs →
+all_fit : (H : Type 0) (table : Table) (aggregations : List Aggregation) (xs ys : List RowValue) → AllByRecursion (IsRowOf table) xs →
     AllByRecursion (IsRowOf table) ys → length xs + length ys ≤ cell_limit → AllFit (accs_of {H = H} aggregations xs) (accs_of aggregations ys)
 all_fit H table [] xs ys s t few = tt
 all_fit H table (a ∷ aggregations) xs ys s t few = (
@@ -53,7 +53,7 @@ all_fit H table (a ∷ aggregations) xs ys s t few = (
 )
 
 module _ {H : Type 0} where
-  some_is : (aggregations : List Aggregation) (start : Bool) (rows : List Entry) (a : List (Acc H)) → group_or aggregations start rows ≡ Some a →
+  some_is : (aggregations : List Aggregation) (start : Bool) (rows : List RowValue) (a : List (Acc H)) → group_or aggregations start rows ≡ Some a →
       a ≡ accs_of aggregations rows
   some_is aggregations true [] a e = cc
   some_is aggregations false [] a e = cc
@@ -85,7 +85,7 @@ module _ {H : Type 0} where
     meets_room first second r s m =
         omega (arith, (m.rows).few, stands_short hash m.aggregations m.set m.xs first r m.of_first, stands_short hash m.aggregations m.set m.ys second s m.of_second)
 
-    stands_joined : (aggregations : List Aggregation) (set : List ℕ) (xs ys : List Entry) (a b c : List (List Cell × List (Acc H))) →
+    stands_joined : (aggregations : List Aggregation) (set : List ℕ) (xs ys : List RowValue) (a b c : List (List Cell × List (Acc H))) →
         StandsAt hash aggregations set xs a → StandsAt hash aggregations set ys b → Joins hash a b c → StandsAt hash aggregations set (xs ++ ys) c
     stands_joined aggregations set xs ys a b c s t j = record {
       gives = λ q. j.values q ∙ blended_both (value_at (digit_order hash tuple_cmp) a q) (value_at (digit_order hash tuple_cmp) b q)
@@ -94,7 +94,7 @@ module _ {H : Type 0} where
     }
 
     -- ---- set by set
-    joined_each : (aggregations : List Aggregation) (xs ys : List Entry) (sets : List (List ℕ)) (firsts seconds new : List (List (List Cell × List (Acc H)))) →
+    joined_each : (aggregations : List Aggregation) (xs ys : List RowValue) (sets : List (List ℕ)) (firsts seconds new : List (List (List Cell × List (Acc H)))) →
         StandsEach hash aggregations sets xs firsts → StandsEach hash aggregations sets ys seconds → JoinsEach hash firsts seconds new →
         StandsEach hash aggregations sets (xs ++ ys) new
     joined_each aggregations xs ys [] [] [] [] s t j = tt
@@ -107,13 +107,13 @@ module _ {H : Type 0} where
     joined_each aggregations xs ys (c ∷ sets) (a ∷ firsts) (b ∷ seconds) (n ∷ new) s t j =
         (stands_joined aggregations c xs ys a b n s.0 t.0 j.0, joined_each aggregations xs ys sets firsts seconds new s.1 t.1 j.1)
 
-    pub joined_stand : (plan : PlanTree) (xs ys : List Entry) (firsts seconds new : List (List (List Cell × List (Acc H)))) →
+    pub joined_stand : (plan : PlanTree) (xs ys : List RowValue) (firsts seconds new : List (List (List Cell × List (Acc H)))) →
         Stands hash plan xs firsts → Stands hash plan ys seconds → JoinsEach hash firsts seconds new → Stands hash plan (xs ++ ys) new
     joined_stand plan xs ys firsts seconds new s t j = record {
       each = joined_each (aggregations_of plan.items) xs ys plan.sets firsts seconds new s.each t.each j;
     }
 
-    each_any_order : (aggregations : List Aggregation) (xs ys : List Entry) → IsPermutation xs ys → (sets : List (List ℕ)) (tries : List (List (List Cell × List (Acc H)))) →
+    each_any_order : (aggregations : List Aggregation) (xs ys : List RowValue) → IsPermutation xs ys → (sets : List (List ℕ)) (tries : List (List (List Cell × List (Acc H)))) →
         StandsEach hash aggregations sets xs tries → StandsEach hash aggregations sets ys tries
     each_any_order aggregations xs ys p [] [] s = tt
     each_any_order aggregations xs ys p [] (t ∷ tries) s = absurd s
@@ -123,7 +123,7 @@ module _ {H : Type 0} where
       each_any_order aggregations xs ys p sets tries s.1,
     )
 
-    pub stands_any_order : (plan : PlanTree) (xs ys : List Entry) (tries : List (List (List Cell × List (Acc H)))) → IsPermutation xs ys →
+    pub stands_any_order : (plan : PlanTree) (xs ys : List RowValue) (tries : List (List (List Cell × List (Acc H)))) → IsPermutation xs ys →
         Stands hash plan xs tries → Stands hash plan ys tries
     stands_any_order plan xs ys tries p s = record { each = each_any_order (aggregations_of plan.items) xs ys p plan.sets tries s.each }
 
@@ -132,8 +132,8 @@ module _ {H : Type 0} where
     pub record Meets (firsts seconds : List (List (List Cell × List (Acc H)))) : Type 0 where
       pub aggregations : List Aggregation
       pub sets : List (List ℕ)
-      pub xs : List Entry
-      pub ys : List Entry
+      pub xs : List RowValue
+      pub ys : List RowValue
       pub rows : AreTogether xs ys
       pub of_firsts : StandsEach hash aggregations sets xs firsts
       pub of_seconds : StandsEach hash aggregations sets ys seconds

@@ -13,7 +13,7 @@ use Rattle.aggs.specs.Room.{cell_limit}
 use Rattle.aggs.specs.declared.acc.Acc.{Acc}
 use Rattle.cells.specs.SameKeys.{exact_tuples, same_tuples}
 use Rattle.cells.specs.TupleOrder.{tuple_cmp, tuple_cmp-total, tuple_eq}
-use Rattle.cells.specs.Values.{Entry}
+use Rattle.cells.specs.Values.{RowValue}
 use Rattle.cells.specs.declared.cell.Cell.{Cell}
 use Rattle.groups.specs.Accumulators.{AllFit, accs_of, both, group, group_or, is_start, no_rows}
 use Rattle.groups.specs.Bags.{AreParts, Covers, FitsRow, Group, IsCounted, IsPart, joined}
@@ -48,7 +48,7 @@ pub record AreMaps (H : Type 0) (hash : List Cell → ℕ) : Type 0 where
 
 -- ---- what rows went into can be put together
 module _ (H : Type 0) where
-  all_fit_by : (all : List Aggregation) (xs ys : List Entry) → AllByRecursion (FitsRow all) xs → AllByRecursion (FitsRow all) ys →
+  all_fit_by : (all : List Aggregation) (xs ys : List RowValue) → AllByRecursion (FitsRow all) xs → AllByRecursion (FitsRow all) ys →
       length xs + length ys ≤ cell_limit → (aggregations : List Aggregation) → AllFit (accs_of {H = H} aggregations xs) (accs_of aggregations ys)
   all_fit_by all xs ys s t few [] = tt
   all_fit_by all xs ys s t few (a ∷ aggregations) = (
@@ -61,7 +61,7 @@ module _ (H : Type 0) where
     all_fit_by all xs ys s t few aggregations,
   )
 
-  pub all_fit : (aggregations : List Aggregation) (xs ys : List Entry) → AllByRecursion (FitsRow aggregations) xs → AllByRecursion (FitsRow aggregations) ys →
+  pub all_fit : (aggregations : List Aggregation) (xs ys : List RowValue) → AllByRecursion (FitsRow aggregations) xs → AllByRecursion (FitsRow aggregations) ys →
       length xs + length ys ≤ cell_limit → AllFit (accs_of {H = H} aggregations xs) (accs_of aggregations ys)
   all_fit aggregations xs ys s t few = all_fit_by aggregations xs ys s t few aggregations
 
@@ -154,16 +154,16 @@ module _ {H : Type 0} where
       subst (λ l. IsLaid hash aggregations columns l old) (take_all i groups h) now
 
   module _ (aggregations : List Aggregation) (columns : List ℕ) where
-    record IsSplit (before : List (Group H)) (g : Group H) (parts : List (List Entry)) : Type 0 where
-      firsts : List (List Entry)
-      part : List Entry
+    record IsSplit (before : List (Group H)) (g : Group H) (parts : List (List RowValue)) : Type 0 where
+      firsts : List (List RowValue)
+      part : List RowValue
       are : AreParts aggregations columns before firsts
       is : IsPart aggregations columns g part
       fit : AllByRecursion (FitsRow aggregations) (joined firsts)
       fits : AllByRecursion (FitsRow aggregations) part
       short : length (joined firsts) + length part ≤ length (joined parts)
 
-    split_at : (before after : List (Group H)) (g : Group H) (parts : List (List Entry)) →
+    split_at : (before after : List (Group H)) (g : Group H) (parts : List (List RowValue)) →
         AreParts aggregations columns (before ++ g ∷ after) parts → AllByRecursion (FitsRow aggregations) (joined parts) → IsSplit before g parts
     split_at [] after g [] are all = absurd are
     split_at [] after g (p ∷ parts) are all = record {
@@ -188,7 +188,7 @@ module _ {H : Type 0} where
           short = omega (arith, rest.short, length-append p (joined parts), length-append p (joined rest.firsts));
         }
 
-    fits_group : (start : Bool) (rows : List Entry) (accs : List (Acc H)) → AllFit (accs_of aggregations rows) accs →
+    fits_group : (start : Bool) (rows : List RowValue) (accs : List (Acc H)) → AllFit (accs_of aggregations rows) accs →
         IfSome (group_or aggregations start rows) (λ o. AllFit o accs)
     fits_group start rows accs fit = one (no_rows rows && not start)
       where
@@ -202,14 +202,14 @@ module _ {H : Type 0} where
           let split = split_at before after g covers.parts (subst (λ gs. AreParts aggregations columns gs covers.parts) e covers.each)
           (all_in_order _ counted.rows (joined covers.parts) covers.all (counted.can).each) in
           let ms = members columns g.0 (joined split.firsts) in
-          let test : Entry → Bool = λ r. tuple_eq (tuple_of columns r) g.0 in
+          let test : RowValue → Bool = λ r. tuple_eq (tuple_of columns r) g.0 in
           subst (λ o. IfSome o (λ old. AllFit old g.1)) (sym (met_joined aggregations columns before split.firsts [] g.0 split.are))
           (fits_group (is_start columns g.0) ms g.1 (subst (AllFit (accs_of aggregations ms)) (sym split.is.accs)
           (all_fit H aggregations ms split.part (all_kept _ test (joined split.firsts) split.fit) split.fits
           (omega (arith, kept_short test (joined split.firsts), split.short, (counted.can).few, length_permutation counted.rows (joined covers.parts) covers.all)))));
     }
 
-    pub stands : (hash : List Cell → ℕ) (rows : List Entry) (groups entries : List (Group H)) → Covers aggregations columns rows groups →
+    pub stands : (hash : List Cell → ℕ) (rows : List RowValue) (groups entries : List (Group H)) → Covers aggregations columns rows groups →
         IsLaid hash aggregations columns groups entries → StandsAt hash aggregations columns rows entries
     stands hash rows groups entries covers laid = record { gives = λ t. laid.gives t ∙ met_covers aggregations columns rows groups t covers }
 
@@ -220,7 +220,7 @@ module _ {H : Type 0} where
     pub bag_meets : IsCounted aggregations columns groups → CanMeet aggregations columns its
     bag_meets counted = subst (CanMeet aggregations columns) (sym same) (can_meet aggregations columns groups counted)
 
-    pub bag_stands : (hash : List Cell → ℕ) (rows : List Entry) (entries : List (Group H)) → Covers aggregations columns rows groups →
+    pub bag_stands : (hash : List Cell → ℕ) (rows : List RowValue) (entries : List (Group H)) → Covers aggregations columns rows groups →
         IsLaid hash aggregations columns its entries → StandsAt hash aggregations columns rows entries
     bag_stands hash rows entries covers laid = stands aggregations columns hash rows groups entries covers
         (subst (λ l. IsLaid hash aggregations columns l entries) same laid)

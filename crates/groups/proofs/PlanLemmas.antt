@@ -6,7 +6,7 @@ use Rattle.aggs.specs.Values.{IsNoText}
 use Rattle.aggs.specs.declared.acc.Kind.{Kind}
 use Rattle.aggs.specs.declared.acc.Kind.TheVariants as kind
 use Rattle.cells.specs.Fitting.{IsRowOf, cells_are_stored}
-use Rattle.cells.specs.Values.{Entry, Table}
+use Rattle.cells.specs.Values.{RowValue, Table}
 use Rattle.cells.specs.declared.cell.Cell.{Cell}
 use Rattle.cells.specs.declared.cell.Cell.TheVariants as cell
 use Rattle.cells.specs.declared.schema.Column.{Column}
@@ -26,10 +26,10 @@ use Rattle.query.specs.declared.test.Test.{Test}
 
 -- what the laws of plans and rows say
 pub record PlansFitRows : Type 0 where
-  pub asked : (table : Table) (plan : PlanTree) (row : Entry) (predicate : PredicateTree (Test ℕ)) →
+  pub asked : (table : Table) (plan : PlanTree) (row : RowValue) (predicate : PredicateTree (Test ℕ)) →
       IsPlanOf table plan → plan.condition ≡ Some predicate → IsRowOf table row → IsOver (length row.cells) predicate
-  pub cells : (table : Table) (row : Entry) → IsRowOf table row → length row.cells ≡ length table.columns
-  pub integers : (table : Table) (row : Entry) (place : ℕ) (text : List ℕ) →
+  pub cells : (table : Table) (row : RowValue) → IsRowOf table row → length row.cells ≡ length table.columns
+  pub integers : (table : Table) (row : RowValue) (place : ℕ) (text : List ℕ) →
       IsRowOf table row → type_at table.columns place ≡ Some column.Int → slice_index_or row.cells place cell.Null ≢ cell.Text text
 
 got_within : {X : Type 0} (xs : List X) (i : ℕ) (x : X) → slice_get xs i ≡ Some x → i < length xs
@@ -64,7 +64,7 @@ no_sum k f e = absurd (clash (sym f ∙ ap is_sum e))
     clash : false ≡ true → ⊥
     clash c = cc
 
-module _ (laws : PlansFitRows) (table : Table) (row : Entry) (fits : IsRowOf table row) where
+module _ (laws : PlansFitRows) (table : Table) (row : RowValue) (fits : IsRowOf table row) where
   within : (place : ℕ) → place < length table.columns → place < length row.cells
   within place h = omega (arith, h, laws.cells table row fits)
 
@@ -98,10 +98,10 @@ module _ (laws : PlansFitRows) (table : Table) (row : Entry) (fits : IsRowOf tab
       by_condition (Some p) h = h p refl
 
 -- rows that can be folded into the groups of each set of the plan
-pub record CanFold (plan : PlanTree) (aggregations : List Aggregation) (rows : List Entry) : Type 0 where
+pub record CanFold (plan : PlanTree) (aggregations : List Aggregation) (rows : List RowValue) : Type 0 where
   pub each : AllByRecursion (λ set. CanFoldSet plan.condition aggregations set rows) plan.sets
 
-pub can_fold : (laws : PlansFitRows) (plan : PlanTree) (aggregations : List Aggregation) (rows : List Entry) → aggregations ≡ aggregations_of plan.items →
+pub can_fold : (laws : PlansFitRows) (plan : PlanTree) (aggregations : List Aggregation) (rows : List RowValue) → aggregations ≡ aggregations_of plan.items →
     MayFold plan rows → CanFold plan aggregations rows
 can_fold laws plan aggregations rows e may = rw e (record {
   each = all_through (IsSetOf may.table.columns) _

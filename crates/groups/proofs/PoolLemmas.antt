@@ -6,7 +6,7 @@ use Rattle.std.proofs.Common.{eqb-true, get_or, ap, ap₂, arith, sym, ◌∙◌
 use Rattle.std.proofs.lemmas.Bool.{ltb-false, ltb-true}
 use Rattle.std.proofs.lemmas.List.{map-append, take_all, take_more}
 use Rattle.std.proofs.lemmas.List.Quantifiers.{position-Some}
-use Rattle.cells.specs.Values.{Entry}
+use Rattle.cells.specs.Values.{RowValue}
 use Rattle.cells.specs.declared.cell.Cell.{Cell}
 use Rattle.groups.specs.Coarsening.{ArePlaces, CanCoarsen}
 use Rattle.groups.specs.Bags.{Covers, Group, IsCounted}
@@ -39,20 +39,20 @@ places_all finer columns places i h now = subst (λ cs. ArePlaces finer cs place
 
 -- ---- the pool
 module _ {H : Type 0} where
-  pub pool_none : (aggregations : List Aggregation) (rows : List Entry) (pool : List (SetBag H)) → pool ≡ [] → IsPool aggregations rows pool
+  pub pool_none : (aggregations : List Aggregation) (rows : List RowValue) (pool : List (SetBag H)) → pool ≡ [] → IsPool aggregations rows pool
   pool_none aggregations rows pool e = subst (IsPool aggregations rows) (sym e) (record { each = tt })
 
-  pub pool_more : (aggregations : List Aggregation) (rows : List Entry) (pool new : List (SetBag H)) (f : SetBag H) → IsPool aggregations rows pool →
+  pub pool_more : (aggregations : List Aggregation) (rows : List RowValue) (pool new : List (SetBag H)) (f : SetBag H) → IsPool aggregations rows pool →
       Covers aggregations f.set.items rows f.bag → new ≡ pool ++ f ∷ [] → IsPool aggregations rows new
   pool_more aggregations rows pool new f now covers e = subst (IsPool aggregations rows) (sym e) (record { each = all_push _ pool f now.each covers })
 
-  pub pool_at : (aggregations : List Aggregation) (rows : List Entry) (pool : List (SetBag H)) (i : ℕ) (f : SetBag H) → IsPool aggregations rows pool → i < length pool →
+  pub pool_at : (aggregations : List Aggregation) (rows : List RowValue) (pool : List (SetBag H)) (i : ℕ) (f : SetBag H) → IsPool aggregations rows pool → i < length pool →
       f ≡ get_or pool i f → Covers aggregations f.set.items rows f.bag
   pool_at aggregations rows pool i f now h is = subst (λ (g : SetBag H). Covers aggregations g.set.items rows g.bag) (sym is)
       (all_at (λ (g : SetBag H). Covers aggregations g.set.items rows g.bag) pool i f now.each h)
 
   pub counted_at : (aggregations : List Aggregation) (pool : List (SetBag H)) (set : List ℕ) (groups : List (Group H)) → (counted : AreCounted aggregations pool) →
-      ((rows : List Entry) → IsPool aggregations rows pool → Covers aggregations set rows groups) → IsCounted aggregations set groups
+      ((rows : List RowValue) → IsPool aggregations rows pool → Covers aggregations set rows groups) → IsCounted aggregations set groups
   counted_at aggregations pool set groups counted covers = record { rows = counted.rows; covers = covers counted.rows counted.covers; can = counted.can }
 
   pub may_coarsen_at : (pool : List (SetBag H)) (i : ℕ) (f : SetBag H) → MayCoarsenAll pool → i < length pool → f ≡ get_or pool i f → MayCoarsen f
@@ -77,7 +77,7 @@ module _ {H : Type 0} where
     stay = λ set h. second.stay set (first.stay set h);
   }
 
-  pub grows_by : (old new : List (SetBag H)) (f : SetBag H) → ((aggregations : List Aggregation) (rows : List Entry) → IsPool aggregations rows old → Covers aggregations f.set.items rows f.bag) →
+  pub grows_by : (old new : List (SetBag H)) (f : SetBag H) → ((aggregations : List Aggregation) (rows : List RowValue) → IsPool aggregations rows old → Covers aggregations f.set.items rows f.bag) →
       new ≡ old ++ f ∷ [] → Grows old new
   grows_by old new f covers e = rw e (record {
     covers = λ aggregations rows now. pool_more aggregations rows old (old ++ f ∷ []) f now (covers aggregations rows now) refl;
@@ -86,7 +86,7 @@ module _ {H : Type 0} where
   })
 
   pub grows_by_set : (old slice new : List (SetBag H)) (set : List ℕ) (f : SetBag H) → slice ≡ old → f.set.items ≡ set →
-      ((aggregations : List Aggregation) (rows : List Entry) → IsPool aggregations rows slice → Covers aggregations set rows f.bag) → new ≡ old ++ f ∷ [] → Grows old new
+      ((aggregations : List Aggregation) (rows : List RowValue) → IsPool aggregations rows slice → Covers aggregations set rows f.bag) → new ≡ old ++ f ∷ [] → Grows old new
   grows_by_set old slice new set f same is covers e = grows_by old new f (λ aggregations rows now.
       rw is (covers aggregations rows (rw same now))) e
 
@@ -159,7 +159,7 @@ module _ {H : Type 0} where
     there = both_there columns less mid new sets e grows now.there of;
   }
 
-module _ {H : Type 0} (hash : List Cell → ℕ) (aggregations : List Aggregation) (rows : List Entry) where
+module _ {H : Type 0} (hash : List Cell → ℕ) (aggregations : List Aggregation) (rows : List RowValue) where
   stands_push : (sets : List (List ℕ)) (tries : List (List (Group H))) (s : List ℕ) (t : List (Group H)) →
       StandsEach hash aggregations sets rows tries → StandsAt hash aggregations s rows t → StandsEach hash aggregations (sets ++ s ∷ []) rows (tries ++ t ∷ [])
   stands_push [] [] s t now one = (one, tt)
@@ -194,18 +194,18 @@ module _ {H : Type 0} (hash : List Cell → ℕ) (aggregations : List Aggregatio
 module _ {H : Type 0} (hash : List Cell → ℕ) (aggregations : List Aggregation) (pool : List (SetBag H)) where
   -- for whatever rows went into the pool
   pub record StandsFor (sets : List (List ℕ)) (i : ℕ) (tries : List (List (Group H))) : Type 0 where
-    pub each : (rows : List Entry) → IsPool aggregations rows pool → StandsTo hash aggregations rows sets i tries
+    pub each : (rows : List RowValue) → IsPool aggregations rows pool → StandsTo hash aggregations rows sets i tries
 
   pub stands_for_none : (sets : List (List ℕ)) (tries : List (List (Group H))) → tries ≡ [] → StandsFor sets 0 tries
   stands_for_none sets tries e = record { each = λ rows now. stands_none hash aggregations rows sets tries e }
 
   pub stands_for_next : (sets its : List (List ℕ)) (i : ℕ) (s t : List ℕ) (tries new : List (List (Group H))) (trie : List (Group H)) → its ≡ sets → i < length its → s ≡ get_or its i s → t ≡ s →
-      StandsFor sets i tries → ((rows : List Entry) → IsPool aggregations rows pool → StandsAt hash aggregations t rows trie) → new ≡ tries ++ trie ∷ [] → StandsFor sets (i + 1) new
+      StandsFor sets i tries → ((rows : List RowValue) → IsPool aggregations rows pool → StandsAt hash aggregations t rows trie) → new ≡ tries ++ trie ∷ [] → StandsFor sets (i + 1) new
   stands_for_next sets its i s t tries new trie same h is e now one f = record {
     each = λ rows pooled. stands_next hash aggregations rows sets its i s t tries new trie same h is e (now.each rows pooled) (one rows pooled) f;
   }
 
-  pub stands_for_all : (sets : List (List ℕ)) (i : ℕ) (tries : List (List (Group H))) → length sets ≤ i → StandsFor sets i tries → (rows : List Entry) →
+  pub stands_for_all : (sets : List (List ℕ)) (i : ℕ) (tries : List (List (Group H))) → length sets ≤ i → StandsFor sets i tries → (rows : List RowValue) →
       IsPool aggregations rows pool → StandsEach hash aggregations sets rows tries
   stands_for_all sets i tries h now rows pooled = stands_all hash aggregations rows sets i tries h (now.each rows pooled)
 

@@ -7,7 +7,7 @@ use Rattle.std.proofs.lemmas.List.Elements.{filter-append}
 use Rattle.std.proofs.lemmas.List.Sorted.{IsPermutation-append_comm}
 use Rattle.aggs.specs.Bags.{decided_by_bag}
 use Rattle.cells.specs.TupleOrder.{tuple_eq}
-use Rattle.cells.specs.Values.{Entry}
+use Rattle.cells.specs.Values.{RowValue}
 use Rattle.cells.specs.declared.cell.Cell.{Cell}
 use Rattle.cells.specs.declared.total.Total.{Total}
 use Rattle.groups.specs.Accumulators.{accs_of, accs_together, aggregations_of, both, group}
@@ -23,7 +23,7 @@ use Rattle.query.specs.declared.item.Item.{Item}
 use Rattle.query.specs.declared.test.Test.{Test}
 
 module _ (condition : Option (PredicateTree (Test ℕ))) (set : List ℕ) (t : List Cell) where
-  kept_group : (xs ys : List Entry) → IsPermutation xs ys →
+  kept_group : (xs ys : List RowValue) → IsPermutation xs ys →
       group {H = Unit {0}} [] set (kept condition xs) t ≡ group [] set (kept condition ys) t
   kept_group = decided_by_bag (λ rows. group {H = Unit {0}} [] set (kept condition rows) t) both
       (λ xs ys. ap (λ l. group {H = Unit {0}} [] set l t) (kept_join condition xs ys) ∙ group_joins [] set t (kept condition xs) (kept condition ys))
@@ -32,19 +32,19 @@ module _ (condition : Option (PredicateTree (Test ℕ))) (set : List ℕ) (t : L
       (IsPermutation-append_comm (kept condition xs) (kept condition ys))
       ∙ ap (λ l. group {H = Unit {0}} [] set l t) (sym (kept_join condition ys xs)))
 
-  kept_has : (xs ys : List Entry) → IsPermutation xs ys → has_group set (kept condition xs) t ≡ has_group set (kept condition ys) t
+  kept_has : (xs ys : List RowValue) → IsPermutation xs ys → has_group set (kept condition xs) t ≡ has_group set (kept condition ys) t
   kept_has xs ys p = sym (group_is_some (Unit {0}) [] set (kept condition xs) t) ∙ ap is_some (kept_group xs ys p)
       ∙ group_is_some (Unit {0}) [] set (kept condition ys) t
 
-  of : List Entry → List Entry
+  of : List RowValue → List RowValue
   of rows = members set t (kept condition rows)
 
-  of_both : (xs ys : List Entry) → of (xs ++ ys) ≡ of xs ++ of ys
+  of_both : (xs ys : List RowValue) → of (xs ++ ys) ≡ of xs ++ of ys
   unfolding of
   of_both xs ys = ap (members set t) (kept_join condition xs ys)
       ∙ filter-append (λ r. tuple_eq (tuple_of set r) t) (kept condition xs) (kept condition ys)
 
-  kept_accs : (aggregations : List Aggregation) (xs ys : List Entry) → IsPermutation xs ys →
+  kept_accs : (aggregations : List Aggregation) (xs ys : List RowValue) → IsPermutation xs ys →
       accs_of {H = Unit {0}} aggregations (of xs) ≡ accs_of aggregations (of ys)
   kept_accs aggregations = decided_by_bag (λ rows. accs_of {H = Unit {0}} aggregations (of rows)) accs_together
       (λ xs ys. ap (accs_of {H = Unit {0}} aggregations) (of_both xs ys) ∙ accs_join aggregations (of xs) (of ys))
@@ -52,13 +52,13 @@ module _ (condition : Option (PredicateTree (Test ℕ))) (set : List ℕ) (t : L
       ∙ accs_any_order aggregations (of xs ++ of ys) (of ys ++ of xs) (IsPermutation-append_comm (of xs) (of ys))
       ∙ ap (accs_of {H = Unit {0}} aggregations) (sym (of_both ys xs)))
 
-  row_order : (items : List (Item ℕ)) (xs ys : List Entry) → IsPermutation xs ys →
+  row_order : (items : List (Item ℕ)) (xs ys : List RowValue) → IsPermutation xs ys →
       map (item_value set t (members set t (kept condition xs))) items ≡ map (item_value set t (members set t (kept condition ys))) items
   unfolding of
   row_order items xs ys p = sym (row_is (Unit {0}) set t (of xs) items)
       ∙ ap (row_by set t items) (kept_accs (aggregations_of items) xs ys p) ∙ row_is (Unit {0}) set t (of ys) items
 
-module _ (condition : Option (PredicateTree (Test ℕ))) (items : List (Item ℕ)) (xs ys : List Entry) (p : IsPermutation xs ys) where
+module _ (condition : Option (PredicateTree (Test ℕ))) (items : List (Item ℕ)) (xs ys : List RowValue) (p : IsPermutation xs ys) where
   tuples_order : (set : List ℕ) → tuples set (kept condition xs) ≡ tuples set (kept condition ys)
   tuples_order set = tuples_by_groups set (kept condition xs) (kept condition ys) (λ t. kept_has condition set t xs ys p)
 
@@ -76,5 +76,5 @@ module _ (condition : Option (PredicateTree (Test ℕ))) (items : List (Item ℕ
       ∙ ap (map (λ t. map (item_value set t (members set t (kept condition ys))) items)) (tuples_order set))
       (sets_order sets)
 
-pub report_any_order : (plan : PlanTree) (xs ys : List Entry) → IsPermutation xs ys → report_rows plan xs ≡ report_rows plan ys
+pub report_any_order : (plan : PlanTree) (xs ys : List RowValue) → IsPermutation xs ys → report_rows plan xs ≡ report_rows plan ys
 report_any_order plan xs ys p = sets_order plan.condition plan.items xs ys p plan.sets

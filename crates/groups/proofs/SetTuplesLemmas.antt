@@ -16,7 +16,7 @@ use Rattle.std.proofs.lemmas.Map.Made.{length-le_from_is_member}
 use Rattle.aggs.specs.declared.acc.Acc.{Acc}
 use Rattle.cells.specs.SameKeys.{exact_tuples}
 use Rattle.cells.specs.TupleOrder.{tuple_cmp, tuple_cmp-total, tuple_eq, tuple_eq-equiv}
-use Rattle.cells.specs.Values.{Entry}
+use Rattle.cells.specs.Values.{RowValue}
 use Rattle.cells.specs.declared.cell.Cell.{Cell}
 use Rattle.groups.specs.Accumulators.{accs_of, group, is_start, no_rows}
 use Rattle.groups.specs.Groups.{different, lay, members, tuple_of, tuples}
@@ -88,7 +88,7 @@ one_answer false false e = refl
 among_different : (q : List Cell) (ts : List (List Cell)) → among q (different ts) ≡ among q ts
 among_different q ts = one_answer _ _ (sym (find_marked q (different ts)) ∙ find_different q ts)
 
-tuples_sorted : (set : List ℕ) (rows : List Entry) → T (fin.is_sorted tuple_cmp (marked (tuples set rows)))
+tuples_sorted : (set : List ℕ) (rows : List RowValue) → T (fin.is_sorted tuple_cmp (marked (tuples set rows)))
 tuples_sorted [] rows = tt
 tuples_sorted (c ∷ set) rows = different_sorted (map (tuple_of (c ∷ set)) rows)
 
@@ -128,10 +128,10 @@ sorted_marked (t ∷ ts) up apart =
 
 -- ---- which tuples have a group
 -- whether a tuple has rows, or is there from the start
-abbrev pub has_group : List ℕ → List Entry → List Cell → Bool
+abbrev pub has_group : List ℕ → List RowValue → List Cell → Bool
 has_group set rows tuple = not (no_rows (members set tuple rows) && not (is_start set tuple))
 
-among_rows : (set : List ℕ) (q : List Cell) (rows : List Entry) → among q (map (tuple_of set) rows) ≡ not (no_rows (members set q rows))
+among_rows : (set : List ℕ) (q : List Cell) (rows : List RowValue) → among q (map (tuple_of set) rows) ≡ not (no_rows (members set q rows))
 among_rows set q [] = refl
 among_rows set q (r ∷ rows) = rw (tuple_eq-equiv.symm q (tuple_of set r), among_rows set q rows) (cases (tuple_eq (tuple_of set r) q))
   where
@@ -139,7 +139,7 @@ among_rows set q (r ∷ rows) = rw (tuple_eq-equiv.symm q (tuple_of set r), amon
     cases true = refl
     cases false = refl
 
-no_member : (x : Cell) (q : List Cell) (rows : List Entry) → members [] (x ∷ q) rows ≡ []
+no_member : (x : Cell) (q : List Cell) (rows : List RowValue) → members [] (x ∷ q) rows ≡ []
 no_member x q [] = refl
 no_member x q (r ∷ rows) = no_member x q rows
 
@@ -151,29 +151,29 @@ met : (b : Bool) → not b ≡ not (b && true)
 met true = refl
 met false = refl
 
-pub among_tuples : (set : List ℕ) (rows : List Entry) (q : List Cell) → among q (tuples set rows) ≡ has_group set rows q
+pub among_tuples : (set : List ℕ) (rows : List RowValue) (q : List Cell) → among q (tuples set rows) ≡ has_group set rows q
 among_tuples [] rows [] = sym (started (no_rows (members [] [] rows)))
 among_tuples [] rows (x ∷ q) = rw (no_member x q rows) refl
 among_tuples (c ∷ set) rows q = among_different q (map (tuple_of (c ∷ set)) rows) ∙ among_rows (c ∷ set) q rows
     ∙ met (no_rows (members (c ∷ set) q rows))
 
-by_absence : (H : Type 0) (aggregations : List Aggregation) (rows : List Entry) (b : Bool) →
+by_absence : (H : Type 0) (aggregations : List Aggregation) (rows : List RowValue) (b : Bool) →
     is_some (cond b None (Some (accs_of {H = H} aggregations rows))) ≡ not b
 by_absence H aggregations rows true = refl
 by_absence H aggregations rows false = refl
 
-pub group_is_some : (H : Type 0) (aggregations : List Aggregation) (set : List ℕ) (rows : List Entry) (q : List Cell) →
+pub group_is_some : (H : Type 0) (aggregations : List Aggregation) (set : List ℕ) (rows : List RowValue) (q : List Cell) →
     is_some (group {H = H} aggregations set rows q) ≡ has_group set rows q
 group_is_some H aggregations set rows q =
     by_absence H aggregations (members set q rows) (no_rows (members set q rows) && not (is_start set q))
 
 module _ {H : Type 0} where
-  its_accs : (aggregations : List Aggregation) (rows : List Entry) (b : Bool) → not b ≡ true →
+  its_accs : (aggregations : List Aggregation) (rows : List RowValue) (b : Bool) → not b ≡ true →
       cond b None (Some (accs_of {H = H} aggregations rows)) ≡ Some (accs_of aggregations rows)
   its_accs aggregations rows true e = cc
   its_accs aggregations rows false e = refl
 
-  pub group_is : (aggregations : List Aggregation) (set : List ℕ) (rows : List Entry) (q : List Cell) → has_group set rows q ≡ true →
+  pub group_is : (aggregations : List Aggregation) (set : List ℕ) (rows : List RowValue) (q : List Cell) → has_group set rows q ≡ true →
       group {H = H} aggregations set rows q ≡ Some (accs_of aggregations (members set q rows))
   group_is aggregations set rows q e =
       its_accs aggregations (members set q rows) (no_rows (members set q rows) && not (is_start set q)) e
@@ -186,7 +186,7 @@ module _ {H : Type 0} where
       cases true = refl
       cases false = refl
 
-  module _ (hash : List Cell → ℕ) (aggregations : List Aggregation) (set : List ℕ) (rows : List Entry) (es : List (List Cell × List (Acc H)))
+  module _ (hash : List Cell → ℕ) (aggregations : List Aggregation) (set : List ℕ) (rows : List RowValue) (es : List (List Cell × List (Acc H)))
       (rising : IsRising (digit_order hash tuple_cmp) (keys_of es)) (stands : StandsAt hash aggregations set rows es) where
     -- the keys of the groups are the tuples
     among_both : (q : List Cell) → among q (keys_of es) ≡ among q (tuples set rows)
@@ -200,7 +200,7 @@ module _ {H : Type 0} where
         (λ q. list_any-IsPermutation (tuple_eq q) ts (keys_of es) (IsPermutation-sym (keys_of es) ts all) ∙ among_both q)
 
 -- the order of the rows does not count, where the same tuples have groups
-pub tuples_by_groups : (set : List ℕ) (xs ys : List Entry) → ((q : List Cell) → has_group set xs q ≡ has_group set ys q) → tuples set xs ≡ tuples set ys
+pub tuples_by_groups : (set : List ℕ) (xs ys : List RowValue) → ((q : List Cell) → has_group set xs q ≡ has_group set ys q) → tuples set xs ≡ tuples set ys
 tuples_by_groups set xs ys same = same_tuples_by (tuples set xs) (tuples set ys) (tuples_sorted set xs) (tuples_sorted set ys)
     (λ q. among_tuples set xs q ∙ same q ∙ sym (among_tuples set ys q))
 
@@ -218,12 +218,12 @@ different_short : (ts : List (List Cell)) → length (different ts) ≤ length t
 different_short [] = omega arith
 different_short (t ∷ ts) = omega (arith, lay_short t (different ts), different_short ts)
 
-tuples_short : (set : List ℕ) (rows : List Entry) → length (tuples set rows) ≤ length rows + 1
+tuples_short : (set : List ℕ) (rows : List RowValue) → length (tuples set rows) ≤ length rows + 1
 tuples_short [] rows = omega arith
 tuples_short (c ∷ set) rows = omega (arith, different_short (map (tuple_of (c ∷ set)) rows), length-map rows (tuple_of (c ∷ set)))
 
 -- no more groups than rows, and the one that is there from the start
-pub stands_short : {H : Type 0} (hash : List Cell → ℕ) (aggregations : List Aggregation) (set : List ℕ) (rows : List Entry) (es : List (List Cell × List (Acc H))) →
+pub stands_short : {H : Type 0} (hash : List Cell → ℕ) (aggregations : List Aggregation) (set : List ℕ) (rows : List RowValue) (es : List (List Cell × List (Acc H))) →
     IsRising (digit_order hash tuple_cmp) (keys_of es) → StandsAt hash aggregations set rows es → length es ≤ length rows + 1
 stands_short hash aggregations set rows es rising stands =
     let fewer = length-le_from_is_member tuple_eq-equiv (keys_of es) (tuples set rows) (rising_differ hash (keys_of es) rising)

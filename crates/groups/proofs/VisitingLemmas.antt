@@ -3,7 +3,7 @@ use Rattle.std.specs.Prelude.{◌≡◌, ℕ, true, List, [], ◌∷◌, ◌++�
 use Rattle.std.specs.List.{AllByRecursion}
 use Rattle.std.proofs.Common.{ap, sym, ◌∙◌, subst, arith}
 use Rattle.std.proofs.lemmas.List.{append_assoc, append-nil, length-append, map-append}
-use Rattle.cells.specs.Values.{Entry}
+use Rattle.cells.specs.Values.{RowValue}
 use Rattle.cells.specs.declared.cell.Cell.{Cell}
 use Rattle.groups.specs.Bags.{CanCount, CanFoldSet, Covers, FitsRow, FitsSet, Group, HasRoom, Takes}
 use Rattle.groups.specs.Groups.{keeps, kept}
@@ -18,10 +18,10 @@ use Rattle.query.specs.declared.test.Test.{Test}
 use Rattle.trie.specs.Walks.{MayTakeAll, TakesAll}
 
 -- ---- a row that is kept
-kept_one : (condition : Option (PredicateTree (Test ℕ))) (row : Entry) → keeps condition row ≡ true → kept condition (row ∷ []) ≡ row ∷ []
+kept_one : (condition : Option (PredicateTree (Test ℕ))) (row : RowValue) → keeps condition row ≡ true → kept condition (row ∷ []) ≡ row ∷ []
 kept_one condition row e = rw e refl
 
-module _ {H : Type 0} (condition : Option (PredicateTree (Test ℕ))) (aggregations : List Aggregation) (set : List ℕ) (row : Entry) where
+module _ {H : Type 0} (condition : Option (PredicateTree (Test ℕ))) (aggregations : List Aggregation) (set : List ℕ) (row : RowValue) where
   pub takes_kept : (old new : List (Group H)) → keeps condition row ≡ true → Takes aggregations set row old new → TakesKept condition aggregations set row old new
   takes_kept old new e takes = record {
     serves = λ rows covers.
@@ -29,11 +29,11 @@ module _ {H : Type 0} (condition : Option (PredicateTree (Test ℕ))) (aggregati
   }
 
 -- ---- rows that are kept may be counted
-can_count : (condition : Option (PredicateTree (Test ℕ))) (aggregations : List Aggregation) (set : List ℕ) (before after : List Entry) (row : Entry) →
+can_count : (condition : Option (PredicateTree (Test ℕ))) (aggregations : List Aggregation) (set : List ℕ) (before after : List RowValue) (row : RowValue) →
     CanFoldSet condition aggregations set (before ++ row ∷ after) → CanCount aggregations (kept condition before ++ row ∷ [])
 can_count condition aggregations set before after row can =
-    let P : Entry → Type 0 = FitsSet condition aggregations set in
-    let Q : Entry → Type 0 = FitsRow aggregations in
+    let P : RowValue → Type 0 = FitsSet condition aggregations set in
+    let Q : RowValue → Type 0 = FitsRow aggregations in
     let firsts : AllByRecursion P before = all_first P before (row ∷ after) can.each in
     let here : P row = (all_second P before (row ∷ after) can.each).0 in
     record {
@@ -41,7 +41,7 @@ can_count condition aggregations set before after row can =
       few = omega (arith, can.few, kept_short (keeps condition) before, length-append (kept condition before) (row ∷ []), length-append before (row ∷ after));
     }
 
-pub can_count_kept : (condition : Option (PredicateTree (Test ℕ))) (aggregations : List Aggregation) (set : List ℕ) (rows : List Entry) →
+pub can_count_kept : (condition : Option (PredicateTree (Test ℕ))) (aggregations : List Aggregation) (set : List ℕ) (rows : List RowValue) →
     CanFoldSet condition aggregations set rows → CanCount aggregations (kept condition rows)
 can_count_kept condition aggregations set rows can = record {
   each = all_kept (FitsRow aggregations) (keeps condition) rows (all_through (FitsSet condition aggregations set) (FitsRow aggregations) (λ r fits. fits.counted) rows can.each);
@@ -50,11 +50,11 @@ can_count_kept condition aggregations set rows can = record {
 
 module _ {S H : Type 0} (condition : S → Option (PredicateTree (Test ℕ))) (aggregations : S → List Aggregation) (set : S → List ℕ) (groups : S → List (Group H)) where
   -- the rows of the entries have gone into the groups
-  record Visited (old : S) (rows : List Entry) (new : S) : Type 0 where
+  record Visited (old : S) (rows : List RowValue) (new : S) : Type 0 where
     condition_stays : condition new ≡ condition old
     aggregations_stay : aggregations new ≡ aggregations old
     set_stays : set new ≡ set old
-    serves : (befores : List Entry) → Covers (aggregations old) (set old) befores (groups old) →
+    serves : (befores : List RowValue) → Covers (aggregations old) (set old) befores (groups old) →
         Covers (aggregations old) (set old) (befores ++ kept (condition old) rows) (groups new)
 
   visited_none : (old new : S) → new ≡ old → Visited old [] new
@@ -66,13 +66,13 @@ module _ {S H : Type 0} (condition : S → Option (PredicateTree (Test ℕ))) (a
         (subst (λ l. Covers (aggregations old) (set old) l (groups old)) (sym (append-nil befores)) covers);
   }
 
-  visited_more : (old mid new : S) (key : Cell) (row : Entry) (rows : List Entry) → Visits condition aggregations set groups old key row mid → Visited mid rows new →
+  visited_more : (old mid new : S) (key : Cell) (row : RowValue) (rows : List RowValue) → Visits condition aggregations set groups old key row mid → Visited mid rows new →
       Visited old (row ∷ rows) new
   visited_more old mid new key row rows v rest =
       let c = condition old in
       let a = aggregations old in
       let s = set old in
-      let later : (befores : List Entry) → Covers a s befores (groups mid) → Covers a s (befores ++ kept c rows) (groups new) =
+      let later : (befores : List RowValue) → Covers a s befores (groups mid) → Covers a s (befores ++ kept c rows) (groups new) =
       rw (← v.condition_stays, ← v.aggregations_stay, ← v.set_stays) rest.serves in
       record {
         condition_stays = rest.condition_stays ∙ v.condition_stays;
@@ -83,15 +83,15 @@ module _ {S H : Type 0} (condition : S → Option (PredicateTree (Test ℕ))) (a
             (later (befores ++ kept c (row ∷ [])) ((v.takes).serves befores covers));
       }
 
-  visited : (old new : S) (es : List (Cell × Entry)) → TakesAll (Visits condition aggregations set groups) old es new → Visited old (rows_of es) new
+  visited : (old new : S) (es : List (Cell × RowValue)) → TakesAll (Visits condition aggregations set groups) old es new → Visited old (rows_of es) new
   visited old new [] e = visited_none old new e
   visited old new (x ∷ es) t = visited_more old t.0 new x.0 x.1 (rows_of es) t.1 (visited t.0 new es t.2)
 
-  pub visited_all : (old new : S) (es : List (Cell × Entry)) → TakesAll (Visits condition aggregations set groups) old es new → (befores : List Entry) →
+  pub visited_all : (old new : S) (es : List (Cell × RowValue)) → TakesAll (Visits condition aggregations set groups) old es new → (befores : List RowValue) →
       Covers (aggregations old) (set old) befores (groups old) → Covers (aggregations old) (set old) (befores ++ kept (condition old) (rows_of es)) (groups new)
   visited_all old new es t = (visited old new es t).serves
 
-  may_visit_at : (old mid : S) (taken before after : List Entry) (key : Cell) (row : Entry) → Covers (aggregations old) (set old) (kept (condition old) taken) (groups old) →
+  may_visit_at : (old mid : S) (taken before after : List RowValue) (key : Cell) (row : RowValue) → Covers (aggregations old) (set old) (kept (condition old) taken) (groups old) →
       Visited old before mid → CanFoldSet (condition old) (aggregations old) (set old) ((taken ++ before) ++ row ∷ after) → MayVisit condition aggregations set groups mid key row
   may_visit_at old mid taken before after key row covers v can =
       let fits : FitsSet (condition old) (aggregations old) (set old) row = (all_second _ (taken ++ before) (row ∷ after) can.each).0 in
@@ -105,7 +105,7 @@ module _ {S H : Type 0} (condition : S → Option (PredicateTree (Test ℕ))) (a
         room = rw (v.aggregations_stay, v.set_stays) room;
       }
 
-  pub may_visit : (old : S) (taken : List Entry) (es : List (Cell × Entry)) → Covers (aggregations old) (set old) (kept (condition old) taken) (groups old) →
+  pub may_visit : (old : S) (taken : List RowValue) (es : List (Cell × RowValue)) → Covers (aggregations old) (set old) (kept (condition old) taken) (groups old) →
       CanFoldSet (condition old) (aggregations old) (set old) (taken ++ rows_of es) → MayTakeAll (MayVisit condition aggregations set groups) (Visits condition aggregations set groups) old es
   may_visit old taken es covers can = record {
     asked = λ before after x mid split t.

@@ -4,7 +4,7 @@ use Rattle.std.specs.List.{filter_map}
 use Rattle.aggs.specs.Accs.{AccTakes, AccsFit, acc_of, acc_together, kind_of}
 use Rattle.aggs.specs.declared.acc.Acc.{Acc}
 use Rattle.aggs.specs.declared.acc.Kind.TheVariants as kind
-use Rattle.cells.specs.Values.{Entry}
+use Rattle.cells.specs.Values.{RowValue}
 use Rattle.cells.specs.declared.cell.Cell.{Cell}
 use Rattle.groups.specs.Groups.{cell_at, column_of, members}
 use Rattle.groups.specs.declared.aggregation.Aggregation.{Aggregation}
@@ -32,13 +32,13 @@ is_start [] [] = true
 is_start [] (x ∷ tuple) = false
 is_start (c ∷ set) tuple = false
 
-abbrev pub no_rows : List Entry → Bool
+abbrev pub no_rows : List RowValue → Bool
 no_rows [] = true
 no_rows (r ∷ rows) = false
 
 module _ {H : Type 0} where
   -- the accumulators of a list of rows
-  abbrev pub accs_of : List Aggregation → List Entry → List (Acc H)
+  abbrev pub accs_of : List Aggregation → List RowValue → List (Acc H)
   accs_of aggregations rows = map (λ a. acc_of a.kind (column_of a.column rows)) aggregations
 
   -- two lists of accumulators put together
@@ -48,20 +48,20 @@ module _ {H : Type 0} where
   accs_together (a ∷ xs) (b ∷ ys) = acc_together a b ∷ accs_together xs ys
 
   -- accumulators after one row more
-  abbrev pub stepped : Entry → List Aggregation → List (Acc H) → List (Acc H)
+  abbrev pub stepped : RowValue → List Aggregation → List (Acc H) → List (Acc H)
   stepped row [] accs = accs
   stepped row (a ∷ aggregations) [] = []
   stepped row (a ∷ aggregations) (x ∷ accs) =
       acc_together x (acc_of (kind_of x) (cell_at a.column row ∷ [])) ∷ stepped row aggregations accs
 
   -- an accumulator can take the row's cell: there is one, it is no text under SUM, and there is room
-  pub record MayStep (row : Entry) (a : Aggregation) (x : Acc H) : Type 0 where
+  pub record MayStep (row : RowValue) (a : Aggregation) (x : Acc H) : Type 0 where
     pub column : a.column < length row.cells
     pub takes : AccTakes x (cell_at a.column row)
     pub fits : AccsFit x (acc_of (kind_of x) (cell_at a.column row ∷ []))
 
   -- each of them can take the row
-  abbrev pub CanStep : Entry → List Aggregation → List (Acc H) → Type 0
+  abbrev pub CanStep : RowValue → List Aggregation → List (Acc H) → Type 0
   CanStep row [] accs = ⊤
   CanStep row (a ∷ aggregations) [] = ⊥
   CanStep row (a ∷ aggregations) (x ∷ accs) = MayStep row a x × CanStep row aggregations accs
@@ -73,11 +73,11 @@ module _ {H : Type 0} where
   AllFit (a ∷ xs) (b ∷ ys) = AccsFit a b × (kind_of a ≡ kind_of b) × AllFit xs ys
 
   -- the accumulators of a group's rows, where it has any or is there from the start
-  abbrev pub group_or : List Aggregation → Bool → List Entry → Option (List (Acc H))
+  abbrev pub group_or : List Aggregation → Bool → List RowValue → Option (List (Acc H))
   group_or aggregations start rows = if no_rows rows && not start then None else Some (accs_of aggregations rows)
 
   -- the accumulators of a tuple's group, where there is such a group
-  abbrev pub group : List Aggregation → List ℕ → List Entry → List Cell → Option (List (Acc H))
+  abbrev pub group : List Aggregation → List ℕ → List RowValue → List Cell → Option (List (Acc H))
   group aggregations set rows tuple = group_or aggregations (is_start set tuple) (members set tuple rows)
 
   -- what two groups of one tuple give together

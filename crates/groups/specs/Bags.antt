@@ -7,7 +7,7 @@ use Rattle.aggs.specs.Values.{IsNoText}
 use Rattle.aggs.specs.declared.acc.Acc.{Acc}
 use Rattle.aggs.specs.declared.acc.Kind.TheVariants as kind
 use Rattle.cells.specs.Fitting.{AreStored}
-use Rattle.cells.specs.Values.{Entry}
+use Rattle.cells.specs.Values.{RowValue}
 use Rattle.cells.specs.declared.cell.Cell.{Cell}
 use Rattle.cells.specs.declared.cell.Cell.TheVariants.{Null}
 use Rattle.groups.specs.Accumulators.{CanStep, accs_of, no_rows, stepped}
@@ -30,45 +30,45 @@ abbrev pub picked : List ℕ → List Cell → List Cell
 picked places cells = map (λ i. slice_index_or cells i Null) places
 
 -- the aggregate can take the row's cell: there is one, and no text under SUM
-pub record MayTake (row : Entry) (a : Aggregation) : Type 0 where
+pub record MayTake (row : RowValue) (a : Aggregation) : Type 0 where
   pub column : a.column < length row.cells
   pub number : a.kind ≡ kind.Sum → IsNoText (cell_at a.column row)
 
 -- each aggregate can take the row's cell, and integers have 64 bits
-pub record FitsRow (aggregations : List Aggregation) (row : Entry) : Type 0 where
+pub record FitsRow (aggregations : List Aggregation) (row : RowValue) : Type 0 where
   pub stored : AreStored row.cells
   pub each : AllByRecursion (MayTake row) aggregations
 
 -- the aggregates can take the rows, which are few enough
-pub record CanCount (aggregations : List Aggregation) (rows : List Entry) : Type 0 where
+pub record CanCount (aggregations : List Aggregation) (rows : List RowValue) : Type 0 where
   pub each : AllByRecursion (FitsRow aggregations) rows
   pub few : length rows ≤ cell_limit
 
 -- the lists put together
-abbrev pub joined : List (List Entry) → List Entry
+abbrev pub joined : List (List RowValue) → List RowValue
 joined parts = flat_map (λ part. part) parts
 
 module _ {H : Type 0} (aggregations : List Aggregation) (columns : List ℕ) where
   -- some rows of one tuple, and their accumulators
-  pub record IsPart (group : Group H) (part : List Entry) : Type 0 where
+  pub record IsPart (group : Group H) (part : List RowValue) : Type 0 where
     pub some : no_rows part ≡ false
     pub alike : AllByRecursion (λ r. tuple_of columns r ≡ group.0) part
     pub accs : group.1 ≡ accs_of aggregations part
 
-  abbrev pub AreParts : List (Group H) → List (List Entry) → Type 0
+  abbrev pub AreParts : List (Group H) → List (List RowValue) → Type 0
   AreParts [] [] = ⊤
   AreParts [] (p ∷ parts) = ⊥
   AreParts (g ∷ groups) [] = ⊥
   AreParts (g ∷ groups) (p ∷ parts) = IsPart g p × AreParts groups parts
 
   -- each row has gone into one of the groups
-  pub record Covers (rows : List Entry) (groups : List (Group H)) : Type 0 where
-    pub parts : List (List Entry)
+  pub record Covers (rows : List RowValue) (groups : List (Group H)) : Type 0 where
+    pub parts : List (List RowValue)
     pub each : AreParts groups parts
     pub all : IsPermutation rows (joined parts)
 
   -- the row has gone into a group of its tuple
-  pub record Steps (row : Entry) (old new : List (Group H)) : Type 0 where
+  pub record Steps (row : RowValue) (old new : List (Group H)) : Type 0 where
     pub place : ℕ
     pub accs : List (Acc H)
     pub within : place < length old
@@ -76,37 +76,37 @@ module _ {H : Type 0} (aggregations : List Aggregation) (columns : List ℕ) whe
     pub is : new ≡ set old place (tuple_of columns row, stepped row aggregations accs)
 
   -- the row has gone into a group of its tuple, or into a new one
-  abbrev pub Takes : Entry → List (Group H) → List (Group H) → Type 0
+  abbrev pub Takes : RowValue → List (Group H) → List (Group H) → Type 0
   Takes row old new =
       Steps row old new ⊎ (new ≡ old ++ (tuple_of columns row, stepped row aggregations (accs_of aggregations [])) ∷ [])
 
 module _ {H : Type 0} (aggregations : List Aggregation) where
   -- each group can take the row, and so can a new one
-  pub record CanTake (row : Entry) (groups : List (Group H)) : Type 0 where
+  pub record CanTake (row : RowValue) (groups : List (Group H)) : Type 0 where
     pub each : AllByRecursion (λ g. CanStep row aggregations g.1) groups
     pub new : CanStep {H = H} row aggregations (accs_of aggregations [])
 
   -- some rows went into the groups, and this one may go there, too
-  pub record HasRoom (columns : List ℕ) (row : Entry) (groups : List (Group H)) : Type 0 where
-    pub rows : List Entry
+  pub record HasRoom (columns : List ℕ) (row : RowValue) (groups : List (Group H)) : Type 0 where
+    pub rows : List RowValue
     pub covers : Covers aggregations columns rows groups
     pub can : CanCount aggregations (rows ++ row ∷ [])
 
   -- rows that may be counted went into the groups
   pub record IsCounted (columns : List ℕ) (groups : List (Group H)) : Type 0 where
-    pub rows : List Entry
+    pub rows : List RowValue
     pub covers : Covers aggregations columns rows groups
     pub can : CanCount aggregations rows
 
 -- ---- the rows of a plan
 
 -- the row can be asked for the predicate, and has the columns of the set and of the aggregates
-pub record FitsSet (condition : Option (PredicateTree (Test ℕ))) (aggregations : List Aggregation) (set : List ℕ) (row : Entry) : Type 0 where
+pub record FitsSet (condition : Option (PredicateTree (Test ℕ))) (aggregations : List Aggregation) (set : List ℕ) (row : RowValue) : Type 0 where
   pub counted : FitsRow aggregations row
   pub asked : IfSome condition (λ p. IsOver (length row.cells) p)
   pub grouped : AreWithin (length row.cells) set
 
 -- the rows can be folded into the groups of a set
-pub record CanFoldSet (condition : Option (PredicateTree (Test ℕ))) (aggregations : List Aggregation) (set : List ℕ) (rows : List Entry) : Type 0 where
+pub record CanFoldSet (condition : Option (PredicateTree (Test ℕ))) (aggregations : List Aggregation) (set : List ℕ) (rows : List RowValue) : Type 0 where
   pub each : AllByRecursion (FitsSet condition aggregations set) rows
   pub few : length rows ≤ cell_limit

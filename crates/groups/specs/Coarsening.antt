@@ -1,7 +1,7 @@
 -- Groups of a coarser grouping set, made from those of a finer one.
 use Rattle.std.specs.Prelude.{◌≡◌, ℕ, ◌<◌, ◌⊎◌, List, [], ◌∷◌, ◌++◌, length, map, set, slice_index_or}
 use Rattle.aggs.specs.declared.acc.Acc.{Acc}
-use Rattle.cells.specs.Values.{Entry}
+use Rattle.cells.specs.Values.{RowValue}
 use Rattle.cells.specs.declared.cell.Cell.{Cell}
 use Rattle.groups.specs.Accumulators.{accs_together}
 use Rattle.groups.specs.Bags.{AreParts, AreWithin, Covers, Group, IsCounted, joined, picked}
@@ -35,7 +35,7 @@ module _ {H : Type 0} where
 
   -- whatever rows went into the groups went into the new ones
   pub record Regroups (aggregations : List Aggregation) (columns : List ℕ) (groups new : List (Group H)) : Type 0 where
-    pub serves : (parts : List (List Entry)) → AreParts aggregations columns groups parts → Covers aggregations columns (joined parts) new
+    pub serves : (parts : List (List RowValue)) → AreParts aggregations columns groups parts → Covers aggregations columns (joined parts) new
 
 -- rows that may be counted went into the groups, by columns at whose places they are made coarser
 pub record CanCoarsen {H : Type 0} (places : List ℕ) (groups : List (Group H)) : Type 0 where

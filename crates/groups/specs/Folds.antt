@@ -1,7 +1,7 @@
 -- Rows folded piece by piece into the groups of the sources of a plan.
 use Rattle.std.specs.Prelude.{◌≡◌, ℕ, List, ◌++◌, length, sum_by}
 use Rattle.std.specs.List.{AllByRecursion, Contains}
-use Rattle.cells.specs.Values.{Entry}
+use Rattle.cells.specs.Values.{RowValue}
 use Rattle.groups.specs.Accumulators.{aggregations_of}
 use Rattle.groups.specs.Bags.{CanFoldSet, Covers, Group}
 use Rattle.groups.specs.Groups.{kept}
@@ -16,12 +16,12 @@ module _ {H : Type 0} where
   -- ---- one set
 
   -- the rows of the piece for which WHERE is true
-  abbrev pub kept_of : KeptRows H → List Entry
+  abbrev pub kept_of : KeptRows H → List RowValue
   kept_of rows = kept rows.plan.now.condition (rows_of rows.piece.now)
 
   -- what is kept of some rows went into the groups, and the piece's can be folded behind them
   pub record MayFill (rows : KeptRows H) (set : List ℕ) (groups : List (Group H)) : Type 0 where
-    pub taken : List Entry
+    pub taken : List RowValue
     pub covers : Covers rows.aggregations.now set (kept rows.plan.now.condition taken) groups
     pub can : CanFoldSet rows.plan.now.condition rows.aggregations.now set (taken ++ rows_of rows.piece.now)
 
@@ -31,7 +31,7 @@ module _ {H : Type 0} where
   -- the rows went behind whatever rows went into the source's groups
   pub record FillsSource (rows : KeptRows H) (old new : SetBag H) : Type 0 where
     pub set_stays : new.set.items ≡ old.set.items
-    pub serves : (befores : List Entry) → Covers rows.aggregations.now old.set.items befores old.bag →
+    pub serves : (befores : List RowValue) → Covers rows.aggregations.now old.set.items befores old.bag →
         Covers rows.aggregations.now old.set.items (befores ++ kept_of rows) new.bag
 
   -- ---- each source
@@ -41,12 +41,12 @@ module _ {H : Type 0} where
 
   pub record FillsSources (rows : KeptRows H) (old new : List (SetBag H)) : Type 0 where
     pub sets_stay : sets_of new ≡ sets_of old
-    pub serves : (befores : List Entry) → IsPool rows.aggregations.now befores old → IsPool rows.aggregations.now (befores ++ kept_of rows) new
+    pub serves : (befores : List RowValue) → IsPool rows.aggregations.now befores old → IsPool rows.aggregations.now (befores ++ kept_of rows) new
 
   -- ---- a plan
 
   -- the rows went into the groups of sources from which those of each set of the plan can be made
-  pub record Folds (plan : PlanTree) (rows : List Entry) (folding : Folding H) : Type 0 where
+  pub record Folds (plan : PlanTree) (rows : List RowValue) (folding : Folding H) : Type 0 where
     pub planned : folding.plan.now ≡ plan
     pub aggregations : folding.aggregations.items ≡ aggregations_of plan.items
     pub finer : HaveFiner folding.sources.items plan.sets
@@ -58,15 +58,15 @@ module _ {H : Type 0} where
   group_count folding = sum_by (λ s. length s.bag) folding.sources.items
 
   -- what is kept of some rows went in, and they may be folded together with these
-  pub record MayTakeMore (folding : Folding H) (rows : List Entry) : Type 0 where
+  pub record MayTakeMore (folding : Folding H) (rows : List RowValue) : Type 0 where
     pub plan : PlanTree
-    pub taken : List Entry
+    pub taken : List RowValue
     pub folds : Folds plan (kept plan.condition taken) folding
     pub may : MayFold plan (taken ++ rows)
 
   -- what is kept of some rows that may be folded went in
   pub record MayEnd (folding : Folding H) : Type 0 where
     pub plan : PlanTree
-    pub taken : List Entry
+    pub taken : List RowValue
     pub folds : Folds plan (kept plan.condition taken) folding
     pub may : MayFold plan taken

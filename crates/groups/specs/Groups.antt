@@ -4,7 +4,7 @@ use Rattle.std.specs.List.{flat_map}
 use Rattle.std.specs.Ordering.{match_ordering}
 use Rattle.aggs.specs.Values.{cell_total, count, different_count, greatest, least, sum}
 use Rattle.cells.specs.TupleOrder.{tuple_cmp, tuple_eq}
-use Rattle.cells.specs.Values.{Entry}
+use Rattle.cells.specs.Values.{RowValue}
 use Rattle.cells.specs.declared.cell.Cell.{Cell}
 use Rattle.cells.specs.declared.cell.Cell.TheVariants.{Null}
 use Rattle.cells.specs.declared.total.Total.{Total}
@@ -26,29 +26,29 @@ is_true False = false
 is_true Unknown = false
 
 -- the predicate is true for the row; where there is none, each row is kept
-abbrev pub keeps : Option (PredicateTree (Test ℕ)) → Entry → Bool
+abbrev pub keeps : Option (PredicateTree (Test ℕ)) → RowValue → Bool
 keeps None row = true
 keeps (Some p) row = is_true (truth p row.cells)
 
-abbrev pub kept : Option (PredicateTree (Test ℕ)) → List Entry → List Entry
+abbrev pub kept : Option (PredicateTree (Test ℕ)) → List RowValue → List RowValue
 kept condition rows = filter (keeps condition) rows
 
 -- ---- groups (7.9)
 
 -- the row's cell in a column
-abbrev pub cell_at : ℕ → Entry → Cell
+abbrev pub cell_at : ℕ → RowValue → Cell
 cell_at column row = slice_index_or row.cells column Null
 
 -- the rows' cells in a column
-abbrev pub column_of : ℕ → List Entry → List Cell
+abbrev pub column_of : ℕ → List RowValue → List Cell
 column_of column rows = map (cell_at column) rows
 
 -- the row's cells in the columns of a grouping set
-abbrev pub tuple_of : List ℕ → Entry → List Cell
+abbrev pub tuple_of : List ℕ → RowValue → List Cell
 tuple_of set row = map (λ c. cell_at c row) set
 
 -- the rows of a group: those whose cells in the columns of the set are not distinct from the tuple's
-abbrev pub members : List ℕ → List Cell → List Entry → List Entry
+abbrev pub members : List ℕ → List Cell → List RowValue → List RowValue
 members set tuple rows = filter (λ r. tuple_eq (tuple_of set r) tuple) rows
 
 -- a tuple laid into rising ones, unless it is there
@@ -62,7 +62,7 @@ different [] = []
 different (t ∷ ts) = lay t (different ts)
 
 -- the tuples of a grouping set, one for each group: for the empty set always the one empty tuple
-abbrev pub tuples : List ℕ → List Entry → List (List Cell)
+abbrev pub tuples : List ℕ → List RowValue → List (List Cell)
 tuples [] rows = [] ∷ []
 tuples (c ∷ set) rows = different (map (tuple_of (c ∷ set)) rows)
 
@@ -83,7 +83,7 @@ grouping None = total.Int (pos 1)
 grouping (Some i) = total.Int (pos 0)
 
 -- the value of an item in the group of these rows
-abbrev pub item_value : List ℕ → List Cell → List Entry → Item ℕ → Total
+abbrev pub item_value : List ℕ → List Cell → List RowValue → Item ℕ → Total
 item_value set tuple group (item.Column c) = cell_total (cell_of_place tuple (place_in set c))
 item_value set tuple group (item.Grouping c) = grouping (place_in set c)
 item_value set tuple group item.CountRows = total.Int (pos (length group))
@@ -96,13 +96,13 @@ item_value set tuple group (item.Max c) = greatest (column_of c group)
 -- ---- the report
 
 -- the rows of the report for a grouping set, one for each of its tuples
-abbrev pub set_rows : List (Item ℕ) → List ℕ → List Entry → List (List Total)
+abbrev pub set_rows : List (Item ℕ) → List ℕ → List RowValue → List (List Total)
 set_rows items set rows = map (λ t. map (item_value set t (members set t rows)) items) (tuples set rows)
 
 -- the rows of the report for rows that are kept: those of each grouping set, in the order of the sets
-abbrev pub rows_over : PlanTree → List Entry → List (List Total)
+abbrev pub rows_over : PlanTree → List RowValue → List (List Total)
 rows_over plan rows = flat_map (λ set. set_rows plan.items set rows) plan.sets
 
 -- the grouped query over a table's rows
-abbrev pub report_rows : PlanTree → List Entry → List (List Total)
+abbrev pub report_rows : PlanTree → List RowValue → List (List Total)
 report_rows plan rows = rows_over plan (kept plan.condition rows)

@@ -5,7 +5,7 @@ use Rattle.aggs.specs.Room.{cell_limit}
 use Rattle.aggs.specs.declared.acc.Acc.{Acc}
 use Rattle.cells.specs.Fitting.{IsRowOf}
 use Rattle.cells.specs.TupleOrder.{tuple_cmp}
-use Rattle.cells.specs.Values.{Entry, Table}
+use Rattle.cells.specs.Values.{RowValue, Table}
 use Rattle.cells.specs.declared.cell.Cell.{Cell}
 use Rattle.groups.specs.Accumulators.{accs_together}
 use Rattle.groups.specs.Partials.{StandsAt}
@@ -14,7 +14,7 @@ use Rattle.trie.specs.Digits.{digit_order}
 use Rattle.trie.specs.Merging.{IsMerged}
 
 -- two lists of rows of one table, few enough together
-pub record AreTogether (xs ys : List Entry) : Type 0 where
+pub record AreTogether (xs ys : List RowValue) : Type 0 where
   pub table : Table
   pub first : AllByRecursion (IsRowOf table) xs
   pub second : AllByRecursion (IsRowOf table) ys
@@ -36,8 +36,8 @@ module _ {H : Type 0} (hash : List Cell → ℕ) where
   pub record MeetsAt (first second : List (List Cell × List (Acc H))) : Type 0 where
     pub aggregations : List Aggregation
     pub set : List ℕ
-    pub xs : List Entry
-    pub ys : List Entry
+    pub xs : List RowValue
+    pub ys : List RowValue
     pub rows : AreTogether xs ys
     pub of_first : StandsAt hash aggregations set xs first
     pub of_second : StandsAt hash aggregations set ys second

@@ -4,21 +4,21 @@ use Rattle.std.specs.List.{AllByRecursion}
 use Rattle.std.proofs.Common.{arith}
 use Rattle.std.proofs.lemmas.List.{length-append}
 use Rattle.cells.specs.Fitting.{IsRowOf}
-use Rattle.cells.specs.Values.{Entry}
+use Rattle.cells.specs.Values.{RowValue}
 use Rattle.groups.specs.Groups.{keeps, kept}
 use Rattle.groups.specs.Laws.{all_kept, kept_short}
 use Rattle.groups.specs.Partials.{MayFold, MayJoinRows}
 use Rattle.query.specs.Plans.{PlanTree}
 
-all_first : (P : Entry → Type 0) (xs ys : List Entry) → AllByRecursion P (xs ++ ys) → AllByRecursion P xs
+all_first : (P : RowValue → Type 0) (xs ys : List RowValue) → AllByRecursion P (xs ++ ys) → AllByRecursion P xs
 all_first P [] ys all = tt
 all_first P (x ∷ xs) ys all = (all.0, all_first P xs ys all.1)
 
-all_second : (P : Entry → Type 0) (xs ys : List Entry) → AllByRecursion P (xs ++ ys) → AllByRecursion P ys
+all_second : (P : RowValue → Type 0) (xs ys : List RowValue) → AllByRecursion P (xs ++ ys) → AllByRecursion P ys
 all_second P [] ys all = all
 all_second P (x ∷ xs) ys all = all_second P xs ys all.1
 
-module _ (plan : PlanTree) (xs ys : List Entry) (may : MayFold plan (xs ++ ys)) where
+module _ (plan : PlanTree) (xs ys : List RowValue) (may : MayFold plan (xs ++ ys)) where
   -- what may be folded may be folded in parts
   pub may_fold_first : MayFold plan xs
   may_fold_first = record {

@@ -5,7 +5,7 @@ use Rattle.aggs.specs.Room.{cell_limit}
 use Rattle.aggs.specs.declared.acc.Acc.{Acc}
 use Rattle.cells.specs.Fitting.{IsRowOf}
 use Rattle.cells.specs.TupleOrder.{tuple_cmp}
-use Rattle.cells.specs.Values.{Entry, Table}
+use Rattle.cells.specs.Values.{RowValue, Table}
 use Rattle.cells.specs.declared.cell.Cell.{Cell}
 use Rattle.groups.specs.Accumulators.{aggregations_of, group}
 use Rattle.groups.specs.declared.aggregation.Aggregation.{Aggregation}
@@ -14,18 +14,18 @@ use Rattle.trie.specs.Digits.{digit_order}
 use Rattle.trie.specs.Entries.{value_at}
 
 -- the rows that a piece of a table holds
-abbrev pub rows_of : List (Cell × Entry) → List Entry
+abbrev pub rows_of : List (Cell × RowValue) → List RowValue
 rows_of entries = map (λ e. e.1) entries
 
 -- some table has these rows, and the plan is for it; they are not too many to be counted
-pub record MayFold (plan : PlanTree) (rows : List Entry) : Type 0 where
+pub record MayFold (plan : PlanTree) (rows : List RowValue) : Type 0 where
   pub table : Table
   pub planned : IsPlanOf table plan
   pub fit : AllByRecursion (IsRowOf table) rows
   pub few : length rows ≤ cell_limit
 
 -- the same of two lists of rows together
-pub record MayJoinRows (plan : PlanTree) (xs ys : List Entry) : Type 0 where
+pub record MayJoinRows (plan : PlanTree) (xs ys : List RowValue) : Type 0 where
   pub table : Table
   pub planned : IsPlanOf table plan
   pub first : AllByRecursion (IsRowOf table) xs
@@ -34,25 +34,25 @@ pub record MayJoinRows (plan : PlanTree) (xs ys : List Entry) : Type 0 where
 
 module _ {H : Type 0} (hash : List Cell → ℕ) where
   -- each tuple of the set has its group, whose accumulators are those of its rows, and no other tuple is there
-  pub record StandsAt (aggregations : List Aggregation) (set : List ℕ) (rows : List Entry) (entries : List (List Cell × List (Acc H))) : Type 0 where
+  pub record StandsAt (aggregations : List Aggregation) (set : List ℕ) (rows : List RowValue) (entries : List (List Cell × List (Acc H))) : Type 0 where
     pub gives : (tuple : List Cell) → value_at (digit_order hash tuple_cmp) entries tuple ≡ group aggregations set rows tuple
 
   -- set by set
-  abbrev pub StandsEach : List Aggregation → List (List ℕ) → List Entry → List (List (List Cell × List (Acc H))) → Type 0
+  abbrev pub StandsEach : List Aggregation → List (List ℕ) → List RowValue → List (List (List Cell × List (Acc H))) → Type 0
   StandsEach aggregations [] rows [] = ⊤
   StandsEach aggregations [] rows (t ∷ tries) = ⊥
   StandsEach aggregations (set ∷ sets) rows [] = ⊥
   StandsEach aggregations (set ∷ sets) rows (t ∷ tries) = StandsAt aggregations set rows t × StandsEach aggregations sets rows tries
 
   -- the partial result stands for the rows, in whatever order
-  pub record Stands (plan : PlanTree) (rows : List Entry) (tries : List (List (List Cell × List (Acc H)))) : Type 0 where
+  pub record Stands (plan : PlanTree) (rows : List RowValue) (tries : List (List (List Cell × List (Acc H)))) : Type 0 where
     pub each : StandsEach (aggregations_of plan.items) plan.sets rows tries
 
   -- two partial results of rows that may be put together
   pub record MayMeet (first second : List (List (List Cell × List (Acc H)))) : Type 0 where
     pub plan : PlanTree
-    pub xs : List Entry
-    pub ys : List Entry
+    pub xs : List RowValue
+    pub ys : List RowValue
     pub rows : MayJoinRows plan xs ys
     pub firsts : Stands plan xs first
     pub seconds : Stands plan ys second

@@ -3,7 +3,7 @@ use Rattle.std.specs.Prelude.{◌≡◌, ℕ, ◌<◌, true, Bool, List, [], len
 use Rattle.std.specs.Cmp.Lexicographic.{pointwise}
 use Rattle.std.specs.List.{AllByRecursion, Contains, list_all, list_any}
 use Rattle.std.specs.Option.{is_some}
-use Rattle.cells.specs.Values.{Entry}
+use Rattle.cells.specs.Values.{RowValue}
 use Rattle.groups.specs.Bags.{CanCount, Covers, IsCounted}
 use Rattle.groups.specs.Groups.{place_in}
 use Rattle.groups.specs.declared.aggregation.Aggregation.{Aggregation}
@@ -39,7 +39,7 @@ module _ {H : Type 0} where
   HaveSetsAbove columns pool sets = AllByRecursion (λ set. columns < length set → has_set pool set ≡ true) sets
 
   -- the rows went into the groups of each set of the pool
-  pub record IsPool (aggregations : List Aggregation) (rows : List Entry) (pool : List (SetBag H)) : Type 0 where
+  pub record IsPool (aggregations : List Aggregation) (rows : List RowValue) (pool : List (SetBag H)) : Type 0 where
     pub each : AllByRecursion (λ f. Covers aggregations f.set.items rows f.bag) pool
 
   -- rows that may be counted went into these groups
@@ -49,7 +49,7 @@ module _ {H : Type 0} where
 
   -- rows that may be counted went into the groups of each set of the pool
   pub record AreCounted (aggregations : List Aggregation) (pool : List (SetBag H)) : Type 0 where
-    pub rows : List Entry
+    pub rows : List RowValue
     pub covers : IsPool aggregations rows pool
     pub can : CanCount aggregations rows
 
@@ -59,7 +59,7 @@ module _ {H : Type 0} where
 
   -- groups of more sets are there beside those of the old ones, over whatever rows went into the pool
   pub record Grows (old new : List (SetBag H)) : Type 0 where
-    pub covers : (aggregations : List Aggregation) (rows : List Entry) → IsPool aggregations rows old → IsPool aggregations rows new
+    pub covers : (aggregations : List Aggregation) (rows : List RowValue) → IsPool aggregations rows old → IsPool aggregations rows new
     pub finer : (set : List ℕ) → has_finer old set ≡ true → has_finer new set ≡ true
     pub stay : (set : List ℕ) → has_set old set ≡ true → has_set new set ≡ true
 

@@ -1,6 +1,6 @@
 -- Worked reports: four sales, one of them of an unknown region, by ROLLUP of the region.
 use Rattle.std.specs.Prelude.{ℕ, ℤ, pos, negsuc, List, [], ◌∷◌, codes, None}
-use Rattle.cells.specs.Values.{Entry}
+use Rattle.cells.specs.Values.{RowValue}
 use Rattle.cells.specs.declared.cell.Cell.{Cell}
 use Rattle.cells.specs.declared.cell.Cell.TheVariants.{Null, Int, Text}
 use Rattle.cells.specs.declared.total.Total.{Total}
@@ -8,10 +8,10 @@ use Rattle.cells.specs.declared.total.Total.TheVariants as total
 use Rattle.query.specs.Plans.{PlanTree}
 use Rattle.query.specs.declared.item.Item.TheVariants as item
 
-abbrev sale : ℤ → Cell → Cell → Entry
+abbrev sale : ℤ → Cell → Cell → RowValue
 sale number region units = record { key = Int number; cells = Int number ∷ region ∷ units ∷ [] }
 
-abbrev pub sales : List Entry
+abbrev pub sales : List RowValue
 sales = sale (pos 1) (Text (codes "north")) (Int (pos 10)) ∷ sale (pos 2) (Text (codes "north")) Null
     ∷ sale (pos 3) Null (Int (pos 5)) ∷ sale (pos 4) (Text (codes "south")) (Int (negsuc 1)) ∷ []
 

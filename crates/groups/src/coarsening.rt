@@ -1,6 +1,6 @@
 //! Groups of a coarser grouping set, made from those of a finer one.
 ghost use Rattle.std.specs.Prelude.{ℕ, List, IfOk, length};
-ghost use Rattle.cells.specs.Values.{Entry};
+ghost use Rattle.cells.specs.Values.{RowValue};
 ghost use Rattle.groups.specs.Coarsening.{CanCoarsen, picked_columns};
 ghost use Rattle.groups.specs.Bags.{AreWithin, Covers};
 ghost use Rattle.groups.specs.declared.aggregation.Aggregation.{Aggregation};
@@ -17,7 +17,7 @@ pub fn coarsened<H: KeyHash<Cell>>(
     places: &[usize],
 ) -> Result<Bag<H>, AllocError>
     requires { CanCoarsen places.now finer.now }
-    ensures { (aggregations : List Aggregation) (columns : List ℕ) (rows : List Entry) → AreWithin (length columns) places.now → Covers aggregations columns rows finer.now →
+    ensures { (aggregations : List Aggregation) (columns : List ℕ) (rows : List RowValue) → AreWithin (length columns) places.now → Covers aggregations columns rows finer.now →
         IfOk result (λ b. Covers aggregations (picked_columns columns places.now) rows b) }
 {
     let mut bag = Bag::new(alloc);

@@ -3,7 +3,7 @@ ghost use Rattle.std.specs.Prelude.{◌≡◌, ℕ, List, ◌++◌, IfOk};
 ghost use Rattle.std.specs.List.Sorted.{IsPermutation, IsSorted};
 ghost use Rattle.std.specs.Map.{keys_of};
 ghost use Rattle.cells.specs.TupleOrder.{tuple_cmp};
-ghost use Rattle.cells.specs.Values.{Entry};
+ghost use Rattle.cells.specs.Values.{RowValue};
 ghost use Rattle.groups.specs.Accumulators.{aggregations_of};
 ghost use Rattle.groups.specs.Finishing.{rows_by};
 ghost use Rattle.groups.specs.Groups.{set_rows};
@@ -55,7 +55,7 @@ pub(crate) fn add_rows_of_set<H: KeyHash<Cell> + KeyHash<Tuple>>(
     set: &GroupSet,
     groups: &Trie<Tuple, Accumulators<H>, H>,
 ) -> Result<(), AllocError>
-    ensures { (kept : List Entry) → StandsAt H.KeyHash-2.hash_of (aggregations_of plan.now.items) set.now kept groups.now →
+    ensures { (kept : List RowValue) → StandsAt H.KeyHash-2.hash_of (aggregations_of plan.now.items) set.now kept groups.now →
         IfOk result (λ _. rows.new.items ≡ rows.old.items ++ set_rows plan.now.items set.now kept) }
 {
     groups.keys_rise();

@@ -1,6 +1,6 @@
 //! Rows folded piece by piece.
 ghost use Rattle.std.specs.Prelude.{◌≡◌, [], List, ◌++◌, IfOk};
-ghost use Rattle.cells.specs.Values.{Entry};
+ghost use Rattle.cells.specs.Values.{RowValue};
 ghost use Rattle.groups.specs.Folds.{group_count, FillsSources, Folds, MayFillSources, MayEnd, MayTakeMore};
 ghost use Rattle.groups.specs.Groups.{kept};
 ghost use Rattle.groups.specs.Partials.{Stands, rows_of};
@@ -47,7 +47,7 @@ impl<'a, H: KeyHash<Cell> + KeyHash<Tuple>> Folding<'a, H> {
     /// keep of it. After an error nothing is known of the rows, and the folding is to be dropped.
     pub fn take(&mut self, alloc: Global, piece: &Piece<Cell, Row, H>) -> Result<(), AllocError>
         requires { MayTakeMore self.old (rows_of piece.now) }
-        ensures { (plan : PlanTree) (rows : List Entry) → Folds plan rows self.old →
+        ensures { (plan : PlanTree) (rows : List RowValue) → Folds plan rows self.old →
             IfOk result (λ _. Folds plan (rows ++ kept plan.condition (rows_of piece.now)) self.new) }
     {
         predicates_fit_rows();
@@ -75,7 +75,7 @@ impl<'a, H: KeyHash<Cell> + KeyHash<Tuple>> Folding<'a, H> {
     /// The partial result of all rows that were taken.
     pub fn into_partial(self, alloc: Global) -> Result<Partial<H>, AllocError>
         requires { MayEnd self }
-        ensures { (plan : PlanTree) (rows : List Entry) → Folds plan rows self.entry →
+        ensures { (plan : PlanTree) (rows : List RowValue) → Folds plan rows self.entry →
             IfOk result (λ p. Stands H.KeyHash-2.hash_of plan rows p) }
     {
         predicates_fit_rows();

@@ -1,7 +1,7 @@
 //! Tries of groups, made of the groups that rows were folded into.
 ghost use Rattle.std.specs.Prelude.{◌≡◌, ℕ, ◌+◌, ◌<◌, ◌^◌, List, [], Some, IfOk, IfSome, length};
 ghost use Rattle.std.specs.Option.{option_copied};
-ghost use Rattle.cells.specs.Values.{Entry};
+ghost use Rattle.cells.specs.Values.{RowValue};
 ghost use Rattle.groups.specs.Accumulators.{AllFit, both};
 ghost use Rattle.groups.specs.Bags.{Covers, IsCounted};
 ghost use Rattle.groups.specs.Laying.{CanMeet, IsLaid, Lays, found};
@@ -39,7 +39,7 @@ pub fn trie_of<H: KeyHash<Cell> + KeyHash<Tuple>>(
     aggregations: &[Aggregation],
 ) -> Result<Trie<Tuple, Accumulators<H>, H>, AllocError>
     requires { IsCounted aggregations.now set.now bag.now }
-    ensures { (rows : List Entry) → Covers aggregations.now set.now rows bag.now →
+    ensures { (rows : List RowValue) → Covers aggregations.now set.now rows bag.now →
         IfOk result (λ t. StandsAt H.KeyHash-2.hash_of aggregations.now set.now rows t) }
 {
     laid(alloc, bag.groups(), set, aggregations)

@@ -1,6 +1,6 @@
 //! Partial results.
 ghost use Rattle.std.specs.Prelude.{◌≡◌, List, [], ◌++◌, IfOk};
-ghost use Rattle.cells.specs.Values.{Entry};
+ghost use Rattle.cells.specs.Values.{RowValue};
 ghost use Rattle.groups.specs.Groups.{kept, rows_over};
 ghost use Rattle.groups.specs.Partials.{MayFold, MayMeet, Stands, rows_of};
 ghost use Rattle.query.specs.Plans.{PlanTree};
@@ -73,7 +73,7 @@ impl<H: KeyHash<Cell> + KeyHash<Tuple>> Partial<H> {
     /// The partial result of both lists of rows together. Both are of one plan.
     pub fn join(&self, alloc: Global, other: &Partial<H>) -> Result<Partial<H>, AllocError>
         requires { MayMeet H.KeyHash-2.hash_of self.now other.now }
-        ensures { (plan : PlanTree) (xs ys : List Entry) → Stands H.KeyHash-2.hash_of plan xs self.now → Stands H.KeyHash-2.hash_of plan ys other.now →
+        ensures { (plan : PlanTree) (xs ys : List RowValue) → Stands H.KeyHash-2.hash_of plan xs self.now → Stands H.KeyHash-2.hash_of plan ys other.now →
             IfOk result (λ p. Stands H.KeyHash-2.hash_of plan (xs ++ ys) p) }
     {
         let mut tries = Vec::new(alloc);
@@ -91,7 +91,7 @@ impl<H: KeyHash<Cell> + KeyHash<Tuple>> Partial<H> {
         plan: &Plan,
         partial: Partial<H>,
     ) -> Result<Vec<ReportRow>, AllocError>
-        ensures { (rows : List Entry) → Stands H.KeyHash-2.hash_of plan.now rows partial → IfOk result (λ v. v.items ≡ rows_over plan.now rows) }
+        ensures { (rows : List RowValue) → Stands H.KeyHash-2.hash_of plan.now rows partial → IfOk result (λ v. v.items ≡ rows_over plan.now rows) }
     {
         let mut rows = Vec::new(alloc);
         for (set, groups) in plan.sets().iter().zip(&partial.tries) {

@@ -1,7 +1,7 @@
 //! Pools: the bags of several grouping sets over the same rows, the coarser ones made from the finer.
 ghost use Rattle.std.specs.Prelude.{◌≡◌, ◌<◌, List, true, IfOk, IfSome, length, position, slice_index_or};
 ghost use Rattle.std.specs.Option.{is_some, option_copied};
-ghost use Rattle.cells.specs.Values.{Entry};
+ghost use Rattle.cells.specs.Values.{RowValue};
 ghost use Rattle.groups.specs.Coarsening.{ArePlaces};
 ghost use Rattle.groups.specs.Bags.{Covers};
 ghost use Rattle.groups.specs.Pools.{Grows, HaveFiner, HaveSetsAbove, HaveSetsOf, IsPool, MayCoarsen, MayCoarsenAll, has_all, has_finer, has_set};
@@ -46,7 +46,7 @@ pub fn pool_of<H: KeyHash<Cell>>(
 
 /// The bag of the set, if it is in the pool.
 pub fn bag_in<'a, H: KeyHash<Cell>>(pool: &'a [SetBag<H>], set: &[usize]) -> Option<&'a Bag<H>>
-    ensures covers { (aggregations : List Aggregation) (rows : List Entry) → IsPool aggregations rows pool.now →
+    ensures covers { (aggregations : List Aggregation) (rows : List RowValue) → IsPool aggregations rows pool.now →
         IfSome (option_copied result) (λ b. Covers aggregations set.now rows b) }
     ensures there { is_some result ≡ has_set pool.now set.now }
 {
@@ -66,7 +66,7 @@ pub fn bag_from<H: KeyHash<Cell>>(
 ) -> Result<Bag<H>, AllocError>
     requires can { MayCoarsenAll pool.now }
     requires finer { has_finer pool.now set.now ≡ true }
-    ensures { (aggregations : List Aggregation) (rows : List Entry) → IsPool aggregations rows pool.now →
+    ensures { (aggregations : List Aggregation) (rows : List RowValue) → IsPool aggregations rows pool.now →
         IfOk result (λ b. Covers aggregations set.now rows b) }
 {
     let place = fewest(pool, set);
@@ -161,7 +161,7 @@ fn coarser_bag<H: KeyHash<Cell>>(
 ) -> Result<Bag<H>, AllocError>
     requires can { MayCoarsen finer.now }
     requires finer { has_all finer.now.set.items set.now ≡ true }
-    ensures { (aggregations : List Aggregation) (rows : List Entry) → Covers aggregations finer.now.set.items rows finer.now.bag →
+    ensures { (aggregations : List Aggregation) (rows : List RowValue) → Covers aggregations finer.now.set.items rows finer.now.bag →
         IfOk result (λ b. Covers aggregations set.now rows b) }
 {
     let places = places_in(alloc, finer.set.as_slice(), set)?;

@@ -1,6 +1,6 @@
 //! The tries of the sets of a plan, made from groups of the sources.
 ghost use Rattle.std.specs.Prelude.{◌≡◌, List, true, IfOk};
-ghost use Rattle.cells.specs.Values.{Entry};
+ghost use Rattle.cells.specs.Values.{RowValue};
 ghost use Rattle.groups.specs.Partials.{StandsAt, StandsEach};
 ghost use Rattle.groups.specs.Pools.{AreCounted, HaveFiner, IsPool, has_finer};
 
@@ -22,7 +22,7 @@ pub fn tries_of<H: KeyHash<Cell> + KeyHash<Tuple>>(
 ) -> Result<Vec<Trie<Tuple, Accumulators<H>, H>>, AllocError>
     requires can { AreCounted aggregations.now sources.items }
     requires finer { HaveFiner sources.items sets.now }
-    ensures { (rows : List Entry) → IsPool aggregations.now rows sources.items →
+    ensures { (rows : List RowValue) → IsPool aggregations.now rows sources.items →
         IfOk result (λ v. StandsEach H.KeyHash-2.hash_of aggregations.now sets.now rows v.items) }
 {
     let pool = pool_of(alloc, sets, sources)?;
@@ -44,7 +44,7 @@ fn trie_by<H: KeyHash<Cell> + KeyHash<Tuple>>(
 ) -> Result<Trie<Tuple, Accumulators<H>, H>, AllocError>
     requires can { AreCounted aggregations.now pool.now }
     requires finer { has_finer pool.now set.now ≡ true }
-    ensures { (rows : List Entry) → IsPool aggregations.now rows pool.now →
+    ensures { (rows : List RowValue) → IsPool aggregations.now rows pool.now →
         IfOk result (λ t. StandsAt H.KeyHash-2.hash_of aggregations.now set.now rows t) }
 {
     if let Some(groups) = bag_in(pool, set) {

@@ -1,6 +1,6 @@
 //! Rows of a piece folded into the bag of a source.
 ghost use Rattle.std.specs.Prelude.{◌≡◌, ◌++◌, List, IfOk, IfSome, length};
-ghost use Rattle.cells.specs.Values.{Entry};
+ghost use Rattle.cells.specs.Values.{RowValue};
 ghost use Rattle.groups.specs.Bags.{Covers};
 ghost use Rattle.groups.specs.Folds.{FillsSource, MayFill, MayFillSource, kept_of};
 ghost use Rattle.groups.specs.Groups.{keeps};
@@ -83,7 +83,7 @@ fn filled_bag<H: KeyHash<Cell>>(
     bag: Bag<H>,
 ) -> Result<Bag<H>, AllocError>
     requires { MayFill rows.now set.now bag }
-    ensures { (befores : List Entry) → Covers rows.now.aggregations.now set.now befores bag →
+    ensures { (befores : List RowValue) → Covers rows.now.aggregations.now set.now befores bag →
         IfOk result (λ b. Covers rows.now.aggregations.now set.now (befores ++ kept_of rows.now) b) }
 {
     let mut filler = BagFiller {

@@ -11,7 +11,7 @@ use Rattle.cells.specs.Fitting.{IsRowOf}
 use Rattle.cells.specs.SameKeys.{exact_cells}
 use Rattle.cells.specs.Tables.{Rows, laid_over, table}
 use Rattle.cells.specs.Updates.{Update, puts, rows}
-use Rattle.cells.specs.Values.{Entry, Table}
+use Rattle.cells.specs.Values.{RowValue, Table}
 use Rattle.cells.specs.declared.cell.Cell.{Cell}
 use Rattle.trie.specs.Entries.{value_at}
 use Rattle.trie.specs.Maps.{map_of}
@@ -21,7 +21,7 @@ use Rattle.loader.specs.Loads.{Held, HoldsPuts}
 use Rattle.loader.proofs.PutsLemmas.{LaysRows, holds_all, holds_both, inserted}
 
 -- pairs were put one after another
-pub held_all : LaysRows → (pairs : List (Cell × Entry)) (held : Held) → map_of cell_cmp held ≡ inserted empty pairs → length held ≤ length pairs → HoldsAll pairs held
+pub held_all : LaysRows → (pairs : List (Cell × RowValue)) (held : Held) → map_of cell_cmp held ≡ inserted empty pairs → length held ≤ length pairs → HoldsAll pairs held
 held_all put pairs held is few = record {
   holds = λ t rs keyed fit. holds_all t put pairs rs held keyed fit is;
   few = few;
@@ -29,7 +29,7 @@ held_all put pairs held is few = record {
 
 -- ---- rows cut in two
 
-all_cut : (t : Table) (middle : ℕ) (rs : List Entry) → AllByRecursion (IsRowOf t) rs → AllByRecursion (IsRowOf t) (take middle rs) × AllByRecursion (IsRowOf t) (drop middle rs)
+all_cut : (t : Table) (middle : ℕ) (rs : List RowValue) → AllByRecursion (IsRowOf t) rs → AllByRecursion (IsRowOf t) (take middle rs) × AllByRecursion (IsRowOf t) (drop middle rs)
 all_cut t zero rs fit = (tt, fit)
 all_cut t (suc middle) [] fit = (tt, tt)
 all_cut t (suc middle) (row ∷ rs) fit = let behind = all_cut t middle rs fit.1 in ((fit.0, behind.0), behind.1)
@@ -41,18 +41,18 @@ later_first (Some x) None = refl
 later_first (Some x) (Some y) = refl
 
 -- the laws of rows that lie over others
-module _ (over : (us : List Update) (rs : List Entry) → table (rows (us ++ puts rs)) ≡ laid_over (table (rows (puts rs))) (table (rows us)))
+module _ (over : (us : List Update) (rs : List RowValue) → table (rows (us ++ puts rs)) ≡ laid_over (table (rows (puts rs))) (table (rows us)))
     (stands : (later earlier : Rows) (key : Cell) → get (laid_over later earlier) key ≡ option_or (get later key) (get earlier key)) where
   -- the halves of the rows, the back over the front
-  pub held_halves : (pairs front back : List (Cell × Entry)) (middle : ℕ) (first second all : Held) → front ≡ take middle pairs → back ≡ drop middle pairs →
+  pub held_halves : (pairs front back : List (Cell × RowValue)) (middle : ℕ) (first second all : Held) → front ≡ take middle pairs → back ≡ drop middle pairs →
       HoldsAll front first → HoldsAll back second → IsLaidOver first second all → HoldsAll pairs all
   held_halves pairs front back middle first second all is_front is_back one two laid = record {
     holds = λ t rs keyed fit.
         let cut = all_cut t middle rs fit in
         subst (λ l. HoldsPuts t l all) (take-append-drop middle rs)
         (holds_both t over stands first second all (take middle rs) (drop middle rs) laid.map
-        (one.holds t (take middle rs) (is_front ∙ ap (take middle) keyed ∙ take-map (λ (r : Entry). (r.key, r)) middle rs) cut.0)
-        (two.holds t (drop middle rs) (is_back ∙ ap (drop middle) keyed ∙ drop-map (λ (r : Entry). (r.key, r)) middle rs) cut.1));
+        (one.holds t (take middle rs) (is_front ∙ ap (take middle) keyed ∙ take-map (λ (r : RowValue). (r.key, r)) middle rs) cut.0)
+        (two.holds t (drop middle rs) (is_back ∙ ap (drop middle) keyed ∙ drop-map (λ (r : RowValue). (r.key, r)) middle rs) cut.1));
     few =
         let all_of_them : length (take middle pairs ++ drop middle pairs) ≡ length pairs = ap length (take-append-drop middle pairs) in
         let both = length-append (take middle pairs) (drop middle pairs) in

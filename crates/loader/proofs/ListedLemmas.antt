@@ -7,7 +7,7 @@ use Rattle.std.specs.List.{AllByRecursion, AllZip}
 use Rattle.cells.specs.CellOrder.{cell_cmp}
 use Rattle.cells.specs.Fitting.{IsRowOf}
 use Rattle.cells.specs.Tables.{AreRowsOf, keyed_rows}
-use Rattle.cells.specs.Values.{Entry, Table}
+use Rattle.cells.specs.Values.{RowValue, Table}
 use Rattle.cells.specs.declared.cell.Cell.{Cell}
 use Rattle.trie.specs.Maps.{map_of}
 use Rattle.loader.specs.Halves.{HoldsAll}
@@ -19,25 +19,25 @@ use Rattle.loader.specs.declared.fault.PartFault.TheVariants.{Bad, OutOfMemory, 
 use Rattle.loader.specs.declared.loading.Found.{Found}
 
 -- rows that were read, before those of the parts that are left
-abbrev pub before : List Entry → Result (List Entry) FaultyRecord → Result (List Entry) FaultyRecord
+abbrev pub before : List RowValue → Result (List RowValue) FaultyRecord → Result (List RowValue) FaultyRecord
 before rs (Ok more) = Ok (rs ++ more)
 before rs (Err fault) = Err fault
 
 -- what is said of all parts is said of those left, behind the rows that were read, each beside its key, of which there are no
 -- more than the parts before have bytes
-pub record Listed (t : Table) (said : Result (List Entry) FaultyRecord) (most : ℕ) (left : List Part) (pairs : List (Cell × Entry)) : Type 0 where
-  pub rs : List Entry
+pub record Listed (t : Table) (said : Result (List RowValue) FaultyRecord) (most : ℕ) (left : List Part) (pairs : List (Cell × RowValue)) : Type 0 where
+  pub rs : List RowValue
   pub keyed : pairs ≡ keyed_rows rs
   pub fit : AllByRecursion (IsRowOf t) rs
   pub is : said ≡ before rs (rows_of_parts t left)
   pub few : length pairs + sum_by part_len left ≤ most
 
-before_none : (o : Result (List Entry) FaultyRecord) → o ≡ before [] o
+before_none : (o : Result (List RowValue) FaultyRecord) → o ≡ before [] o
 before_none (Ok rs) = refl
 before_none (Err fault) = refl
 
 -- no part was taken
-pub listed_first : (t : Table) (parts : List Part) (pairs : List (Cell × Entry)) → pairs ≡ [] → Listed t (rows_of_parts t parts) (sum_by part_len parts) parts pairs
+pub listed_first : (t : Table) (parts : List Part) (pairs : List (Cell × RowValue)) → pairs ≡ [] → Listed t (rows_of_parts t parts) (sum_by part_len parts) parts pairs
 listed_first t parts pairs none = record {
   rs = [];
   keyed = none;
@@ -53,20 +53,20 @@ zip_more R (u ∷ xs) [] x y zip last = absurd zip
 zip_more R (u ∷ xs) (v ∷ ys) x y zip last = (zip.0, zip_more R xs ys x y zip.1 last)
 
 -- a part's rows go to those that were read
-rows_before : (part : ℕ) (rs more : List Entry) (o : Result (List Entry) FaultyRecord) → before rs (and_parts part (Ok more) o) ≡ before (rs ++ more) o
+rows_before : (part : ℕ) (rs more : List RowValue) (o : Result (List RowValue) FaultyRecord) → before rs (and_parts part (Ok more) o) ≡ before (rs ++ more) o
 rows_before part rs more (Ok behind) = ap Ok (sym (append_assoc rs more behind))
 rows_before part rs more (Err fault) = refl
 
-all_behind : (t : Table) (rs more : List Entry) → AllByRecursion (IsRowOf t) rs → AllByRecursion (IsRowOf t) more → AllByRecursion (IsRowOf t) (rs ++ more)
+all_behind : (t : Table) (rs more : List RowValue) → AllByRecursion (IsRowOf t) rs → AllByRecursion (IsRowOf t) more → AllByRecursion (IsRowOf t) (rs ++ more)
 all_behind t [] more fit last = last
 all_behind t (row ∷ rs) more fit last = (fit.0, all_behind t rs more fit.1 last)
 
 -- one part was taken, none of whose records is faulty
-pub listed_more : (t : Table) (said : Result (List Entry) FaultyRecord) (most : ℕ) (part : Part) (old new : List Part) (pairs more all : List (Cell × Entry)) →
+pub listed_more : (t : Table) (said : Result (List RowValue) FaultyRecord) (most : ℕ) (part : Part) (old new : List Part) (pairs more all : List (Cell × RowValue)) →
     Listed t said most old pairs → old ≡ part ∷ new → IsRead t (rows_of_part t part.1) (length part.1) more → all ≡ pairs ++ more → Listed t said most new all
 listed_more t said most part old new pairs more all so_far took read joined = record {
   rs = so_far.rs ++ read.rs;
-  keyed = joined ∙ ap₂ (λ (front behind : List (Cell × Entry)). front ++ behind) so_far.keyed read.keyed ∙ sym (map-append (λ (r : Entry). (r.key, r)) so_far.rs read.rs);
+  keyed = joined ∙ ap₂ (λ (front behind : List (Cell × RowValue)). front ++ behind) so_far.keyed read.keyed ∙ sym (map-append (λ (r : RowValue). (r.key, r)) so_far.rs read.rs);
   fit = all_behind t so_far.rs read.rs so_far.fit read.fit;
   is = so_far.is ∙ ap (λ left. before so_far.rs (rows_of_parts t left)) took
       ∙ ap (λ o. before so_far.rs (and_parts part.0 o (rows_of_parts t new))) read.is
@@ -79,14 +79,14 @@ listed_more t said most part old new pairs more all so_far took read joined = re
 }
 
 -- one part was taken, which has a faulty record
-pub listed_fault : (t : Table) (said : Result (List Entry) FaultyRecord) (most : ℕ) (part : Part) (old new : List Part) (pairs : List (Cell × Entry)) (entry : ℕ) →
+pub listed_fault : (t : Table) (said : Result (List RowValue) FaultyRecord) (most : ℕ) (part : Part) (old new : List Part) (pairs : List (Cell × RowValue)) (entry : ℕ) →
     Listed t said most old pairs → old ≡ part ∷ new → rows_of_part t part.1 ≡ Err entry → said ≡ Err (record { part = part.0; entry = entry })
 listed_fault t said most part old new pairs entry so_far took bad =
     so_far.is ∙ ap (λ left. before so_far.rs (rows_of_parts t left)) took
     ∙ ap (λ o. before so_far.rs (and_parts part.0 o (rows_of_parts t new))) bad
 
 -- all parts were taken
-pub listed_end : (t : Table) (said : Result (List Entry) FaultyRecord) (most : ℕ) (left : List Part) (pairs : List (Cell × Entry)) → Listed t said most left pairs → left ≡ [] → IsRead t said most pairs
+pub listed_end : (t : Table) (said : Result (List RowValue) FaultyRecord) (most : ℕ) (left : List Part) (pairs : List (Cell × RowValue)) → Listed t said most left pairs → left ≡ [] → IsRead t said most pairs
 listed_end t said most left pairs all none = record {
   rs = all.rs;
   is = all.is ∙ ap (λ parts. before all.rs (rows_of_parts t parts)) none ∙ ap Ok (append-nil all.rs);
@@ -96,7 +96,7 @@ listed_end t said most left pairs all none = record {
 }
 
 -- the trie of all rows
-module _ (t : Table) (said : Result (List Entry) FaultyRecord) (most : ℕ) (pairs : List (Cell × Entry)) (read : IsRead t said most pairs) where
+module _ (t : Table) (said : Result (List RowValue) FaultyRecord) (most : ℕ) (pairs : List (Cell × RowValue)) (read : IsRead t said most pairs) where
   pub all_loaded : (loaded : Result Held PartFault) → IfOk loaded (HoldsAll pairs) → IfErr loaded (λ e. (e ≡ NoWorker) ⊎ (e ≡ OutOfMemory)) → Loads said loaded
   all_loaded (Ok all) held refused = record { rs = read.rs; is = read.is; map = (held.holds t read.rs read.keyed read.fit).map }
   all_loaded (Err (Bad part entry)) held refused = absurd (elim refused [ inl e ↦ cc | inr e ↦ cc ])
@@ -107,7 +107,7 @@ module _ (t : Table) (said : Result (List Entry) FaultyRecord) (most : ℕ) (pai
   all_fit all held = (held.holds t read.rs read.keyed read.fit).fit
 
 -- where there are no rows, nothing is loaded, for the same fault
-pub none_loaded : (t : Table) (said : Result (List Entry) FaultyRecord) (most : ℕ) (fault : PartFault) → Lists t said most (Err fault) → Loads said (Err fault)
+pub none_loaded : (t : Table) (said : Result (List RowValue) FaultyRecord) (most : ℕ) (fault : PartFault) → Lists t said most (Err fault) → Loads said (Err fault)
 none_loaded t said most (Bad part entry) lists = lists
 none_loaded t said most OutOfMemory lists = tt
 none_loaded t said most NoWorker lists = tt

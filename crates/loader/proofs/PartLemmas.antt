@@ -10,49 +10,49 @@ use Rattle.csv.specs.declared.parser.State.TheVariants as st
 use Rattle.cells.specs.Fitting.{IsRowOf}
 use Rattle.cells.specs.Records.{row_of}
 use Rattle.cells.specs.Tables.{keyed_rows}
-use Rattle.cells.specs.Values.{Entry, Table}
+use Rattle.cells.specs.Values.{RowValue, Table}
 use Rattle.cells.specs.declared.cell.Cell.{Cell}
 use Rattle.loader.specs.Loads.{Content, IsRead, IsContent}
 use Rattle.loader.specs.Parts.{and_rows, is_header, rows_behind_header, rows_from}
 use Rattle.loader.specs.Records.{records_of}
 
 -- rows that were read, before those of the records that are left
-abbrev pub behind : List Entry → Result (List Entry) ℕ → Result (List Entry) ℕ
+abbrev pub behind : List RowValue → Result (List RowValue) ℕ → Result (List RowValue) ℕ
 behind rs (Ok more) = Ok (rs ++ more)
 behind rs (Err number) = Err number
 
 -- what is said of all records is said of those left, behind the rows that were read, each beside its key, of which there are
 -- fewer than the number of the next record
-pub record Reached (t : Table) (said : Result (List Entry) ℕ) (number : ℕ) (left : List (List (List ℕ))) (pairs : List (Cell × Entry)) : Type 0 where
-  pub rs : List Entry
+pub record Reached (t : Table) (said : Result (List RowValue) ℕ) (number : ℕ) (left : List (List (List ℕ))) (pairs : List (Cell × RowValue)) : Type 0 where
+  pub rs : List RowValue
   pub keyed : pairs ≡ keyed_rows rs
   pub fit : AllByRecursion (IsRowOf t) rs
   pub is : said ≡ behind rs (rows_from t number left)
   pub few : length pairs < number
 
-behind_none : (o : Result (List Entry) ℕ) → o ≡ behind [] o
+behind_none : (o : Result (List RowValue) ℕ) → o ≡ behind [] o
 behind_none (Ok rs) = refl
 behind_none (Err number) = refl
 
 -- no record was read
-pub reached_first : (t : Table) (records : List (List (List ℕ))) (pairs : List (Cell × Entry)) → pairs ≡ [] → Reached t (rows_from t 1 records) 1 records pairs
+pub reached_first : (t : Table) (records : List (List (List ℕ))) (pairs : List (Cell × RowValue)) → pairs ≡ [] → Reached t (rows_from t 1 records) 1 records pairs
 reached_first t records pairs none = record { rs = []; keyed = none; fit = tt; is = behind_none (rows_from t 1 records); few = omega (arith, ap length none) }
 
-all_more : (t : Table) (rs : List Entry) (row : Entry) → AllByRecursion (IsRowOf t) rs → IsRowOf t row → AllByRecursion (IsRowOf t) (rs ++ row ∷ [])
+all_more : (t : Table) (rs : List RowValue) (row : RowValue) → AllByRecursion (IsRowOf t) rs → IsRowOf t row → AllByRecursion (IsRowOf t) (rs ++ row ∷ [])
 all_more t [] row fit more = (more, tt)
 all_more t (r ∷ rs) row fit more = (fit.0, all_more t rs row fit.1 more)
 
 -- a record's row goes to those that were read
-row_behind : (rs : List Entry) (row : Entry) (number : ℕ) (o : Result (List Entry) ℕ) → behind rs (and_rows number (Some row) o) ≡ behind (rs ++ row ∷ []) o
+row_behind : (rs : List RowValue) (row : RowValue) (number : ℕ) (o : Result (List RowValue) ℕ) → behind rs (and_rows number (Some row) o) ≡ behind (rs ++ row ∷ []) o
 row_behind rs row number (Ok more) = ap Ok (sym (append_assoc rs (row ∷ []) more))
 row_behind rs row number (Err other) = refl
 
 -- one record was read, which spells a row
-pub reached_more : (t : Table) (said : Result (List Entry) ℕ) (number : ℕ) (old new : List (List (List ℕ))) (fields : List (List ℕ)) (row : Entry) (pairs all : List (Cell × Entry)) →
+pub reached_more : (t : Table) (said : Result (List RowValue) ℕ) (number : ℕ) (old new : List (List (List ℕ))) (fields : List (List ℕ)) (row : RowValue) (pairs all : List (Cell × RowValue)) →
     Reached t said number old pairs → old ≡ fields ∷ new → row_of t fields ≡ Some row → IsRowOf t row → all ≡ pairs ++ (row.key, row) ∷ [] → Reached t said (number + 1) new all
 reached_more t said number old new fields row pairs all reached took spelt fits more = record {
   rs = reached.rs ++ row ∷ [];
-  keyed = more ∙ ap (λ ps. ps ++ (row.key, row) ∷ []) reached.keyed ∙ sym (map-append (λ (r : Entry). (r.key, r)) reached.rs (row ∷ []));
+  keyed = more ∙ ap (λ ps. ps ++ (row.key, row) ∷ []) reached.keyed ∙ sym (map-append (λ (r : RowValue). (r.key, r)) reached.rs (row ∷ []));
   fit = all_more t reached.rs row reached.fit fits;
   is = reached.is ∙ ap (λ left. behind reached.rs (rows_from t number left)) took
       ∙ ap (λ o. behind reached.rs (and_rows number o (rows_from t (number + 1) new))) spelt
@@ -61,7 +61,7 @@ reached_more t said number old new fields row pairs all reached took spelt fits 
 }
 
 -- all records were read
-pub reached_end : (t : Table) (said : Result (List Entry) ℕ) (number most : ℕ) (left : List (List (List ℕ))) (pairs : List (Cell × Entry)) →
+pub reached_end : (t : Table) (said : Result (List RowValue) ℕ) (number most : ℕ) (left : List (List (List ℕ))) (pairs : List (Cell × RowValue)) →
     Reached t said number left pairs → left ≡ [] → number + length left ≡ most + 1 → IsRead t said most pairs
 reached_end t said number most left pairs reached none counted = record {
   rs = reached.rs;
@@ -72,7 +72,7 @@ reached_end t said number most left pairs reached none counted = record {
 }
 
 -- one record was read, which spells no row
-pub reached_fault : (t : Table) (said : Result (List Entry) ℕ) (number : ℕ) (old new : List (List (List ℕ))) (fields : List (List ℕ)) (pairs : List (Cell × Entry)) →
+pub reached_fault : (t : Table) (said : Result (List RowValue) ℕ) (number : ℕ) (old new : List (List (List ℕ))) (fields : List (List ℕ)) (pairs : List (Cell × RowValue)) →
     Reached t said number old pairs → old ≡ fields ∷ new → row_of t fields ≡ None → said ≡ Err number
 reached_fault t said number old new fields pairs reached took bad =
     reached.is ∙ ap (λ left. behind reached.rs (rows_from t number left)) took

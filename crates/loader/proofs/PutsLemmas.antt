@@ -12,7 +12,7 @@ use Rattle.cells.specs.Fitting.{IsRowOf}
 use Rattle.cells.specs.RowsFit.{rows_none, rows_over, rows_put}
 use Rattle.cells.specs.Tables.{AreRowsOf, Rows, keyed_rows, laid_over, table}
 use Rattle.cells.specs.Updates.{Put, Update, puts, rows}
-use Rattle.cells.specs.Values.{Entry, Table}
+use Rattle.cells.specs.Values.{RowValue, Table}
 use Rattle.cells.specs.declared.cell.Cell.{Cell}
 use Rattle.trie.specs.Entries.{with_pair, with_pairs}
 use Rattle.trie.specs.Maps.{map_of}
@@ -20,26 +20,26 @@ use Rattle.loader.specs.Loads.{Held, HoldsPuts}
 
 -- the law of a put: it lays its row over what the updates before it leave
 abbrev pub LaysRows : Type 0
-LaysRows = (us : List Update) (row : Entry) → table (rows (us ++ Put row ∷ [])) ≡ insert (table (rows us)) row.key row
+LaysRows = (us : List Update) (row : RowValue) → table (rows (us ++ Put row ∷ [])) ≡ insert (table (rows us)) row.key row
 
 -- rows inserted one after another
-abbrev pub inserted : Rows → List (Cell × Entry) → Rows
-inserted m pairs = fold (λ (held : Rows) (p : Cell × Entry). insert held p.0 p.1) m pairs
+abbrev pub inserted : Rows → List (Cell × RowValue) → Rows
+inserted m pairs = fold (λ (held : Rows) (p : Cell × RowValue). insert held p.0 p.1) m pairs
 
 -- that is what puts leave
-put_all : LaysRows → (us : List Update) (rs : List Entry) → inserted (table (rows us)) (keyed_rows rs) ≡ table (rows (us ++ puts rs))
+put_all : LaysRows → (us : List Update) (rs : List RowValue) → inserted (table (rows us)) (keyed_rows rs) ≡ table (rows (us ++ puts rs))
 put_all put us [] = ap (λ l. table (rows l)) (sym (append-nil us))
 put_all put us (row ∷ rs) =
     ap (λ (m : Rows). inserted m (keyed_rows rs)) (sym (put us row)) ∙ put_all put (us ++ Put row ∷ []) rs
     ∙ ap (λ l. table (rows l)) (append_assoc us (Put row ∷ []) (puts rs))
 
-all_fit : (t : Table) (m : Rows) (rs : List Entry) → AreRowsOf t m → AllByRecursion (IsRowOf t) rs → AreRowsOf t (inserted m (keyed_rows rs))
+all_fit : (t : Table) (m : Rows) (rs : List RowValue) → AreRowsOf t m → AllByRecursion (IsRowOf t) rs → AreRowsOf t (inserted m (keyed_rows rs))
 all_fit t m [] fit more = fit
 all_fit t m (row ∷ rs) fit more = all_fit t (insert m row.key row) rs (rows_put t m (insert m row.key row) row refl fit more.0) more.1
 
 module _ (t : Table) where
   -- rows were put one after another
-  pub holds_all : LaysRows → (pairs : List (Cell × Entry)) (rs : List Entry) (held : Held) → pairs ≡ keyed_rows rs → AllByRecursion (IsRowOf t) rs →
+  pub holds_all : LaysRows → (pairs : List (Cell × RowValue)) (rs : List RowValue) (held : Held) → pairs ≡ keyed_rows rs → AllByRecursion (IsRowOf t) rs →
       map_of cell_cmp held ≡ inserted empty pairs → HoldsPuts t rs held
   holds_all put pairs rs held keyed fit is = record {
     map = is ∙ ap (inserted empty) keyed ∙ put_all put [] rs;
@@ -47,9 +47,9 @@ module _ (t : Table) where
   }
 
   -- the rows of one trie behind those of another
-  pub holds_both : ((us : List Update) (rs : List Entry) → table (rows (us ++ puts rs)) ≡ laid_over (table (rows (puts rs))) (table (rows us))) →
+  pub holds_both : ((us : List Update) (rs : List RowValue) → table (rows (us ++ puts rs)) ≡ laid_over (table (rows (puts rs))) (table (rows us))) →
       ((later earlier : Rows) (key : Cell) → get (laid_over later earlier) key ≡ option_or (get later key) (get earlier key)) →
-      (first second both : Held) (rs more : List Entry) → map_of cell_cmp both ≡ laid_over (map_of cell_cmp second) (map_of cell_cmp first) →
+      (first second both : Held) (rs more : List RowValue) → map_of cell_cmp both ≡ laid_over (map_of cell_cmp second) (map_of cell_cmp first) →
       HoldsPuts t rs first → HoldsPuts t more second → HoldsPuts t (rs ++ more) both
   holds_both over stands first second both rs more is one two = record {
     map = is ∙ ap₂ laid_over two.map one.map ∙ sym (over (puts rs) more) ∙ ap (λ us. table (rows us)) (sym (map-append Put rs more));

@@ -4,18 +4,18 @@ use Rattle.std.specs.List.{AllByRecursion}
 use Rattle.cells.specs.CellOrder.{cell_cmp}
 use Rattle.cells.specs.Fitting.{IsRowOf}
 use Rattle.cells.specs.Tables.{keyed_rows, laid_over}
-use Rattle.cells.specs.Values.{Entry, Table}
+use Rattle.cells.specs.Values.{RowValue, Table}
 use Rattle.cells.specs.declared.cell.Cell.{Cell}
 use Rattle.trie.specs.Maps.{map_of}
 use Rattle.loader.specs.Loads.{Held, HoldsPuts}
 
 -- whatever rows these are, each beside its key, the trie holds what they leave once they are put one after another
-pub record HoldsAll (pairs : List (Cell × Entry)) (held : Held) : Type 0 where
-  pub holds : (t : Table) (rs : List Entry) → pairs ≡ keyed_rows rs → AllByRecursion (IsRowOf t) rs → HoldsPuts t rs held
+pub record HoldsAll (pairs : List (Cell × RowValue)) (held : Held) : Type 0 where
+  pub holds : (t : Table) (rs : List RowValue) → pairs ≡ keyed_rows rs → AllByRecursion (IsRowOf t) rs → HoldsPuts t rs held
   pub few : length held ≤ length pairs
 
 -- the same of both halves of a list
-pub record AreBothHeld (front back : List (Cell × Entry)) (both : Held × Held) : Type 0 where
+pub record AreBothHeld (front back : List (Cell × RowValue)) (both : Held × Held) : Type 0 where
   pub first : HoldsAll front both.0
   pub second : HoldsAll back both.1
 

@@ -1,7 +1,7 @@
 -- What workers find at the places of a list of parts.
 use Rattle.std.specs.Prelude.{◌≡◌, ◌≤◌, ⊤, ℕ, List, Result, Ok, Err, length, slice_index_or}
 use Rattle.std.specs.List.{AllZip}
-use Rattle.cells.specs.Values.{Entry, Table}
+use Rattle.cells.specs.Values.{RowValue, Table}
 use Rattle.loader.specs.Loads.{IsRead, ReadsPart}
 use Rattle.loader.specs.Parts.{FaultyRecord, Part}
 use Rattle.loader.specs.declared.fault.PartFault.{PartFault}
@@ -19,12 +19,12 @@ abbrev pub AreRead : Table → List Part → List Found → Type 0
 AreRead t parts all = AllZip (λ (part : Part) (found : Found). ReadsPart t part.1 found.content) parts all
 
 -- rows that are said, cut where the front of the list ends
-pub record IsListed (t : Table) (said : Result (List Entry) FaultyRecord) (most : ℕ) (listed : ListedRows) : Type 0 where
+pub record IsListed (t : Table) (said : Result (List RowValue) FaultyRecord) (most : ℕ) (listed : ListedRows) : Type 0 where
   pub read : IsRead t said most listed.rows.items
   pub front : listed.front ≤ length listed.rows.items
 
 -- the rows of all parts, or the faulty record that is said
-abbrev pub Lists : Table → Result (List Entry) FaultyRecord → ℕ → Result ListedRows PartFault → Type 0
+abbrev pub Lists : Table → Result (List RowValue) FaultyRecord → ℕ → Result ListedRows PartFault → Type 0
 Lists t said most (Ok listed) = IsListed t said most listed
 Lists t said most (Err (Bad part entry)) = said ≡ Err (record { part = part; entry = entry })
 Lists t said most (Err OutOfMemory) = ⊤

@@ -6,7 +6,7 @@ use Rattle.cells.specs.CellOrder.{cell_cmp}
 use Rattle.cells.specs.Fitting.{IsRowOf}
 use Rattle.cells.specs.Tables.{AreRowsOf, keyed_rows, table}
 use Rattle.cells.specs.Updates.{puts, rows}
-use Rattle.cells.specs.Values.{Entry, Table}
+use Rattle.cells.specs.Values.{RowValue, Table}
 use Rattle.cells.specs.declared.cell.Cell.{Cell}
 use Rattle.cells.specs.declared.refused.Refused.{Refused}
 use Rattle.cells.specs.declared.refused.Refused.TheVariants as refused
@@ -17,16 +17,16 @@ use Rattle.loader.specs.declared.fault.PartFault.TheVariants.{Bad, OutOfMemory, 
 
 -- a trie of rows, as contracts see it: each row beside its key
 abbrev pub Held : Type 0
-Held = List (Cell × Entry)
+Held = List (Cell × RowValue)
 
 -- the trie holds what these rows leave once they are put one after another, and each row that it holds may stand in the table
-pub record HoldsPuts (t : Table) (rs : List Entry) (held : Held) : Type 0 where
+pub record HoldsPuts (t : Table) (rs : List RowValue) (held : Held) : Type 0 where
   pub map : map_of cell_cmp held ≡ table (rows (puts rs))
   pub fit : AreRowsOf t (map_of cell_cmp held)
 
 -- rows are said, which may stand in the table, and these are they, each beside its key; there are no more than this number
-pub record IsRead {E : Type 0} (t : Table) (said : Result (List Entry) E) (most : ℕ) (pairs : List (Cell × Entry)) : Type 0 where
-  pub rs : List Entry
+pub record IsRead {E : Type 0} (t : Table) (said : Result (List RowValue) E) (most : ℕ) (pairs : List (Cell × RowValue)) : Type 0 where
+  pub rs : List RowValue
   pub is : said ≡ Ok rs
   pub keyed : pairs ≡ keyed_rows rs
   pub fit : AllByRecursion (IsRowOf t) rs
@@ -34,10 +34,10 @@ pub record IsRead {E : Type 0} (t : Table) (said : Result (List Entry) E) (most 
 
 -- the rows of a part, each beside its key, or the number of its first faulty record
 abbrev pub Content : Type 0
-Content = Result (Vec (Cell × Entry) Global) ℕ
+Content = Result (Vec (Cell × RowValue) Global) ℕ
 
 -- the rows that are said, or the number of the faulty record that is said
-abbrev pub IsContent : Table → Result (List Entry) ℕ → ℕ → Content → Type 0
+abbrev pub IsContent : Table → Result (List RowValue) ℕ → ℕ → Content → Type 0
 IsContent t said most (Ok rows) = IsRead t said most rows.items
 IsContent t said most (Err number) = said ≡ Err number
 
@@ -46,8 +46,8 @@ abbrev pub ReadsPart : Table → List ℕ → Content → Type 0
 ReadsPart t bytes content = IsContent t (rows_of_part t bytes) (length bytes) content
 
 -- no record is faulty, and the trie holds what the rows leave that are said
-pub record AreLoaded (said : Result (List Entry) FaultyRecord) (held : Held) : Type 0 where
-  pub rs : List Entry
+pub record AreLoaded (said : Result (List RowValue) FaultyRecord) (held : Held) : Type 0 where
+  pub rs : List RowValue
   pub is : said ≡ Ok rs
   pub map : map_of cell_cmp held ≡ table (rows (puts rs))
 
@@ -57,7 +57,7 @@ pub record KeepsFromLoading (late : Refused) (fault : PartFault) : Type 0 where
   pub worker : late ≡ refused.NoWorker → fault ≡ NoWorker
 
 -- the rows that are said, or the faulty record that is said; nothing is said of memory and of threads
-abbrev pub Loads : Result (List Entry) FaultyRecord → Result Held PartFault → Type 0
+abbrev pub Loads : Result (List RowValue) FaultyRecord → Result Held PartFault → Type 0
 Loads said (Ok held) = AreLoaded said held
 Loads said (Err (Bad part entry)) = said ≡ Err (record { part = part; entry = entry })
 Loads said (Err OutOfMemory) = ⊤

@@ -2,7 +2,7 @@
 use Rattle.std.proofs.Common.{◌≡◌, ◌≢◌, ℕ, zero, suc, List, [], ◌∷◌, length, ap, subst, sym, refl}
 use Rattle.std.specs.Prelude.{Some, slice_index_or}
 use Rattle.cells.specs.Fitting.{AreOfColumns, IsOfType, IsRowOf}
-use Rattle.cells.specs.Values.{Entry, Table}
+use Rattle.cells.specs.Values.{RowValue, Table}
 use Rattle.cells.specs.declared.cell.Cell.{Cell}
 use Rattle.cells.specs.declared.cell.Cell.TheVariants as cell
 use Rattle.cells.specs.declared.schema.Column.{Column}
@@ -32,13 +32,13 @@ integer_at [] (c ∷ columns) place h e t f = absurd h
 integer_at (x ∷ cells) (c ∷ columns) zero h e t f = let same : c.kind ≡ kind.Int = cc in no_text x c.kind h.0 same t f
 integer_at (x ∷ cells) (c ∷ columns) (suc place) h e t f = integer_at cells columns place h.1 e t f
 
-pub cells_fit : (table : Table) (row : Entry) → IsRowOf table row → length row.cells ≡ length table.columns
+pub cells_fit : (table : Table) (row : RowValue) → IsRowOf table row → length row.cells ≡ length table.columns
 cells_fit table row fits = as_many row.cells table.columns fits.cells
 
-pub integers_fit : (table : Table) (row : Entry) (place : ℕ) (text : List ℕ) → IsRowOf table row → type_at table.columns place ≡ Some kind.Int → slice_index_or row.cells place cell.Null ≢ cell.Text text
+pub integers_fit : (table : Table) (row : RowValue) (place : ℕ) (text : List ℕ) → IsRowOf table row → type_at table.columns place ≡ Some kind.Int → slice_index_or row.cells place cell.Null ≢ cell.Text text
 integers_fit table row place text fits e f = integer_at row.cells table.columns place fits.cells e text f
 
-pub predicate_fits : (table : Table) (plan : PlanTree) (row : Entry) (predicate : PredicateTree (Test ℕ)) → IsPlanOf table plan → plan.condition ≡ Some predicate → IsRowOf table row
+pub predicate_fits : (table : Table) (plan : PlanTree) (row : RowValue) (predicate : PredicateTree (Test ℕ)) → IsPlanOf table plan → plan.condition ≡ Some predicate → IsRowOf table row
     → IsOver (length row.cells) predicate
 predicate_fits table plan row predicate is_plan e fits =
     subst (λ n. IsOver n predicate) (sym (cells_fit table row fits)) (subst (IsConditionOf table.columns) e is_plan.condition)

@@ -1,7 +1,7 @@
 //! Laws of grouping sets, of truth and of plans: functions that do nothing, whose clauses say them.
 ghost use Rattle.std.specs.Prelude.{◌≡◌, ◌≢◌, ◌++◌, ℕ, List, [], ◌∷◌, Some, false, length, map, pos, slice_index_or, true};
 ghost use Rattle.cells.specs.Fitting.{IsRowOf};
-ghost use Rattle.cells.specs.Values.{Entry, Table};
+ghost use Rattle.cells.specs.Values.{RowValue, Table};
 ghost use Rattle.query.specs.Plans.{IsPlanOf, PlanTree, type_at};
 ghost use Rattle.query.specs.Trees.{Cube, Empty, MoreElements, NoElements, Not, OneUnit, PredicateTree, Rollup, Sets, Holds};
 ghost use Rattle.query.specs.Truth.{IsOver, truth};
@@ -57,13 +57,13 @@ pub fn worked_truths()
 
 /// The predicate of a plan may be asked of each row of the table that the plan is for.
 pub fn predicates_fit_rows()
-    ensures { (table : Table) (plan : PlanTree) (row : Entry) (predicate : PredicateTree (TestTree ℕ)) →
+    ensures { (table : Table) (plan : PlanTree) (row : RowValue) (predicate : PredicateTree (TestTree ℕ)) →
         IsPlanOf table plan → plan.condition ≡ Some predicate → IsRowOf table row → IsOver (length row.cells) predicate }
 {}
 
 /// Each row of a table has a cell for each column, and no text in an INT column.
 pub fn rows_fit_columns()
-    ensures cells { (table : Table) (row : Entry) → IsRowOf table row → length row.cells ≡ length table.columns }
-    ensures integers { (table : Table) (row : Entry) (place : ℕ) (text : List ℕ) →
+    ensures cells { (table : Table) (row : RowValue) → IsRowOf table row → length row.cells ≡ length table.columns }
+    ensures integers { (table : Table) (row : RowValue) (place : ℕ) (text : List ℕ) →
         IsRowOf table row → type_at table.columns place ≡ Some ColumnType.Int → slice_index_or row.cells place Cell.Null ≢ Cell.Text text }
 {}

@@ -11,7 +11,7 @@ use Rattle.cells.specs.Fitting.{IsRowOf}
 use Rattle.cells.specs.Laws.{len_left}
 use Rattle.cells.specs.Tables.{keyed_rows, table}
 use Rattle.cells.specs.Updates.{AreLeft}
-use Rattle.cells.specs.Values.{Entry, Table}
+use Rattle.cells.specs.Values.{RowValue, Table}
 use Rattle.cells.specs.declared.cell.Cell.{Cell}
 use Rattle.crew.specs.Gathering.{PieceValue, rows_in}
 use Rattle.groups.specs.Partials.{rows_of}
@@ -20,12 +20,12 @@ use Rattle.trie.specs.Maps.{map_of}
 use Rattle.report.specs.Pieces.{HoldRows}
 use Rattle.report.proofs.TableRowsLemmas.{each_held, same_map_moves}
 
-rows_of_keyed : (rs : List Entry) → rows_of (keyed_rows rs) ≡ rs
+rows_of_keyed : (rs : List RowValue) → rows_of (keyed_rows rs) ≡ rs
 rows_of_keyed [] = refl
 rows_of_keyed (r ∷ rs) = ap (λ held. r ∷ held) (rows_of_keyed rs)
 
 -- no key comes twice
-once : (rs : List Entry) → AreLeft rs → len (table rs) ≡ length (keyed_rows rs)
+once : (rs : List RowValue) → AreLeft rs → len (table rs) ≡ length (keyed_rows rs)
 once rs left = len_left rs left ∙ sym (length-map rs (λ r. (r.key, r)))
 
 -- the rows of entries that stand in pieces
@@ -34,25 +34,25 @@ rows_joined [] = refl
 rows_joined (piece ∷ pieces) = map-append (λ e. e.1) piece (flat_map (λ p. p) pieces) ∙ ap (λ rest. rows_of piece ++ rest) (rows_joined pieces)
 
 -- pieces that have entries are no more than their rows
-few_pieces : (hash : Cell → ℕ) (es : List (Cell × Entry)) (pieces : List PieceValue) → AllByRecursion (IsPart hash es) pieces → length pieces ≤ length (rows_in pieces)
+few_pieces : (hash : Cell → ℕ) (es : List (Cell × RowValue)) (pieces : List PieceValue) → AllByRecursion (IsPart hash es) pieces → length pieces ≤ length (rows_in pieces)
 few_pieces hash es [] parts = omega arith
 few_pieces hash es (piece ∷ pieces) parts = omega (
   arith,
   parts.0.some,
   few_pieces hash es pieces parts.1,
   length-append (rows_of piece) (rows_in pieces),
-  length-map piece (λ (e : Cell × Entry). e.1),
+  length-map piece (λ (e : Cell × RowValue). e.1),
 )
 
 -- what holds of the rows of entries
-all_rows : (P : Entry → Type 0) (es : List (Cell × Entry)) → AllByRecursion (λ e. P e.1) es → AllByRecursion P (rows_of es)
+all_rows : (P : RowValue → Type 0) (es : List (Cell × RowValue)) → AllByRecursion (λ e. P e.1) es → AllByRecursion P (rows_of es)
 all_rows P [] all = tt
 all_rows P (e ∷ es) all = (all.0, all_rows P es all.1)
 
-module _ (rows : Rows) (es : List (Cell × Entry)) (is : map_of cell_cmp es ≡ rows) (es_once : len (map_of cell_cmp es) ≡ length es) where
-  entries_each : (rs : List Entry) → AreLeft rs → rows ≡ table rs → IsPermutation (rows_of es) rs
+module _ (rows : Rows) (es : List (Cell × RowValue)) (is : map_of cell_cmp es ≡ rows) (es_once : len (map_of cell_cmp es) ≡ length es) where
+  entries_each : (rs : List RowValue) → AreLeft rs → rows ≡ table rs → IsPermutation (rows_of es) rs
   entries_each rs left same = rw (← rows_of_keyed rs)
-      (IsPermutation-map (λ (e : Cell × Entry). e.1) es (keyed_rows rs)
+      (IsPermutation-map (λ (e : Cell × RowValue). e.1) es (keyed_rows rs)
       (same_map_moves cell_cmp-total es (keyed_rows rs) es_once (once rs left) (is ∙ same)))
 
   entries_fit : (t : Table) → AreRowsOf t rows → AllByRecursion (IsRowOf t) (rows_of es)

@@ -9,7 +9,7 @@ use Rattle.cells.specs.Tables.{AreRowsOf, Rows}
 use Rattle.cells.specs.Fitting.{IsRowOf}
 use Rattle.cells.specs.Tables.{table}
 use Rattle.cells.specs.Updates.{AreLeft}
-use Rattle.cells.specs.Values.{Entry, Table}
+use Rattle.cells.specs.Values.{RowValue, Table}
 use Rattle.cells.specs.declared.cell.Cell.{Cell}
 use Rattle.crew.specs.Gathering.{PieceValue, rows_in}
 use Rattle.trie.specs.Cuts.{cut}
@@ -18,14 +18,14 @@ use Rattle.trie.specs.declared.cutting.Cutting.{Cutting}
 
 -- the pieces have each row of the map once, and each has one at least
 pub record HoldRows (rows : Rows) (pieces : List PieceValue) : Type 0 where
-  pub each : (rs : List Entry) → AreLeft rs → rows ≡ table rs → IsPermutation (rows_in pieces) rs
+  pub each : (rs : List RowValue) → AreLeft rs → rows ≡ table rs → IsPermutation (rows_in pieces) rs
   pub fit : (t : Table) → AreRowsOf t rows → AllByRecursion (IsRowOf t) (rows_in pieces)
   pub count : length (rows_in pieces) ≡ len rows
   pub few : length pieces ≤ length (rows_in pieces)
 
 -- the pieces are those that the cutting makes of the map's entries, in the order of the digits of their hashes
 pub record AreCut (hash : Cell → ℕ) (cutting : Cutting) (rows : Rows) (pieces : List PieceValue) : Type 0 where
-  pub entries : List (Cell × Entry)
+  pub entries : List (Cell × RowValue)
   pub map : map_of cell_cmp entries ≡ rows
   pub rise : RiseByHash hash cell_cmp (keys_of entries)
   pub made : pieces ≡ cut hash cutting.depth cutting.small entries

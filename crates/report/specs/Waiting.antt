@@ -3,7 +3,7 @@ use Rattle.std.specs.Prelude.{◌≡◌, ◌⊎◌, ℕ, List, [], ◌∷◌, �
 use Rattle.board.specs.Editions.{Edition}
 use Rattle.cells.specs.Tables.{Rows, table}
 use Rattle.cells.specs.Updates.{AreLeft}
-use Rattle.cells.specs.Values.{Entry}
+use Rattle.cells.specs.Values.{RowValue}
 use Rattle.cells.specs.declared.refused.Refused.{Refused}
 use Rattle.cells.specs.declared.refused.Refused.TheVariants.{NoWorker, OutOfMemory, WriteFailed}
 use Rattle.groups.specs.Groups.{report_rows}
@@ -14,7 +14,7 @@ use Rattle.report.specs.declared.backlog.Pending.{Pending}
 
 -- the text is the plan's report over these rows, in whatever order they are listed
 pub record IsReportText (rows : Rows) (plan : PlanTree) (text : List ℕ) : Type 0 where
-  pub is : (rs : List Entry) → AreLeft rs → rows ≡ table rs → text ≡ report_text plan (report_rows plan rs)
+  pub is : (rs : List RowValue) → AreLeft rs → rows ≡ table rs → text ≡ report_text plan (report_rows plan rs)
 
 -- why a report may have no answer: want of memory, or of a thread
 abbrev pub IsUnmade : Refused → Type 0

@@ -2,7 +2,7 @@
 ghost use Rattle.std.specs.Prelude.{◌≡◌, ◌≤◌, ◌⊎◌, List, IfErr, IfOk};
 ghost use Rattle.cells.specs.Tables.{table};
 ghost use Rattle.cells.specs.Updates.{AreLeft};
-ghost use Rattle.cells.specs.Values.{Entry};
+ghost use Rattle.cells.specs.Values.{RowValue};
 ghost use Rattle.cells.specs.declared.refused.Refused.TheVariants as Refused;
 ghost use Rattle.groups.specs.Groups.{report_rows};
 ghost use Rattle.query.specs.Plans.{IsPlanOf};
@@ -39,7 +39,7 @@ pub fn answer<H: KeyHash<Cell> + KeyHash<Tuple> + Send + Sync, G: Gate, R: Threa
 ) -> Result<Vec<u8>, Refused>
     requires planned { IsPlanOf snapshot.now.schema plan.now }
     requires workers { 1 ≤ workers × (workers ≤ worker_limit) }
-    ensures text { (rs : List Entry) → AreLeft rs → snapshot.now.rows ≡ table rs →
+    ensures text { (rs : List RowValue) → AreLeft rs → snapshot.now.rows ≡ table rs →
         IfOk result (λ text. text.items ≡ report_text plan.now (report_rows plan.now rs)) }
     ensures refused { IfErr result (λ e. (e ≡ Refused.NoWorker) ⊎ (e ≡ Refused.OutOfMemory)) }
 {

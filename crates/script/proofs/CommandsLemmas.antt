@@ -5,7 +5,7 @@ use Rattle.std.proofs.lemmas.List.{length-drop}
 use Rattle.std.proofs.lemmas.Str.{IsUtf8-from_is_utf8, is_utf8-from_IsUtf8}
 use Rattle.std.specs.Str.{is_utf8}
 use Rattle.std.specs.List.{after_first, before_first, position_or_len}
-use Rattle.cells.specs.Values.{Entry, Table}
+use Rattle.cells.specs.Values.{RowValue, Table}
 use Rattle.cells.specs.declared.cell.Cell.{Cell}
 use Rattle.loader.specs.Records.{row_of_text}
 use Rattle.script.specs.Deeds.{Deed, Loads, Nothing, command_in, command_named, command_of, deed, deed_of, deletes, is_comment, publishes, puts, shapes}
@@ -51,7 +51,7 @@ rest_short line c rest e = of_text (is_utf8 line) e where
 listing_same : (t u : Table) (xs ys : List ℕ) → ◌≡◌ {A = Result Deed Fault} (Ok (Loads t xs)) (Ok (Loads u ys)) → xs ≡ ys
 listing_same t u xs ys e = cc
 
-no_put : (o : Option Entry) (t : Table) (listing : List ℕ) → puts o ≡ Ok (Loads t listing) → ⊥
+no_put : (o : Option RowValue) (t : Table) (listing : List ℕ) → puts o ≡ Ok (Loads t listing) → ⊥
 no_put None t listing e = cc
 no_put (Some row) t listing e = cc
 

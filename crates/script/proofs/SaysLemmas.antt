@@ -3,7 +3,7 @@ use Rattle.std.proofs.Common.{◌≡◌, ◌⊎◌, ℕ, false, true, Option, So
 use Rattle.std.specs.Prelude.{Vec}
 use Rattle.std.specs.declared.alloc.Global.{Global}
 use Rattle.cells.specs.Refusals.{Reads}
-use Rattle.cells.specs.Values.{Entry, Table}
+use Rattle.cells.specs.Values.{RowValue, Table}
 use Rattle.cells.specs.declared.refused.Refused.{Refused}
 use Rattle.cells.specs.declared.refused.Refused.TheVariants.{OutOfMemory}
 use Rattle.board.specs.Editions.{Editions}
@@ -33,7 +33,7 @@ pub record OneAnswer : Type 0 where
 
 -- ---- so a text says one thing
 
-says_some : EachAnswered → (t : Table) (rs : List Entry) (text : List ℕ) → (r : Result (List ℕ) Refused) × Says t rs text r
+says_some : EachAnswered → (t : Table) (rs : List RowValue) (text : List ℕ) → (r : Result (List ℕ) Refused) × Says t rs text r
 says_some each t rs text = read (each text) where
   asked : (q : QueryTree) → IsQuery text q → (o : Option Refused) → fault_of t q ≡ o → (r : Result (List ℕ) Refused) × Says t rs text r
   asked q is None e = (Ok (answer_of (plan_of t q) rs), answer is e)
@@ -47,7 +47,7 @@ says_some each t rs text = read (each text) where
 same_fault : OneAnswer → (t : Table) (text : List ℕ) (q p : QueryTree) → IsQuery text q → IsQuery text p → fault_of t q ≡ fault_of t p
 same_fault law t text q p h k = ap (fault_of t) (law.one_query text q p h k)
 
-module _ (law : OneAnswer) {t : Table} {rs : List Entry} {text : List ℕ} where
+module _ (law : OneAnswer) {t : Table} {rs : List RowValue} {text : List ℕ} where
   says_one : {r s : Result (List ℕ) Refused} → Says t rs text r → Says t rs text s → r ≡ s
   says_one (no_query {fault = e} h) (no_query {fault = f} k) = ap Err (law.one_fault text e f h k)
   says_one (no_query {fault = e} h) (no_plan {q = q} k f) = absurd (law.no_both text q e k h)
@@ -64,12 +64,12 @@ module _ (law : OneAnswer) {t : Table} {rs : List Entry} {text : List ℕ} where
 
 -- ---- and a report has one block
 
-pub some_report : EachAnswered → (number edition : ℕ) (t : Table) (rs : List Entry) (query : List ℕ) → (bytes : List ℕ) × IsReport number edition t rs query bytes
+pub some_report : EachAnswered → (number edition : ℕ) (t : Table) (rs : List RowValue) (query : List ℕ) → (bytes : List ℕ) × IsReport number edition t rs query bytes
 some_report each number edition t rs query =
     let (said, says) = says_some each t rs query in
     (report number edition said, record { said = said; says = says; is = refl })
 
-pub one_report : OneAnswer → (number edition : ℕ) (t : Table) (rs : List Entry) (query bytes others : List ℕ) →
+pub one_report : OneAnswer → (number edition : ℕ) (t : Table) (rs : List RowValue) (query bytes others : List ℕ) →
     IsReport number edition t rs query bytes → IsReport number edition t rs query others → bytes ≡ others
 one_report law number edition t rs query bytes others a b = a.is ∙ ap (report number edition) (says_one law a.says b.says) ∙ sym b.is
 

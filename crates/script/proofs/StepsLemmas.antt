@@ -10,7 +10,7 @@ use Rattle.cells.specs.CellOrder.{cell_cmp, cell_cmp-total}
 use Rattle.cells.specs.Laws.{len_rows, table_rows_delete, table_rows_put}
 use Rattle.cells.specs.Tables.{Rows, laid_over, table}
 use Rattle.cells.specs.Updates.{AreLeft, Delete, Put, Update, puts, rows}
-use Rattle.cells.specs.Values.{Entry, Table}
+use Rattle.cells.specs.Values.{RowValue, Table}
 use Rattle.cells.specs.declared.cell.Cell.{Cell}
 use Rattle.cells.specs.declared.refused.Refused.TheVariants.{OutOfMemory, TooManyRows}
 use Rattle.trie.specs.Shapes.{shape_of}
@@ -183,7 +183,7 @@ steps_report hash givens line number k query block does answers =
 
 -- the law of a table's shape: it is that of the keys of its rows
 abbrev HaveShapes : (Cell → ℕ) → Type 0
-HaveShapes hash = (rs : List Entry) → AreLeft rs → shape_of hash (keys (table rs)) ≡ shape_of hash (keys_of_rows rs)
+HaveShapes hash = (rs : List RowValue) → AreLeft rs → shape_of hash (keys (table rs)) ≡ shape_of hash (keys_of_rows rs)
 
 pub executes_shape : (hash : Cell → ℕ) (givens : Givens) (line : List ℕ) (number : ℕ) (k : Editions) (bytes : List ℕ)
     → deed (Some (keeper.schema k)) line ≡ Ok Shapes → HaveShapes hash
@@ -207,7 +207,7 @@ record Adds (hash : Cell → ℕ) (givens : Givens) (r : Result Deed Fault) (mor
 adds_updates : (hash : Cell → ℕ) (givens : Givens) (more : List Update) → Adds hash givens (Ok (Updates more)) more
 adds_updates hash givens more = record { declares = λ before. refl; adds = λ us. refl; quiet = refl; writes = λ before bytes is. is }
 
-adds_rows : (hash : Cell → ℕ) (givens : Givens) (t : Table) (listing : List ℕ) (rs : List Entry) → rows_loaded t givens.parts listing ≡ Ok rs → Adds hash givens (Ok (Loads t listing)) (puts rs)
+adds_rows : (hash : Cell → ℕ) (givens : Givens) (t : Table) (listing : List ℕ) (rs : List RowValue) → rows_loaded t givens.parts listing ≡ Ok rs → Adds hash givens (Ok (Loads t listing)) (puts rs)
 adds_rows hash givens t listing rs hold = record {
   declares = λ before. refl;
   adds = λ us. ap (within_loaded givens.limit us) hold;
@@ -278,7 +278,7 @@ module _ (hash : Cell → ℕ) (givens : Givens) (line : List ℕ) (number : ℕ
   executes_either new bytes (inr over) = rw over.unchanged (executes_overfull bytes over.full over.refused)
 
 -- what a put writes is the line's block, whether the row was laid or refused
-pub executes_put : (hash : Cell → ℕ) (givens : Givens) (line : List ℕ) (number : ℕ) (k new : Editions) (row : Entry) (bytes : List ℕ)
+pub executes_put : (hash : Cell → ℕ) (givens : Givens) (line : List ℕ) (number : ℕ) (k new : Editions) (row : RowValue) (bytes : List ℕ)
     → deed (Some (keeper.schema k)) line ≡ Ok (Updates (Put row ∷ [])) → PutsRow k new row number bytes → Executes hash givens line number (Some k) (Some new) bytes
 executes_put hash givens line number k new row bytes does puts =
     executes_either hash givens line number k (Ok (Updates (Put row ∷ []))) (Put row ∷ []) does (adds_updates hash givens (Put row ∷ [])) (insert (keeper.draft k) row.key row)
@@ -299,9 +299,9 @@ executes_delete hash givens line number k key does new bytes changes none =
 
 -- the law of puts behind any updates: their rows lie over those that the updates leave
 abbrev LieOver : Type 0
-LieOver = (us : List Update) (rs : List Entry) → table (rows (us ++ puts rs)) ≡ laid_over (table (rows (puts rs))) (table (rows us))
+LieOver = (us : List Update) (rs : List RowValue) → table (rows (us ++ puts rs)) ≡ laid_over (table (rows (puts rs))) (table (rows us))
 
-executes_load : LieOver → (hash : Cell → ℕ) (givens : Givens) (line : List ℕ) (number : ℕ) (k new : Editions) (listing bytes : List ℕ) (held : Result (List Entry) Fault)
+executes_load : LieOver → (hash : Cell → ℕ) (givens : Givens) (line : List ℕ) (number : ℕ) (k new : Editions) (listing bytes : List ℕ) (held : Result (List RowValue) Fault)
     → rows_loaded (keeper.schema k) givens.parts listing ≡ held → deed (Some (keeper.schema k)) line ≡ Ok (Loads (keeper.schema k) listing) → LoadsRows k new held number bytes
     → Executes hash givens line number (Some k) (Some new) bytes
 executes_load law hash givens line number k new listing bytes (Ok rs) hold does loads =
@@ -426,7 +426,7 @@ executes_declare hash givens line number t k bytes does begins none = record {
         schema = declared_more givens before line (Ok (Declares t)) more ∙ ap Some (sym begins.schema);
         same_limit = begins.limit;
         draft = begins.draft ∙ sym (ap (λ us. table (rows us)) (updates_more givens before line (Ok (Declares t)) more ∙ append-nil (updates givens before) ∙ blank.updates));
-        within = rw (begins.draft, len-empty cell_cmp Entry) (omega arith);
+        within = rw (begins.draft, len-empty cell_cmp RowValue) (omega arith);
         edition = begins.edition ∙ sym (edition_more givens before line (Ok (Declares t)) more ∙ blank.edition);
         published = begins.published ∙ sym (ap table (published_more givens before line (Ok (Declares t)) more ∙ blank.published));
       };

@@ -1,7 +1,7 @@
 -- The blocks of a worked script, line by line.
 use Rattle.std.proofs.Common.{◌≡◌, ℕ, List, [], ◌∷◌, None, Ok, subst}
 use Rattle.std.proofs.lemmas.List.{append-nil}
-use Rattle.cells.specs.Values.{Entry, Table}
+use Rattle.cells.specs.Values.{RowValue, Table}
 use Rattle.cells.specs.declared.cell.Cell.{Cell}
 use Rattle.script.specs.Givens.{Givens}
 use Rattle.script.specs.Output.{AreBlocks, IsBlock, IsReport, line_first, no_line, report}
@@ -21,6 +21,6 @@ pub last : (hash : Cell → ℕ) (givens : Givens) (before : List (List ℕ)) (l
 last hash givens before line bytes is = subst (AreBlocks hash givens before (line ∷ [])) (append-nil bytes) (line_first bytes [] is no_line)
 
 -- an accepted report
-pub reported : (number edition : ℕ) (t : Table) (rs : List Entry) (query : List ℕ) (q : QueryTree) (bytes : List ℕ) → IsQuery query q → fault_of t q ≡ None →
+pub reported : (number edition : ℕ) (t : Table) (rs : List RowValue) (query : List ℕ) (q : QueryTree) (bytes : List ℕ) → IsQuery query q → fault_of t q ≡ None →
     bytes ≡ report number edition (Ok (answer_of (plan_of t q) rs)) → IsReport number edition t rs query bytes
 reported number edition t rs query q bytes is fits text = record { said = Ok (answer_of (plan_of t q) rs); says = answer is fits; is = text }

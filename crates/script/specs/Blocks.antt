@@ -4,7 +4,7 @@ use Rattle.board.specs.Editions.{Editions}
 use Rattle.board.specs.Editions as keeper
 use Rattle.cells.specs.Tables.{table}
 use Rattle.cells.specs.Updates.{AreLeft}
-use Rattle.cells.specs.Values.{Entry}
+use Rattle.cells.specs.Values.{RowValue}
 use Rattle.cells.specs.declared.cell.Cell.{Cell}
 use Rattle.query.specs.Plans.{IsPlanOf, PlanTree}
 use Rattle.report.specs.Waiting.{HasAnswer}
@@ -54,8 +54,8 @@ pub record Steps {H : Type 0} (hash : Cell → ℕ) (givens : Givens) (line : Li
 
 -- the block will be that of a report over the rows that the keeper has published, in whatever order they are listed
 pub record WillReport {H : Type 0} (k : Editions) (number : ℕ) (query : List ℕ) (block : Block H) : Type 0 where
-  pub is : (rs : List Entry) → AreLeft rs → keeper.published k ≡ table rs → Foretells (IsReport number (keeper.edition k) (keeper.schema k) rs query) block
+  pub is : (rs : List RowValue) → AreLeft rs → keeper.published k ≡ table rs → Foretells (IsReport number (keeper.edition k) (keeper.schema k) rs query) block
 
 -- the block will be that of the plan's answer over those rows
 pub record WillReportPlan {H : Type 0} (k : Editions) (number : ℕ) (plan : PlanTree) (block : Block H) : Type 0 where
-  pub is : (rs : List Entry) → AreLeft rs → keeper.published k ≡ table rs → WillBe block (report number (keeper.edition k) (Ok (answer_of plan rs)))
+  pub is : (rs : List RowValue) → AreLeft rs → keeper.published k ≡ table rs → WillBe block (report number (keeper.edition k) (Ok (answer_of plan rs)))

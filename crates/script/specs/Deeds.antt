@@ -4,7 +4,7 @@ use Rattle.std.specs.List.{after_first, before_first}
 use Rattle.std.specs.Str.{is_utf8}
 use Rattle.cells.specs.Reading.{schema_of}
 use Rattle.cells.specs.Updates.{Delete, Put, Update}
-use Rattle.cells.specs.Values.{Entry, Table}
+use Rattle.cells.specs.Values.{RowValue, Table}
 use Rattle.cells.specs.declared.cell.Cell.{Cell}
 use Rattle.cells.specs.declared.refused.Refused.{Refused}
 use Rattle.cells.specs.declared.refused.Refused.TheVariants.{BadCommand, BadKey, BadRecord, BadSchema, NoTable, TableAgain}
@@ -60,7 +60,7 @@ abbrev pub declares : Option Table → Result Deed Fault
 declares None = refuses BadSchema
 declares (Some t) = Ok (Declares t)
 
-abbrev pub puts : Option Entry → Result Deed Fault
+abbrev pub puts : Option RowValue → Result Deed Fault
 puts None = refuses BadRecord
 puts (Some row) = Ok (Updates (Put row ∷ []))
 

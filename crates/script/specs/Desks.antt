@@ -3,7 +3,7 @@ use Rattle.std.specs.Prelude.{◌≡◌, ℕ, ◌+◌, ◌^◌, ◌<◌, ◌≤�
 use Rattle.std.specs.FinMap as map
 use Rattle.cells.specs.Tables.{Rows, laid_over, table}
 use Rattle.cells.specs.Updates.{puts, rows}
-use Rattle.cells.specs.Values.{Entry, Table}
+use Rattle.cells.specs.Values.{RowValue, Table}
 use Rattle.cells.specs.declared.cell.Cell.{Cell}
 use Rattle.cells.specs.declared.refused.Refused.TheVariants.{TooManyRows}
 use Rattle.board.specs.Editions.{ChangesDraft, Editions}
@@ -58,11 +58,11 @@ abbrev pub LaysOrOverflows : Editions → Editions → Rows → ℕ → List ℕ
 LaysOrOverflows old new left number bytes = Lays old new left bytes ⊎ Overflows old new left number bytes
 
 -- a row is laid over the draft, where there is room for it
-abbrev pub PutsRow : Editions → Editions → Entry → ℕ → List ℕ → Type 0
+abbrev pub PutsRow : Editions → Editions → RowValue → ℕ → List ℕ → Type 0
 PutsRow old new row number bytes = LaysOrOverflows old new (map.insert (keeper.draft old) row.key row) number bytes
 
 -- the rows of a load are laid over the draft, where there is room for them; or the line is refused by its first fault
-abbrev pub LoadsRows : Editions → Editions → Result (List Entry) Fault → ℕ → List ℕ → Type 0
+abbrev pub LoadsRows : Editions → Editions → Result (List RowValue) Fault → ℕ → List ℕ → Type 0
 LoadsRows old new (Ok rs) number bytes = LaysOrOverflows old new (laid_over (table (rows (puts rs))) (keeper.draft old)) number bytes
 LoadsRows old new (Err fault) number bytes = (new ≡ old) × (bytes ≡ refusal number fault)
 

@@ -4,7 +4,7 @@ use Rattle.std.specs.List.{list_all, slice_split}
 use Rattle.cells.specs.Integers.{natural_of}
 use Rattle.cells.specs.declared.refused.Refused.TheVariants.{BadCommand, Limit, NoPart}
 use Rattle.loader.specs.Limits.{listed_limit}
-use Rattle.cells.specs.Values.{Entry, Table}
+use Rattle.cells.specs.Values.{RowValue, Table}
 use Rattle.loader.specs.Parts.{FaultyRecord, part_len, rows_of_parts}
 use Rattle.loader.specs.Parts as parts
 use Rattle.script.specs.declared.fault.Fault.{Fault}
@@ -53,14 +53,14 @@ listed_in parts rest =
     if are_numbers rest then within_limit (handed_in (all_there (map (part_spelt parts) (between_spaces rest)))) else Err (Line BadCommand)
 
 -- the rows that parts hold, or the first fault of them
-abbrev pub rows_held : Result (List Entry) FaultyRecord → Result (List Entry) Fault
+abbrev pub rows_held : Result (List RowValue) FaultyRecord → Result (List RowValue) Fault
 rows_held (Ok rs) = Ok rs
 rows_held (Err faulty) = Err (Part faulty.part faulty.entry)
 
-abbrev pub rows_of_listed : Table → Result (List parts.Part) Fault → Result (List Entry) Fault
+abbrev pub rows_of_listed : Table → Result (List parts.Part) Fault → Result (List RowValue) Fault
 rows_of_listed t (Err fault) = Err fault
 rows_of_listed t (Ok listed) = rows_held (rows_of_parts t listed)
 
 -- the rows that a load puts, or its first fault: that of its listing, or that of its parts
-abbrev pub rows_loaded : Table → List (List ℕ) → List ℕ → Result (List Entry) Fault
+abbrev pub rows_loaded : Table → List (List ℕ) → List ℕ → Result (List RowValue) Fault
 rows_loaded t parts rest = rows_of_listed t (listed_in parts rest)

@@ -3,7 +3,7 @@ use Rattle.std.specs.Prelude.{◌≡◌, ◌⊎◌, ◌<◌, ◌≤◌, ℕ, ◌
 use Rattle.std.specs.List.{flat_map}
 use Rattle.std.specs.Str.Lines.{lines}
 use Rattle.cells.specs.Updates.{Update, puts, rows}
-use Rattle.cells.specs.Values.{Entry, Table}
+use Rattle.cells.specs.Values.{RowValue, Table}
 use Rattle.cells.specs.declared.cell.Cell.{Cell}
 use Rattle.cells.specs.declared.refused.Refused.{Refused}
 use Rattle.cells.specs.declared.refused.Refused.TheVariants.{Limit, TooManyRows}
@@ -37,7 +37,7 @@ abbrev pub within : ℕ → List Update → List Update → List Update
 within limit us more = if is_overfull limit us more then [] else more
 
 -- the puts of rows that a load puts
-abbrev pub within_loaded : ℕ → List Update → Result (List Entry) Fault → List Update
+abbrev pub within_loaded : ℕ → List Update → Result (List RowValue) Fault → List Update
 within_loaded limit us (Ok rs) = within limit us (puts rs)
 within_loaded limit us (Err fault) = []
 
@@ -82,7 +82,7 @@ module _ (givens : Givens) where
   edition (line ∷ before) = if is_publish (deed_behind before line) then edition before + 1 else edition before
 
   -- its rows: those of the updates before the last accepted `publish` line, and none where there is no such line
-  abbrev pub published : List (List ℕ) → List Entry
+  abbrev pub published : List (List ℕ) → List RowValue
   published [] = []
   published (line ∷ before) = if is_publish (deed_behind before line) then rows (updates before) else published before
 
@@ -103,7 +103,7 @@ abbrev pub updated : ℕ → ℕ → List Update → List Update → List ℕ
 updated number limit us more = if is_overfull limit us more then refusal number (Line TooManyRows) else []
 
 -- the block of a load, by the rows that it puts or its first fault
-abbrev pub loaded : ℕ → ℕ → List Update → Result (List Entry) Fault → List ℕ
+abbrev pub loaded : ℕ → ℕ → List Update → Result (List RowValue) Fault → List ℕ
 loaded number limit us (Ok rs) = updated number limit us (puts rs)
 loaded number limit us (Err fault) = refusal number fault
 
@@ -117,7 +117,7 @@ report number edition (Ok text) = heading number edition ++ text
 report number edition (Err fault) = refusal number (Line fault)
 
 -- the bytes are the block of a report: what its text says over these rows
-pub record IsReport (number edition : ℕ) (t : Table) (rs : List Entry) (query bytes : List ℕ) : Type 0 where
+pub record IsReport (number edition : ℕ) (t : Table) (rs : List RowValue) (query bytes : List ℕ) : Type 0 where
   pub said : Result (List ℕ) Refused
   pub says : Says t rs query said
   pub is : bytes ≡ report number edition said
@@ -131,7 +131,7 @@ abbrev pub shape_text : ℕ → ℕ → List (List ℕ × ℕ) → List ℕ
 shape_text number edition prefixes =
     codes "line " ++ (decimal number ++ (codes " edition " ++ (decimal edition ++ (newline ++ flat_map shape_line prefixes))))
 
-abbrev pub keys : List Entry → List Cell
+abbrev pub keys : List RowValue → List Cell
 keys rs = map (λ r. r.key) rs
 
 -- the hash of keys decides the blocks of shapes, and nothing else

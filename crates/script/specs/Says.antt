@@ -1,6 +1,6 @@
 -- What the text of a report says over the rows of a table: its answer, or its first fault.
 use Rattle.std.specs.Prelude.{◌≡◌, ◌⊎◌, ℕ, List, Some, None, Result, Ok, Err, MatchResult}
-use Rattle.cells.specs.Values.{Entry, Table}
+use Rattle.cells.specs.Values.{RowValue, Table}
 use Rattle.cells.specs.declared.refused.Refused.{Refused}
 use Rattle.cells.specs.declared.refused.Refused.TheVariants.{OutOfMemory}
 use Rattle.groups.specs.Groups.{report_rows}
@@ -11,23 +11,23 @@ use Rattle.query.specs.Values.{QueryTree}
 use Rattle.report.specs.Reports.{report_text}
 
 -- the header and the rows of a plan's report over these rows
-abbrev pub answer_of : PlanTree → List Entry → List ℕ
+abbrev pub answer_of : PlanTree → List RowValue → List ℕ
 answer_of plan rs = report_text plan (report_rows plan rs)
 
 -- over the rows of the table the text says this: the first fault of a text that is no query, the first fault of a query
 -- for the table, or the answer of its plan
-pub data Says (t : Table) (rs : List Entry) (text : List ℕ) : Result (List ℕ) Refused → Type 0 where
+pub data Says (t : Table) (rs : List RowValue) (text : List ℕ) : Result (List ℕ) Refused → Type 0 where
   no_query : {fault : Refused} → FirstFault text fault → Says t rs text (Err fault)
   no_plan : {q : QueryTree} {fault : Refused} → IsQuery text q → fault_of t q ≡ Some fault → Says t rs text (Err fault)
   answer : {q : QueryTree} → IsQuery text q → fault_of t q ≡ None → Says t rs text (Ok (answer_of (plan_of t q) rs))
 
 -- whatever rows the table has, the text says the answer of this plan
 abbrev pub MeansPlan : Table → List ℕ → PlanTree → Type 0
-MeansPlan t text plan = (rs : List Entry) → Says t rs text (Ok (answer_of plan rs))
+MeansPlan t text plan = (rs : List RowValue) → Says t rs text (Ok (answer_of plan rs))
 
 -- whatever rows the table has, the text says this fault; or memory is wanting
 abbrev pub IsRefused : Table → List ℕ → Refused → Type 0
-IsRefused t text fault = (fault ≡ OutOfMemory) ⊎ ((rs : List Entry) → Says t rs text (Err fault))
+IsRefused t text fault = (fault ≡ OutOfMemory) ⊎ ((rs : List RowValue) → Says t rs text (Err fault))
 
 -- the plan that the text asks for, or its first fault
 abbrev pub GivesPlan : Table → List ℕ → Result PlanTree Refused → Type 0

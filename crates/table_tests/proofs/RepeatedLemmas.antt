@@ -6,7 +6,7 @@ use Rattle.std.proofs.Common.{ap, sym, ◌∙◌, subst, arith}
 use Rattle.std.proofs.lemmas.List.{length-append, length-map}
 use Rattle.cells.specs.CellOrder.{cell_cmp}
 use Rattle.cells.specs.Fitting.{IsRowOf}
-use Rattle.cells.specs.Values.{Entry, Table}
+use Rattle.cells.specs.Values.{RowValue, Table}
 use Rattle.cells.specs.declared.cell.Cell.{Cell}
 use Rattle.groups.specs.Folds.{Folds, MayTakeMore}
 use Rattle.groups.specs.Groups.{kept}
@@ -20,42 +20,42 @@ use Rattle.trie.specs.Digits.{digit_order}
 use Rattle.trie.specs.Entries.{with_pair}
 use Rattle.trie.specs.Maps.{RiseByHash}
 
-all_both : (P : Entry → Type 0) (xs ys : List Entry) → AllByRecursion P xs → AllByRecursion P ys → AllByRecursion P (xs ++ ys)
+all_both : (P : RowValue → Type 0) (xs ys : List RowValue) → AllByRecursion P xs → AllByRecursion P ys → AllByRecursion P (xs ++ ys)
 all_both P [] ys all more = more
 all_both P (x ∷ xs) ys all more = (all.0, all_both P xs ys all.1 more)
 
 -- ---- the pieces of one entry
-of_first : (table : Table) (xs ys : List (Cell × Entry)) → AllByRecursion (λ e. IsRowOf table e.1) (xs ++ ys) → AllByRecursion (IsRowOf table) (rows_of xs)
+of_first : (table : Table) (xs ys : List (Cell × RowValue)) → AllByRecursion (λ e. IsRowOf table e.1) (xs ++ ys) → AllByRecursion (IsRowOf table) (rows_of xs)
 of_first table [] ys all = tt
 of_first table (x ∷ xs) ys all = (all.0, of_first table xs ys all.1)
 
-of_second : (table : Table) (xs ys : List (Cell × Entry)) → AllByRecursion (λ e. IsRowOf table e.1) (xs ++ ys) → AllByRecursion (λ e. IsRowOf table e.1) ys
+of_second : (table : Table) (xs ys : List (Cell × RowValue)) → AllByRecursion (λ e. IsRowOf table e.1) (xs ++ ys) → AllByRecursion (λ e. IsRowOf table e.1) ys
 of_second table [] ys all = all
 of_second table (x ∷ xs) ys all = of_second table xs ys all.1
 
-are_sales : (table : Table) (pieces : List (List (Cell × Entry))) → AllByRecursion (λ e. IsRowOf table e.1) (flat_map (λ piece. piece) pieces) →
-    length (flat_map (λ (piece : List (Cell × Entry)). piece) pieces) ≤ 1 → AllByRecursion (λ piece. IsSale table (rows_of piece)) pieces
+are_sales : (table : Table) (pieces : List (List (Cell × RowValue))) → AllByRecursion (λ e. IsRowOf table e.1) (flat_map (λ piece. piece) pieces) →
+    length (flat_map (λ (piece : List (Cell × RowValue)). piece) pieces) ≤ 1 → AllByRecursion (λ piece. IsSale table (rows_of piece)) pieces
 are_sales table [] all few = tt
 are_sales table (p ∷ pieces) all few =
-    let rest = flat_map (λ (piece : List (Cell × Entry)). piece) pieces in
+    let rest = flat_map (λ (piece : List (Cell × RowValue)). piece) pieces in
     let long = length-append p rest in (
       record { fit = of_first table p rest all; few = omega (arith, few, long, length-map p (λ e. e.1)) },
       are_sales table pieces (of_second table p rest all) (omega (arith, few, long)),
     )
 
 -- of a map with one pair
-pub one_sale : (hash : Cell → ℕ) (table : Table) (key : Cell) (row : Entry) (empty rows : List (Cell × Entry)) (pieces : List (List (Cell × Entry))) →
+pub one_sale : (hash : Cell → ℕ) (table : Table) (key : Cell) (row : RowValue) (empty rows : List (Cell × RowValue)) (pieces : List (List (Cell × RowValue))) →
     IsRowOf table row → empty ≡ [] → rows ≡ with_pair (digit_order hash cell_cmp) key row empty → pieces ≡ cut hash 0 0 rows →
-    ((es : List (Cell × Entry)) (depth small : ℕ) → RiseByHash hash cell_cmp (keys_of es) → flat_map (λ piece. piece) (cut hash depth small es) ≡ es) →
+    ((es : List (Cell × RowValue)) (depth small : ℕ) → RiseByHash hash cell_cmp (keys_of es) → flat_map (λ piece. piece) (cut hash depth small es) ≡ es) →
     AllByRecursion (λ piece. IsSale table (rows_of piece)) pieces
 one_sale hash table key row empty rows pieces fits none is cuts joined =
     let one : rows ≡ (key, row) ∷ [] = is ∙ ap (with_pair (digit_order hash cell_cmp) key row) none in
-    let e : flat_map (λ piece. piece) pieces ≡ (key, row) ∷ [] = ap (flat_map (λ (piece : List (Cell × Entry)). piece)) cuts
-    ∙ joined rows 0 0 (subst (λ (es : List (Cell × Entry)). RiseByHash hash cell_cmp (keys_of es)) (sym one) (tt, tt)) ∙ one in
-    are_sales table pieces (subst (AllByRecursion (λ (e : Cell × Entry). IsRowOf table e.1)) (sym e) (fits, tt)) (rw e (omega arith))
+    let e : flat_map (λ piece. piece) pieces ≡ (key, row) ∷ [] = ap (flat_map (λ (piece : List (Cell × RowValue)). piece)) cuts
+    ∙ joined rows 0 0 (subst (λ (es : List (Cell × RowValue)). RiseByHash hash cell_cmp (keys_of es)) (sym one) (tt, tt)) ∙ one in
+    are_sales table pieces (subst (AllByRecursion (λ (e : Cell × RowValue). IsRowOf table e.1)) (sym e) (fits, tt)) (rw e (omega arith))
 
 -- ---- the loop
-module _ {H : Type 0} (plan : PlanTree) (rows : List Entry) where
+module _ {H : Type 0} (plan : PlanTree) (rows : List RowValue) where
   pub taken_none : (folding : Folding H) → MayRepeat plan rows → Folds plan [] folding → HasTaken plan rows 0 folding
   taken_none folding may folds = record { may = may; taken = []; fit = tt; few = omega arith; folds = folds }
 
@@ -73,7 +73,7 @@ module _ {H : Type 0} (plan : PlanTree) (rows : List Entry) where
   }
 
   pub taken_more : (count : ℕ) (old new : Folding H) → HasTaken plan rows count old →
-      ((plan : PlanTree) (taken : List Entry) → Folds plan taken old → Folds plan (taken ++ kept plan.condition rows) new) → HasTaken plan rows (count + 1) new
+      ((plan : PlanTree) (taken : List RowValue) → Folds plan taken old → Folds plan (taken ++ kept plan.condition rows) new) → HasTaken plan rows (count + 1) new
   taken_more count old new now more = let may = now.may in let sale = may.sale in record {
     may = may;
     taken = now.taken ++ rows;
