@@ -109,29 +109,35 @@ const SALES_PART: &[u8] = b"ID,REGION,ITEM,UNITS
 const ROLLED_UP: &str =
     "line 4 edition 1\nREGION | GROUPING(REGION) | COUNT(*) | COUNT(UNITS) | SUM(UNITS)\nNULL | 0 | 1 | 1 | 5\n'north' | 0 | 2 | 1 | 10\n'south' | 0 | 1 | 1 | -2\nNULL | 1 | 4 | 3 | 13\n";
 
-/// Whether two workers write this for the script. The hold tells where they met.
+/// A table is cut as deep as can be.
+const DEEP: Cutting = Cutting {
+    depth: 16,
+    small: 0,
+};
+
+/// Whether a run writes this for the script. The hold tells where workers met.
 fn writes<R: Threads + Wait + Sync>(
     rt: &R,
     alloc: Global,
     hold: &Hold,
-    cutting: Cutting,
+    how: &How,
     script: &[u8],
     wanted: &str,
 ) -> Result<bool, Ended> {
-    let how = How::of(2, cutting, 100);
     let parts = [Vec::from_slice(alloc, SALES_PART)?];
     let mut out = Pour::new(Vec::new(alloc));
-    run::<Plain, _, _, _>(rt, alloc, script, &parts, &how, hold, &mut out)?;
+    run::<Plain, _, _, _>(rt, alloc, script, &parts, how, hold, &mut out)?;
     Ok(out.into_inner().as_slice() == wanted.as_bytes())
 }
 
 #[test]
 fn two_workers_answer_a_report_at_the_same_time(rt: HostRuntime) -> Result<(), Fail> {
+    let how = How::of(2, CUTTING, 100);
     let hold = Hold::new();
-    assert!(rt; writes(&rt, rt.alloc(), &hold, CUTTING, TWO_PIECES, COUNTED)?);
+    assert!(rt; writes(&rt, rt.alloc(), &hold, &how, TWO_PIECES, COUNTED)?);
     assert!(rt; hold.pieces.is_met());
     let hold = Hold::new();
-    assert!(rt; writes(&rt, rt.alloc(), &hold, CUTTING, SALES, ROLLED_UP)?);
+    assert!(rt; writes(&rt, rt.alloc(), &hold, &how, SALES, ROLLED_UP)?);
     assert!(rt; hold.pieces.is_met());
     Ok(())
 }
@@ -139,8 +145,9 @@ fn two_workers_answer_a_report_at_the_same_time(rt: HostRuntime) -> Result<(), F
 /// Two places of a list name one part, which two workers read.
 #[test]
 fn two_workers_read_parts_at_the_same_time(rt: HostRuntime) -> Result<(), Fail> {
+    let how = How::of(2, CUTTING, 100);
     let hold = Hold::new();
-    assert!(rt; writes(&rt, rt.alloc(), &hold, CUTTING, LISTED_TWICE, "")?);
+    assert!(rt; writes(&rt, rt.alloc(), &hold, &how, LISTED_TWICE, "")?);
     assert!(rt; hold.parts.is_met());
     Ok(())
 }
@@ -148,12 +155,9 @@ fn two_workers_read_parts_at_the_same_time(rt: HostRuntime) -> Result<(), Fail> 
 /// The table is cut as the run is told: each of its four keys is a piece of its own at depth 16.
 #[test]
 fn a_report_is_of_the_pieces_of_the_cutting(rt: HostRuntime) -> Result<(), Fail> {
+    let how = How::of(2, DEEP, 100);
     let hold = Hold::new();
-    let deep = Cutting {
-        depth: 16,
-        small: 0,
-    };
-    assert!(rt; writes(&rt, rt.alloc(), &hold, deep, TWO_PIECES, COUNTED)?);
+    assert!(rt; writes(&rt, rt.alloc(), &hold, &how, TWO_PIECES, COUNTED)?);
     assert_eq!(rt; hold.entered.load(SeqCst), 4);
     Ok(())
 }
