@@ -41,6 +41,34 @@ REGIONS = [
     ),
 ]
 
+# DISTINCT keeps the first of equal sets, and GROUPING of two columns tells which of them are subtotals
+ITEMS = [
+    ("table SALES (ID INT KEY, REGION TEXT, ITEM TEXT, UNITS INT)", None),
+    ("put 1,north,pen,10", None),
+    ("put 2,north,ink,", None),
+    ("put 3,,pen,5", None),
+    ("put 4,south,pen,-2", None),
+    ("publish", None),
+    (
+        "report SELECT REGION, ITEM, GROUPING(REGION, ITEM), COUNT(*) FROM SALES"
+        " GROUP BY DISTINCT GROUPING SETS (REGION, ITEM, ROLLUP(REGION))",
+        "edition 1\nREGION | ITEM | GROUPING(REGION, ITEM) | COUNT(*)\n"
+        "NULL | NULL | 1 | 1\n'north' | NULL | 1 | 2\n'south' | NULL | 1 | 1\n"
+        "NULL | 'ink' | 2 | 1\nNULL | 'pen' | 2 | 3\nNULL | NULL | 3 | 4",
+    ),
+    (
+        "report SELECT ITEM, GROUPING(ITEM, REGION), COUNT(*) FROM SALES GROUP BY GROUPING SETS (ITEM, (), ITEM)",
+        "refused 12",
+    ),
+    (
+        "report SELECT ITEM, GROUPING(ITEM, UNITS), SUM(UNITS) FROM SALES GROUP BY ROLLUP(ITEM, UNITS), ROLLUP(ITEM)",
+        "edition 1\nITEM | GROUPING(ITEM, UNITS) | SUM(UNITS)\n"
+        + "'ink' | 0 | NULL\n'pen' | 0 | -2\n'pen' | 0 | 5\n'pen' | 0 | 10\n" * 2
+        + "'ink' | 1 | NULL\n'pen' | 1 | 13\n" * 3
+        + "NULL | 3 | 13",
+    ),
+]
+
 HIGH = "9223372036854775807"
 LOW = "-9223372036854775808"
 
@@ -123,6 +151,7 @@ lines | and a bar' | NULL
 
 CASES = [
     *each_way("a report by region", REGIONS),
+    *each_way("a report by two columns", ITEMS),
     *each_way("aggregates of integers", list(aggregates("INT", NUMBERS, INTEGERS))),
     *each_way("aggregates of texts", list(aggregates("TEXT", TEXTS, STRINGS))),
     *each_way("a thousand groups", list(pairs())),

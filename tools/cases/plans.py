@@ -48,6 +48,12 @@ CHECKED = [
         block("REGION | GROUPING(ITEM)", "NULL | 0", "'b' | 1", "NULL | 1"),
     ),
     (f"{COUNT} GROUP BY CUBE(ID,ID,ID,ID,ID,ID,ID,ID,ID)", 14),
+    # GROUPING of several columns, of which each is looked at
+    ("SELECT GROUPING(REGION, X) FROM SALES GROUP BY REGION", 11),
+    ("SELECT GROUPING(X, REGION) FROM SALES GROUP BY REGION", 11),
+    ("SELECT GROUPING(REGION, ITEM) FROM SALES GROUP BY REGION", 12),
+    ("SELECT GROUPING(ITEM, REGION) FROM SALES GROUP BY REGION", 12),
+    ("SELECT GROUPING(REGION, ITEM) FROM SALES GROUP BY REGION, ITEM", block("GROUPING(REGION, ITEM)", "0")),
     # several faults at once
     ("SELECT SUM(REGION), X FROM SALES", 11),
     ("SELECT REGION, SUM(ITEM) FROM SALES", 13),
@@ -66,6 +72,12 @@ NUMBERS = [
     ("GROUPING SETS (ID" + ",ID" * 256 + ")", 14),
     ("ROLLUP(ID)" + ",ROLLUP(ID)" * 7, MOST),
     ("ROLLUP(ID)" + ",ROLLUP(ID)" * 8, 14),
+    # DISTINCT drops none before they are counted
+    ("DISTINCT CUBE(ID" + ",ID" * 7 + ")", block("COUNT(*)", "1", "1")),
+    ("DISTINCT CUBE(ID" + ",ID" * 8 + ")", 14),
+    ("DISTINCT CUBE(ID" + ",ID" * 199 + ")", 14),
+    ("DISTINCT GROUPING SETS (ID" + ",ID" * 255 + ")", block("COUNT(*)", "1")),
+    ("DISTINCT GROUPING SETS (ID" + ",ID" * 256 + ")", 14),
 ]
 
 
@@ -83,15 +95,38 @@ LISTED = [
     sets("ROLLUP(ITEM), ROLLUP(REGION)", "ITEM REGION", "0 | 0", "0 | 1", "1 | 0", "1 | 1"),
     sets("GROUPING SETS (REGION, ROLLUP(ITEM), ())", "REGION ITEM", "0 | 1", "1 | 0", "1 | 1", "1 | 1"),
     sets("ITEM, ITEM", "ITEM", "0"),
+    # with DISTINCT the first of equal sets stays, and sets are equal where their columns are
+    sets("ROLLUP(ITEM), ROLLUP(ITEM)", "ITEM", "0", "0", "0", "1"),
+    sets("DISTINCT ROLLUP(ITEM), ROLLUP(ITEM)", "ITEM", "0", "1"),
+    sets("DISTINCT GROUPING SETS (REGION, ITEM, ROLLUP(REGION))", "REGION ITEM", "0 | 1", "1 | 0", "1 | 1"),
+    sets("DISTINCT GROUPING SETS ((ITEM, ITEM), ITEM)", "ITEM", "0"),
+    sets("DISTINCT GROUPING SETS ((ITEM, REGION), (REGION, ITEM), ())", "REGION ITEM", "0 | 0", "1 | 1"),
+    sets("DISTINCT ITEM, GROUPING SETS (REGION, (ITEM, REGION))", "REGION ITEM", "0 | 0"),
+    (f"{COUNT} GROUP BY DISTINCT (), ()", counted(1)),
+    # several columns in one GROUPING, the last as the lowest digit
+    (
+        "SELECT GROUPING(REGION, ITEM), GROUPING(ITEM, REGION), GROUPING(ITEM, REGION, ITEM) FROM SALES GROUP BY CUBE(REGION, ITEM)",
+        block(
+            "GROUPING(REGION, ITEM) | GROUPING(ITEM, REGION) | GROUPING(ITEM, REGION, ITEM)",
+            "0 | 0 | 0",
+            "1 | 2 | 5",
+            "2 | 1 | 2",
+            "3 | 3 | 7",
+        ),
+    ),
+    (
+        "SELECT GROUPING(REGION" + ", REGION" * 15 + ") FROM SALES GROUP BY ROLLUP(REGION)",
+        block(f"GROUPING({', '.join(['REGION'] * 16)})", "0", "65535"),
+    ),
 ]
 
 HEADINGS = [
     (
-        "select region, grouping(region), count ( * ), count(units), count(distinct item), sum(units), min(item), max(id)"
-        " from sales group by region",
+        "select region, grouping(region), grouping ( item,region ), count ( * ), count(units), count(distinct item), sum(units), min(item), max(id)"
+        " from sales group by region, grouping sets (item)",
         block(
-            "REGION | GROUPING(REGION) | COUNT(*) | COUNT(UNITS) | COUNT(DISTINCT ITEM) | SUM(UNITS) | MIN(ITEM) | MAX(ID)",
-            "'b' | 0 | 1 | 1 | 0 | 5 | NULL | 1",
+            "REGION | GROUPING(REGION) | GROUPING(ITEM, REGION) | COUNT(*) | COUNT(UNITS) | COUNT(DISTINCT ITEM) | SUM(UNITS) | MIN(ITEM) | MAX(ID)",
+            "'b' | 0 | 0 | 1 | 1 | 0 | 5 | NULL | 1",
         ),
     ),
 ]

@@ -3,6 +3,7 @@ pub mod CoarseningLemmas
 pub mod FinishLemmas
 pub mod BagLemmas
 pub mod FoldsLemmas
+pub mod GroupingLemmas
 pub mod JoinLemmas
 pub mod LayingLemmas
 pub mod OrderLemmas

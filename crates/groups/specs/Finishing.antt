@@ -1,5 +1,5 @@
 -- How the rows of a report come from groups: group by group, and item by item with the next accumulator for each aggregate.
-use Rattle.std.specs.Prelude.{ℕ, List, [], ◌∷◌, map}
+use Rattle.std.specs.Prelude.{ℕ, pos, List, [], ◌∷◌, map}
 use Rattle.aggs.specs.Accs.{acc_total}
 use Rattle.aggs.specs.Values.{cell_total}
 use Rattle.aggs.specs.declared.acc.Acc.{Acc}
@@ -23,7 +23,7 @@ module _ {H : Type 0} where
   -- the value of an item: an aggregate's is that of the first accumulator
   abbrev pub value_by : List ℕ → List Cell → Item ℕ → List (Acc H) → Total
   value_by set tuple (item.Column c) accs = cell_total (cell_of_place tuple (place_in set c))
-  value_by set tuple (item.Grouping c) accs = grouping (place_in set c)
+  value_by set tuple (item.Grouping columns) accs = total.Int (pos (grouping set columns))
   value_by set tuple item.CountRows accs = first_total accs
   value_by set tuple (item.Count c) accs = first_total accs
   value_by set tuple (item.CountDistinct c) accs = first_total accs

@@ -1,5 +1,6 @@
--- Grouped queries over lists of rows (ISO/IEC 9075-2:1999, 7.8 <where clause>, 7.9 <group by clause>, 7.11 <query specification>).
-use Rattle.std.specs.Prelude.{ℕ, pos, ◌==◌, Bool, true, false, List, [], ◌∷◌, filter, length, map, slice_index_or, Option, Some, None, position}
+-- Grouped queries over lists of rows (ISO/IEC 9075-2:1999, 7.8 <where clause>, 7.9 <group by clause>, 7.11 <query specification>;
+-- GROUPING of several columns after ISO/IEC 9075-2:2016, feature T433).
+use Rattle.std.specs.Prelude.{ℕ, pos, ◌==◌, ◌+◌, ◌*◌, ◌^◌, Bool, true, false, List, [], ◌∷◌, filter, length, map, slice_index_or, Option, Some, None, position}
 use Rattle.std.specs.List.{flat_map}
 use Rattle.std.specs.Ordering.{match_ordering}
 use Rattle.aggs.specs.Values.{cell_total, count, different_count, greatest, least, sum}
@@ -77,15 +78,21 @@ abbrev pub cell_of_place : List Cell → Option ℕ → Cell
 cell_of_place tuple None = Null
 cell_of_place tuple (Some i) = slice_index_or tuple i Null
 
--- GROUPING: 0 for a column of the grouping set, else 1
-abbrev pub grouping : Option ℕ → Total
-grouping None = total.Int (pos 1)
-grouping (Some i) = total.Int (pos 0)
+-- the mark of a column, by its place in the grouping set: 0 where it stands there, else 1
+abbrev pub mark : Option ℕ → ℕ
+mark None = 1
+mark (Some i) = 0
+
+-- GROUPING (feature T433 where there are several columns): the number whose binary digits are the marks of the columns, that
+-- of the last column the lowest
+abbrev pub grouping : List ℕ → List ℕ → ℕ
+grouping set [] = 0
+grouping set (c ∷ columns) = mark (place_in set c) * 2 ^ length columns + grouping set columns
 
 -- the value of an item in the group of these rows
 abbrev pub item_value : List ℕ → List Cell → List RowValue → Item ℕ → Total
 item_value set tuple group (item.Column c) = cell_total (cell_of_place tuple (place_in set c))
-item_value set tuple group (item.Grouping c) = grouping (place_in set c)
+item_value set tuple group (item.Grouping columns) = total.Int (pos (grouping set columns))
 item_value set tuple group item.CountRows = total.Int (pos (length group))
 item_value set tuple group (item.Count c) = count (column_of c group)
 item_value set tuple group (item.CountDistinct c) = different_count (column_of c group)

@@ -18,7 +18,7 @@ sales = sale (pos 1) (Text (codes "north")) (Int (pos 10)) ∷ sale (pos 2) (Tex
 -- SELECT REGION, GROUPING(REGION), COUNT(*), COUNT(UNITS), SUM(UNITS) .. GROUP BY over the sets
 abbrev pub by_sets : List (List ℕ) → PlanTree
 by_sets sets = record {
-  items = item.Column 1 ∷ item.Grouping 1 ∷ item.CountRows ∷ item.Count 2 ∷ item.Sum 2 ∷ [];
+  items = item.Column 1 ∷ item.Grouping (1 ∷ []) ∷ item.CountRows ∷ item.Count 2 ∷ item.Sum 2 ∷ [];
   headings = [];
   condition = None;
   sets = sets;
@@ -39,3 +39,20 @@ sales_by_region = line total.Null 0 1 1 (total.Int (pos 5)) ∷ line (total.Text
 -- over no rows: the row of the empty set alone
 abbrev pub nothing_by_region : List (List Total)
 nothing_by_region = line total.Null 1 0 0 total.Null ∷ []
+
+-- SELECT GROUPING(REGION, UNITS), COUNT(*) .. GROUP BY GROUPING SETS ((REGION, UNITS), REGION, UNITS, ())
+abbrev pub by_two : PlanTree
+by_two = record {
+  items = item.Grouping (1 ∷ 2 ∷ []) ∷ item.CountRows ∷ [];
+  headings = [];
+  condition = None;
+  sets = (1 ∷ 2 ∷ []) ∷ (1 ∷ []) ∷ (2 ∷ []) ∷ [] ∷ [];
+}
+
+abbrev marked : ℕ → ℕ → List Total
+marked marks rows = total.Int (pos marks) ∷ total.Int (pos rows) ∷ []
+
+-- four groups of both columns; by the region alone UNITS is marked, in the lowest digit; by the units alone REGION is; then both
+abbrev pub sales_by_two : List (List Total)
+sales_by_two = marked 0 1 ∷ marked 0 1 ∷ marked 0 1 ∷ marked 0 1 ∷ marked 1 1 ∷ marked 1 2 ∷ marked 1 1
+    ∷ marked 2 1 ∷ marked 2 1 ∷ marked 2 1 ∷ marked 2 1 ∷ marked 3 4 ∷ []

@@ -1,5 +1,6 @@
 //! The rows of a grouping set, from its groups.
-ghost use Rattle.std.specs.Prelude.{◌≡◌, ℕ, List, ◌++◌, IfOk};
+ghost use Rattle.std.specs.Prelude.{◌≡◌, ℕ, List, ◌++◌, IfOk, false};
+ghost use Rattle.std.specs.List.{list_any};
 ghost use Rattle.std.specs.List.Sorted.{IsPermutation, IsSorted};
 ghost use Rattle.std.specs.Map.{keys_of};
 ghost use Rattle.cells.specs.TupleOrder.{tuple_cmp};
@@ -8,6 +9,7 @@ ghost use Rattle.groups.specs.Accumulators.{aggregations_of};
 ghost use Rattle.groups.specs.Finishing.{rows_by};
 ghost use Rattle.groups.specs.Groups.{set_rows};
 ghost use Rattle.groups.specs.Partials.{StandsAt};
+ghost use Rattle.query.specs.Values.{is_long};
 ghost use Rattle.trie.specs.Holding.{lent};
 
 use crate::accumulators::Accumulators;
@@ -38,6 +40,7 @@ fn add_rows<H: KeyHash<Cell>>(
     items: &[Item<usize>],
     groups: &[(&Tuple, &Accumulators<H>)],
 ) -> Result<(), AllocError>
+    requires { list_any is_long items.now ≡ false }
     ensures { IfOk result (λ _. rows.new.items ≡ rows.old.items ++ rows_by set.now items.now (lent groups.now)) }
 {
     for group in groups {

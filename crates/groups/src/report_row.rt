@@ -1,8 +1,11 @@
 //! The rows of a report.
-ghost use Rattle.std.specs.Prelude.{◌≡◌, IfOk};
+ghost use Rattle.std.specs.Prelude.{◌≡◌, ◌≤◌, IfOk, false, length, pos};
+ghost use Rattle.std.specs.List.{list_any};
 ghost use Rattle.aggs.specs.Values.{cell_total};
 ghost use Rattle.groups.specs.Finishing.{behind_first, first_total, left_by, row_by, value_by};
-ghost use Rattle.groups.specs.Groups.{cell_of_place, grouping, place_in};
+ghost use Rattle.groups.specs.Groups.{cell_of_place, grouping, mark, place_in};
+ghost use Rattle.query.specs.Limits.{grouping_limit};
+ghost use Rattle.query.specs.Values.{is_long};
 
 use crate::accumulators::Accumulators;
 use crate::columns::place_in;
@@ -51,13 +54,25 @@ fn total_at(tuple: &Tuple, place: Option<usize>) -> Result<Total, AllocError>
     }
 }
 
-/// GROUPING: 0 for a column that stands in the grouping set, else 1.
-fn grouping(place: Option<usize>) -> Total
-    ensures { result ≡ grouping place }
+/// GROUPING of the columns: the number whose binary digits are their marks, that of the last column the lowest.
+fn grouping(set: &[usize], columns: &[usize]) -> Total
+    requires { length columns.now ≤ grouping_limit }
+    ensures { result ≡ Total.Int (pos (grouping set.now columns.now)) }
+{
+    let mut found: u64 = 0;
+    for column in columns {
+        found = 2 * found + mark(place_in(set, *column));
+    }
+    Total::Int(i128::from(found))
+}
+
+/// The mark of a column: 0 where it stands in the grouping set, else 1.
+fn mark(place: Option<usize>) -> u64
+    ensures { result ≡ mark place }
 {
     match place {
-        None => Total::Int(1),
-        Some(_) => Total::Int(0),
+        None => 1,
+        Some(_) => 0,
     }
 }
 
@@ -79,12 +94,13 @@ fn value_of<'a, H: KeyHash<Cell>>(
     tuple: &Tuple,
     accs: &'a [Acc<H>],
 ) -> Result<(Total, &'a [Acc<H>]), AllocError>
+    requires { is_long item.now ≡ false }
     ensures value { IfOk result (λ r. r.0 ≡ value_by set.now tuple.now item.now accs.now) }
     ensures left { IfOk result (λ r. r.1.now ≡ left_by item.now accs.now) }
 {
     match item {
         Item::Column(column) => Ok((total_at(tuple, place_in(set, *column))?, accs)),
-        Item::Grouping(column) => Ok((grouping(place_in(set, *column)), accs)),
+        Item::Grouping(columns) => Ok((grouping(set, columns.as_slice()), accs)),
         Item::CountRows
         | Item::Count(_)
         | Item::CountDistinct(_)
@@ -102,6 +118,7 @@ pub(crate) fn row_of<H: KeyHash<Cell>>(
     tuple: &Tuple,
     accumulators: &Accumulators<H>,
 ) -> Result<ReportRow, AllocError>
+    requires { list_any is_long items.now ≡ false }
     ensures { IfOk result (λ row. row ≡ row_by set.now tuple.now items.now accumulators.now) }
 {
     let mut totals = Vec::new(alloc);

@@ -3,17 +3,20 @@
 use Rattle.std.proofs.Common.{◌≡◌, ◌≢◌, ℕ, zero, suc, ◌<◌, ◌≤◌, Bool, true, false, List, [], ◌∷◌, length, Option, Some, None, ◌⊎◌, inl, inr, refl, sym, ap, ◌∙◌, arith}
 use Rattle.std.specs.Prelude.{codes}
 use Rattle.cells.specs.declared.token.Token.{Token}
-use Rattle.query.specs.Ends.{SpellsEnd, SpellsFrom, SpellsTail, Whole}
+use Rattle.cells.specs.declared.token.Token.TheVariants.{Word}
+use Rattle.query.specs.Ends.{SpellsEnd, SpellsFrom, SpellsLast, SpellsTail, Whole}
 use Rattle.query.specs.Grammar.{Separated, SpellsElement, SpellsFactor, SpellsItem, SpellsLiteral, SpellsName, SpellsOperand, SpellsPredicate, SpellsPrimary, SpellsQuery, SpellsTerm, SpellsTest, SpellsUnit, AND, BETWEEN, BY, CUBE, FROM, GROUP, GROUPING, IN, IS, NOT, NULL, OR, ROLLUP, SELECT, SETS, WHERE, comma, lparen, rparen}
 use Rattle.query.specs.Phrases.{NullAfter, RangeAfter, TestAfter, comparison_at, item_at, literal_at, name_at, operand_at}
 use Rattle.query.specs.Reading.{AfterAnd, AfterOr, Any, BeginsNot, BeginsNotCall, Ends, Marked, Starts}
 use Rattle.query.specs.Trees.{Empty}
+use Rattle.query.specs.Values.{all_rows}
 use Rattle.query.specs.declared.test.Comparison.{Comparison}
 use Rattle.query.specs.declared.test.Operand.{Operand}
 use Rattle.query.specs.declared.test.Test.TheVariants as test
 use Rattle.query.proofs.Decisions.{Begins, BeginsBoth, Decided, begins_both, begins_call, begins_close, begins_comma, begins_open, begins_word, computed_phrase, ended, list_decided, no_phrase, one_phrase, tail_same, turned}
 use Rattle.query.proofs.Elements.{element_cube, element_empty, element_rollup, element_sets, element_unit}
 use Rattle.query.proofs.Ends.{elements_end, elements_no_end, elements_none, from_name, from_no_name, groups_by, groups_none, groups_other, query_items, query_no_items, query_none, tail_no_where, tail_none, tail_where}
+use Rattle.query.proofs.ItemsLemmas.{item_grouping}
 use Rattle.query.proofs.PhrasesLemmas.{item_computes, literal_computes, name_computes, operand_computes}
 use Rattle.query.proofs.Predicates.{factor_not, factor_plain, or_ends_and, paren_ends, predicate_terms, primary_parens, primary_test, term_factors}
 use Rattle.query.proofs.Shorter.{shorter_element, shorter_factor, shorter_item, shorter_literal, shorter_name, shorter_term, shorter_unit}
@@ -35,8 +38,12 @@ list_in Sp shorter one ts = ended (Separated comma Sp) (Ends comma Any) rparen b
 name_decided : (ts : List Token) → Decided (Starts SpellsName Any ts)
 name_decided ts = computed_phrase SpellsName ts (name_at ts) (name_computes ts)
 
+item_by : (ts : List Token) → BeginsBoth GROUPING lparen ts → Decided (Starts SpellsItem Any ts)
+item_by ts (inl h) = turned (item_grouping ts h.0 h.1) (list_in SpellsName shorter_name name_decided h.0)
+item_by ts (inr other) = computed_phrase SpellsItem ts (item_at ts) (item_computes ts other)
+
 item_decided : (ts : List Token) → Decided (Starts SpellsItem Any ts)
-item_decided ts = computed_phrase SpellsItem ts (item_at ts) (item_computes ts)
+item_decided ts = item_by ts (begins_call (codes "GROUPING") ts)
 
 unit_by : (ts : List Token) → Begins lparen ts → Decided (Starts SpellsUnit Any ts)
 unit_by ts (inl h) = turned (unit_several ts h.0 h.1) (list_in SpellsName shorter_name name_decided h.0)
@@ -94,19 +101,19 @@ literal_decided ts = computed_phrase SpellsLiteral ts (literal_at ts) (literal_c
 operand_decided : (ts : List Token) → Decided (Starts SpellsOperand Any ts)
 operand_decided ts = computed_phrase SpellsOperand ts (operand_at ts) (operand_computes ts)
 
-marked_of : (us : List Token) → (not : Bool) × (vs : List Token) × Marked us not vs
-marked_of us = after (begins_word (codes "NOT") us) where
-  after : Begins NOT us → (not : Bool) × (vs : List Token) × Marked us not vs
-  after (inl h) = (true, h.0, marked us h.0 h.1)
-  after (inr other) = (false, us, unmarked us other)
+marked_of : (w : List ℕ) (us : List Token) → (stands : Bool) × (vs : List Token) × Marked (Word w) us stands vs
+marked_of w us = after (begins_word w us) where
+  after : Begins (Word w) us → (stands : Bool) × (vs : List Token) × Marked (Word w) us stands vs
+  after (inl h) = (true, h.0, marked (Word w) us h.0 h.1)
+  after (inr other) = (false, us, unmarked (Word w) us other)
 
 module _ (a : Operand (List ℕ)) (us : List Token) where
-  null_by : (not : Bool) (vs : List Token) → Marked us not vs → Begins NULL vs → Decided (NullAfter a us)
+  null_by : (not : Bool) (vs : List Token) → Marked NOT us not vs → Begins NULL vs → Decided (NullAfter a us)
   null_by not vs m (inl h) = one_phrase (test.IsNull a not) h.0 (null_found a us not vs m h.0 h.1)
   null_by not vs m (inr other) = no_phrase (null_nothing a us not vs m other)
 
   null_decided : Decided (NullAfter a us)
-  null_decided = let m = marked_of us in null_by m.0 m.1 m.2 (begins_word (codes "NULL") m.1)
+  null_decided = let m = marked_of (codes "NOT") us in null_by m.0 m.1 m.2 (begins_word (codes "NULL") m.1)
 
   module _ (not : Bool) where
     low_by : (more : List Token) → us ≡ BETWEEN ∷ more → Decided (λ l r. SpellsOperand more l (AND ∷ r)) → Decided (RangeAfter a not us)
@@ -127,7 +134,7 @@ module _ (a : Operand (List ℕ)) (us : List Token) where
 module _ (a : Operand (List ℕ)) (us : List Token) where
   is_by : comparison_at us ≡ None → Begins IS us → Decided (TestAfter a us)
   is_by e (inl h) = turned (test_is a us h.0 h.1) (null_decided a h.0)
-  is_by e (inr other) = let m = marked_of us in turned (test_range a us e other m.0 m.1 m.2) (range_decided a m.1 m.0)
+  is_by e (inr other) = let m = marked_of (codes "NOT") us in turned (test_range a us e other m.0 m.1 m.2) (range_decided a m.1 m.0)
 
   compare_by : (o : Option (Comparison × List Token)) → comparison_at us ≡ o → Decided (TestAfter a us)
   compare_by None e = is_by e (begins_word (codes "IS") us)
@@ -167,17 +174,17 @@ predicate_decided : (ts : List Token) → Decided (Starts SpellsPredicate AfterO
 predicate_decided ts = predicate_within (length ts) (primary_within (length ts)) ts (omega arith)
 
 -- ---- the parts that end the tokens
-whole_by : (ts : List Token) → Decided (Starts (Separated comma SpellsElement) (Ends comma Any) ts) → Decided (Whole (λ us es. Separated comma SpellsElement us es []) ts)
+whole_by : (ts : List Token) → Decided (Starts (Separated comma SpellsElement) (Ends comma Any) ts) → Decided (Whole SpellsLast ts)
 whole_by ts (one_phrase es [] h) = one_phrase es [] (elements_end ts es [] h refl)
 whole_by ts (one_phrase es (u ∷ us) h) = no_phrase (elements_no_end ts es (u ∷ us) h (λ e. let bad : u ∷ us ≡ [] = e in cc))
 whole_by ts (no_phrase h) = no_phrase (elements_none ts h)
 
 groups_by_words : (ts : List Token) → ts ≢ [] → BeginsBoth GROUP BY ts → Decided (Whole SpellsEnd ts)
-groups_by_words ts any (inl h) = turned (groups_by ts h.0 h.1) (whole_by h.0 (elements_decided h.0))
+groups_by_words ts any (inl h) = let m = marked_of (codes "DISTINCT") h.0 in turned (groups_by ts h.0 h.1 m.0 m.1 m.2) (whole_by m.1 (elements_decided m.1))
 groups_by_words ts any (inr other) = no_phrase (groups_other ts any other)
 
 groups_decided : (ts : List Token) → Decided (Whole SpellsEnd ts)
-groups_decided [] = one_phrase (Empty ∷ []) [] (groups_none [] refl)
+groups_decided [] = one_phrase all_rows [] (groups_none [] refl)
 groups_decided (t ∷ ts) = groups_by_words (t ∷ ts) (λ e. let bad : t ∷ ts ≡ [] = e in cc) (begins_both GROUP BY (begins_word (codes "GROUP")) (begins_word (codes "BY")) (t ∷ ts))
 
 module _ (ts : List Token) where

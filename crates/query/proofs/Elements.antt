@@ -4,10 +4,11 @@ use Rattle.std.specs.Prelude.{codes}
 use Rattle.cells.specs.declared.token.Token.{Token}
 use Rattle.cells.specs.declared.token.Token.TheVariants.{Word}
 use Rattle.query.specs.Trees.{ElementTree, Empty, OneUnit, Rollup, Cube, Sets, ElementTrees, MoreElements, elements_of}
-use Rattle.query.specs.Grammar.{Separated, last, next, name, SpellsUnit, one, several, SpellsElement, empty, unit, rollup, cube, sets, SpellsElements, last_element, next_element, lparen, rparen, comma, ROLLUP, CUBE, GROUPING, SETS}
+use Rattle.query.specs.Grammar.{Separated, last, next, name, SpellsUnit, one, several, SpellsElement, empty, unit, rollup, cube, sets, SpellsElements, last_element, next_element, lparen, rparen, comma, DISTINCT, ROLLUP, CUBE, GROUPING, SETS}
 use Rattle.query.specs.Phrases.{IsPlain}
-use Rattle.query.specs.Reading.{Any, Starts, Found}
+use Rattle.query.specs.Reading.{Any, BeginsNot, Starts, Found}
 use Rattle.query.proofs.Lists.{Turns}
+use Rattle.query.proofs.TestsLemmas.{words_differ}
 use Rattle.query.proofs.Units.{unit_word, names_head}
 
 -- the elements of GROUPING SETS as a list
@@ -87,3 +88,15 @@ element_unit ts others = record {
   inside (rollup {ts = vs} h) f = absurd (f.no_rollup vs refl)
   inside (cube {ts = vs} h) f = absurd (f.no_cube vs refl)
   inside (sets {ts = vs} h) f = absurd (f.no_sets vs refl)
+
+-- elements do not begin with DISTINCT
+element_head : {ts r : List Token} {e : ElementTree} → SpellsElement ts e r → BeginsNot DISTINCT ts
+element_head empty more f = let bad : lparen ≡ DISTINCT = cc in cc
+element_head (unit h) more f = unit_word h (codes "DISTINCT") more refl f
+element_head (rollup {ts = us} h) more f = words_differ (codes "ROLLUP") (codes "DISTINCT") (lparen ∷ us) more refl f
+element_head (cube {ts = us} h) more f = words_differ (codes "CUBE") (codes "DISTINCT") (lparen ∷ us) more refl f
+element_head (sets {ts = us} h) more f = words_differ (codes "GROUPING") (codes "DISTINCT") (SETS ∷ lparen ∷ us) more refl f
+
+pub elements_head : {ts r : List Token} {es : List ElementTree} → Separated comma SpellsElement ts es r → BeginsNot DISTINCT ts
+elements_head (last h) = element_head h
+elements_head (next h more) = element_head h

@@ -1,10 +1,9 @@
 -- No GROUPING SETS that is spelt is without elements.
 use Rattle.std.proofs.Common.{List}
 use Rattle.cells.specs.declared.token.Token.{Token}
-use Rattle.query.specs.Ends.{SpellsFrom}
-use Rattle.query.specs.Grammar.{Separated, last, next, SpellsElement, empty, unit, rollup, cube, sets, SpellsElements, last_element, next_element, SpellsGroups, no_groups, group_by, comma}
+use Rattle.query.specs.Grammar.{Separated, last, next, SpellsElement, empty, unit, rollup, cube, sets, SpellsElements, last_element, next_element, SpellsGroups, no_groups, group_by, SpellsQuery, query, comma}
 use Rattle.query.specs.Trees.{ElementTree, ElementTrees}
-use Rattle.query.specs.Values.{AreFilled, HasElements, IsEachFilled, IsFilled}
+use Rattle.query.specs.Values.{AreFilled, GroupsTree, HasElements, IsEachFilled, IsFilled, QueryTree}
 
 mutual
   element_filled : {ts rest : List Token} {e : ElementTree} → SpellsElement ts e rest → IsFilled e
@@ -22,9 +21,9 @@ list_filled : {ts rest : List Token} {es : List ElementTree} → Separated comma
 list_filled (last h) = (element_filled h, tt)
 list_filled (next h more) = (element_filled h, list_filled more)
 
-groups_filled : {ts rest : List Token} {es : List ElementTree} → SpellsGroups ts es rest → AreFilled es
+groups_filled : {ts rest : List Token} {g : GroupsTree} → SpellsGroups ts g rest → AreFilled g.elements
 groups_filled no_groups = (tt, tt)
-groups_filled (group_by h) = list_filled h
+groups_filled (group_by m h) = list_filled h
 
-pub from_filled : (ts : List Token) (x : _) → SpellsFrom ts x → AreFilled x.1.1
-from_filled ts x h = groups_filled h.2.2
+pub query_filled : {ts : List Token} {q : QueryTree} → SpellsQuery ts q → AreFilled q.groups.elements
+query_filled (query i n w g) = groups_filled g

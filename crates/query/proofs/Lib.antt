@@ -1,6 +1,8 @@
 pub mod CountsLemmas
 pub mod MarksLemmas
 pub mod GroupedLemmas
+pub mod DifferentLemmas
+pub mod HeadingsLemmas
 pub mod PlacesLemmas
 pub mod PlansLemmas
 pub mod PlanLawsLemmas
@@ -8,8 +10,9 @@ pub mod Trees
 pub mod Lists
 pub mod PhrasesLemmas
 pub mod Units
-pub mod Elements
 pub mod TestsLemmas
+pub mod ItemsLemmas
+pub mod Elements
 pub mod Predicates
 pub mod Ends
 pub mod Filled

@@ -11,7 +11,7 @@ use Rattle.cells.specs.declared.refused.Refused.TheVariants.{QuerySyntax}
 use Rattle.cells.specs.declared.token.Token.{Token}
 use Rattle.cells.specs.declared.token.Token.TheVariants.{Word, Number, Quoted, Mark}
 use Rattle.cells.specs.declared.token.Mark.TheVariants.{LeftParen, RightParen, Asterisk, Equals, NotEquals, LessThanOrEquals, GreaterThanOrEquals, LessThan, GreaterThan}
-use Rattle.query.specs.Grammar.{DISTINCT, SpellsName, name, SpellsItem, column, grouping, count_rows, count, count_distinct, sum, min, max, SpellsLiteral, number, text, SpellsOperand, name_operand, literal_operand, SpellsComparison, equal, not_equal, less, less_or_equal, greater, greater_or_equal}
+use Rattle.query.specs.Grammar.{DISTINCT, GROUPING, SpellsName, name, SpellsItem, column, grouping, count_rows, count, count_distinct, sum, min, max, SpellsLiteral, number, text, SpellsOperand, name_operand, literal_operand, SpellsComparison, equal, not_equal, less, less_or_equal, greater, greater_or_equal}
 use Rattle.query.specs.declared.test.Literal.{Literal}
 use Rattle.query.specs.declared.test.Literal.TheVariants as literal
 use Rattle.query.specs.declared.test.Operand.{Operand}
@@ -19,7 +19,7 @@ use Rattle.query.specs.declared.test.Operand.TheVariants as operand
 use Rattle.query.specs.declared.test.Comparison.{Comparison}
 use Rattle.query.specs.declared.test.Comparison.TheVariants as comparison
 use Rattle.query.specs.Phrases.{name_at, call_of, call_at, item_at, rows_at, distinct_at, named_at, with_rest, literal_at, operand_at, comparison_at}
-use Rattle.query.specs.Reading.{Any, Starts, ReadsPhrase}
+use Rattle.query.specs.Reading.{Any, BeginsNotCall, Starts, ReadsPhrase}
 use Rattle.query.specs.declared.item.Item.{Item}
 use Rattle.query.specs.declared.item.Item.TheVariants as item
 
@@ -69,31 +69,29 @@ not_reserved w n is free = elim (cases_Bool (bytes_eq n w)) [
 not_distinct : (n : List ℕ) → is_reserved n ≡ false → bytes_eq n (codes "DISTINCT") ≡ false
 not_distinct n free = not_reserved (codes "DISTINCT") n refl free
 
-item_complete : {ts : List Token} {i : Item (List ℕ)} {rest : List Token} → SpellsItem ts i rest → item_at ts ≡ Some (i, rest)
+-- the items but GROUPING
+item_complete : {ts : List Token} {i : Item (List ℕ)} {rest : List Token} → SpellsItem ts i rest → BeginsNotCall GROUPING ts → item_at ts ≡ Some (i, rest)
 unfolding item_at
-item_complete (column {n = n} free) = rw free refl
-item_complete (grouping {n = n} free) = rw (free, not_distinct n free) refl
-item_complete count_rows = refl
-item_complete (count {n = n} free) = rw (free, not_distinct n free) refl
-item_complete (count_distinct {n = n} free) = rw free refl
-item_complete (sum {n = n} free) = rw (free, not_distinct n free) refl
-item_complete (min {n = n} free) = rw (free, not_distinct n free) refl
-item_complete (max {n = n} free) = rw (free, not_distinct n free) refl
+item_complete (column {n = n} free) other = rw free refl
+item_complete (grouping {ts = us} h) other = absurd (other us refl)
+item_complete count_rows other = refl
+item_complete (count {n = n} free) other = rw (free, not_distinct n free) refl
+item_complete (count_distinct {n = n} free) other = rw free refl
+item_complete (sum {n = n} free) other = rw (free, not_distinct n free) refl
+item_complete (min {n = n} free) other = rw (free, not_distinct n free) refl
+item_complete (max {n = n} free) other = rw (free, not_distinct n free) refl
 
 call_sound : (w n : List ℕ) (i : Item (List ℕ)) (rest : List Token) → is_reserved n ≡ false → call_of w n ≡ Some i → SpellsItem (Word w ∷ Mark LeftParen ∷ Word n ∷ Mark RightParen ∷ rest) i rest
 call_sound w n i rest free e =
-    elim (cases_Bool (bytes_eq w (codes "GROUPING"))) [
-      | inl hit ↦ rw (same_word w (codes "GROUPING") hit, sym (same_Some (item.Grouping n) i (rw hit at e))) (grouping free)
-      | inr g ↦ elim (cases_Bool (bytes_eq w (codes "COUNT"))) [
-        | inl hit ↦ rw (same_word w (codes "COUNT") hit, sym (same_Some (item.Count n) i (rw (g, hit) at e))) (count free)
-        | inr c ↦ elim (cases_Bool (bytes_eq w (codes "SUM"))) [
-          | inl hit ↦ rw (same_word w (codes "SUM") hit, sym (same_Some (item.Sum n) i (rw (g, c, hit) at e))) (sum free)
-          | inr s ↦ elim (cases_Bool (bytes_eq w (codes "MIN"))) [
-            | inl hit ↦ rw (same_word w (codes "MIN") hit, sym (same_Some (item.Min n) i (rw (g, c, s, hit) at e))) (min free)
-            | inr m ↦ elim (cases_Bool (bytes_eq w (codes "MAX"))) [
-              | inl hit ↦ rw (same_word w (codes "MAX") hit, sym (same_Some (item.Max n) i (rw (g, c, s, m, hit) at e))) (max free)
-              | inr x ↦ absurd (none-some i (rw (g, c, s, m, x) at e))
-            ]
+    elim (cases_Bool (bytes_eq w (codes "COUNT"))) [
+      | inl hit ↦ rw (same_word w (codes "COUNT") hit, sym (same_Some (item.Count n) i (rw hit at e))) (count free)
+      | inr c ↦ elim (cases_Bool (bytes_eq w (codes "SUM"))) [
+        | inl hit ↦ rw (same_word w (codes "SUM") hit, sym (same_Some (item.Sum n) i (rw (c, hit) at e))) (sum free)
+        | inr s ↦ elim (cases_Bool (bytes_eq w (codes "MIN"))) [
+          | inl hit ↦ rw (same_word w (codes "MIN") hit, sym (same_Some (item.Min n) i (rw (c, s, hit) at e))) (min free)
+          | inr m ↦ elim (cases_Bool (bytes_eq w (codes "MAX"))) [
+            | inl hit ↦ rw (same_word w (codes "MAX") hit, sym (same_Some (item.Max n) i (rw (c, s, m, hit) at e))) (max free)
+            | inr x ↦ absurd (none-some i (rw (c, s, m, x) at e))
           ]
         ]
       ]
@@ -151,8 +149,8 @@ item_sound (Word w ∷ us) i rest e = elim (cases_Bool (is_reserved w)) [
 ]
 item_sound ts i rest e = absurd (none-some (i, rest) e)
 
-pub item_computes : (ts : List Token) → Computes SpellsItem ts (item_at ts)
-item_computes ts = record { sound = item_sound ts; complete = λ i rest s. item_complete s }
+pub item_computes : (ts : List Token) → BeginsNotCall GROUPING ts → Computes SpellsItem ts (item_at ts)
+item_computes ts other = record { sound = item_sound ts; complete = λ i rest s. item_complete s other }
 
 -- ---- literals, operands, comparisons
 literal_sound : (ts : List Token) (l : Literal) (rest : List Token) → literal_at ts ≡ Some (l, rest) → SpellsLiteral ts l rest

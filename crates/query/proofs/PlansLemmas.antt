@@ -1,10 +1,11 @@
 -- What holds of the plan of a query without faults.
-use Rattle.std.proofs.Common.{◌≡◌, ℕ, suc, ◌+◌, ◌<◌, ◌≤◌, Bool, true, false, not, ◌||◌, cond, List, [], ◌∷◌, ◌++◌, length, map, refl, sym, ap, subst, ◌∙◌, arith}
+use Rattle.std.proofs.Common.{◌≡◌, ℕ, suc, inl, inr, ◌+◌, ◌<◌, ◌≤◌, Bool, true, false, not, ◌||◌, cond, List, [], ◌∷◌, ◌++◌, length, map, refl, sym, ap, ap₂, subst, ◌∙◌, arith}
+use Rattle.std.proofs.lemmas.Bool.{cases_Bool}
 use Rattle.std.proofs.lemmas.Bool.Decides.{nat_tests}
 use Rattle.std.proofs.lemmas.List.{length-map}
 use Rattle.std.proofs.lemmas.List.Folds.{list_any-append}
 use Rattle.std.specs.List.{AllByRecursion, flat_map, list_any}
-use Rattle.std.specs.Prelude.{Option, Some, None, bytes_eq, if◌then◌else◌, nat_lt, option_map}
+use Rattle.std.specs.Prelude.{Option, Some, None, bytes_eq, filter, if◌then◌else◌, nat_lt, option_map}
 use Rattle.cells.specs.Values.{Table}
 use Rattle.cells.specs.declared.refused.Refused.{Refused}
 use Rattle.cells.specs.declared.schema.Column.{Column}
@@ -14,10 +15,10 @@ use Rattle.query.specs.Checks.{fault_of, has_too_many_sets, has_unknown, is_colu
 use Rattle.query.specs.Headings.{heading}
 use Rattle.query.specs.Names.{element_names, item_names, names_of, operand_names, test_names, tests_of, tests_of_each, tests_where}
 use Rattle.query.specs.Plans.{IsConditionOf, IsItemOf, IsPlanOf, PlacesRise, IsSetOf, PlanTree, place_of, placed_each, placed_item, placed_operand, placed_predicate, placed_test, plan_of, type_at}
-use Rattle.query.specs.Sets.{Names, grouping_sets, names_column, places, places_from}
+use Rattle.query.specs.Sets.{Names, different_sets, grouping_sets, kept_sets, names_column, places, places_from}
 use Rattle.query.specs.Trees.{PredicateTree, Or, And, Not, Holds, PredicateTrees, NoPredicates, MorePredicates}
 use Rattle.query.specs.Truth.{AreOver, IsOver, IsTestWithin, IsWithin}
-use Rattle.query.specs.Values.{AreFilled, QueryTree}
+use Rattle.query.specs.Values.{AreFilled, QueryTree, is_long}
 use Rattle.query.specs.declared.item.Item.{Item}
 use Rattle.query.specs.declared.item.Item.TheVariants as item
 use Rattle.query.specs.declared.test.Operand.{Operand}
@@ -74,9 +75,13 @@ int_at (c ∷ cs) n e t = type_step (bytes_eq c.name n) (is_column cs n) (is_tex
 
 -- ---- items
 module _ (cs : List Column) where
+  all_within : (ns : List (List ℕ)) → has_unknown cs ns ≡ false → AllByRecursion (λ p. p < length cs) (map (place_of cs) ns)
+  all_within [] u = tt
+  all_within (n ∷ ns) u = (place_within cs n (known cs n ns u), all_within ns (or_false (not (is_column cs n)) (has_unknown cs ns) u).1)
+
   item_of : (i : Item (List ℕ)) → has_unknown cs (item_names i) ≡ false → is_text_sum cs i ≡ false → IsItemOf cs (placed_item cs i)
   item_of (item.Column n) u t = place_within cs n (known cs n [] u)
-  item_of (item.Grouping n) u t = place_within cs n (known cs n [] u)
+  item_of (item.Grouping ns) u t = all_within ns u
   item_of item.CountRows u t = tt
   item_of (item.Count n) u t = place_within cs n (known cs n [] u)
   item_of (item.CountDistinct n) u t = place_within cs n (known cs n [] u)
@@ -172,26 +177,77 @@ each_set : (cs : List Column) (ss : List Names) → AllByRecursion (IsSetOf cs) 
 each_set cs [] = tt
 each_set cs (s ∷ ss) = (set_of cs s, each_set cs ss)
 
+-- ---- DISTINCT
+module _ (P : List ℕ → Type 0) where
+  all_filtered : (f : List ℕ → Bool) (xs : List (List ℕ)) → AllByRecursion P xs → AllByRecursion P (filter f xs)
+  all_filtered f [] h = tt
+  all_filtered f (x ∷ xs) h = elim (cases_Bool (f x)) [ inl e ↦ rw e (h.0, all_filtered f xs h.1) | inr e ↦ rw e (all_filtered f xs h.1) ]
+
+  all_different : (xs : List (List ℕ)) → AllByRecursion P xs → AllByRecursion P (different_sets xs)
+  all_different [] h = tt
+  all_different (x ∷ xs) h = (h.0, all_filtered (λ t. not (bytes_eq t x)) (different_sets xs) (all_different xs h.1))
+
+  all_kept : (distinct : Bool) (xs : List (List ℕ)) → AllByRecursion P xs → AllByRecursion P (kept_sets distinct xs)
+  all_kept true xs h = all_different xs h
+  all_kept false xs h = h
+
+few_filtered : (f : List ℕ → Bool) (xs : List (List ℕ)) → length (filter f xs) ≤ length xs
+few_filtered f [] = omega arith
+few_filtered f (x ∷ xs) = let few = few_filtered f xs in elim (cases_Bool (f x)) [ inl e ↦ rw e (omega (arith, few)) | inr e ↦ rw e (omega (arith, few)) ]
+
+few_different : (xs : List (List ℕ)) → length (different_sets xs) ≤ length xs
+few_different [] = omega arith
+few_different (x ∷ xs) = omega (arith, few_filtered (λ t. not (bytes_eq t x)) (different_sets xs), few_different xs)
+
+few_kept : (distinct : Bool) (xs : List (List ℕ)) → length (kept_sets distinct xs) ≤ length xs
+few_kept true xs = few_different xs
+few_kept false xs = omega arith
+
+some_kept : (distinct : Bool) (xs : List (List ℕ)) → 0 < length xs → 0 < length (kept_sets distinct xs)
+some_kept true [] h = h
+some_kept true (x ∷ xs) h = omega arith
+some_kept false xs h = h
+
 -- ---- the whole
-pub is_plan : (t : Table) (q : QueryTree) (p : PlanTree) → fault_of t q ≡ None → AreFilled q.elements → p ≡ plan_of t q → IsPlanOf t p
+pub is_plan : (t : Table) (q : QueryTree) (p : PlanTree) → fault_of t q ≡ None → AreFilled q.groups.elements → p ≡ plan_of t q → IsPlanOf t p
 is_plan t q p none filled made =
     let known_all = unless (is_unknown t q) _ _ none in
     let typed = unless (is_wrong_type t q) _ _ known_all.1 in
     let grouped = unless (is_not_grouped q) _ _ typed.1 in
     let few = unless (has_too_many_sets q) _ _ grouped.1 in
     let names = (or_false _ (has_unknown t.columns (names_of q)) known_all.0).1 in
-    let before = both_known t.columns (flat_map item_names q.items ++ flat_map test_names (tests_where q.condition)) (flat_map element_names q.elements) names in
+    let before = both_known t.columns (flat_map item_names q.items ++ flat_map test_names (tests_where q.condition)) (flat_map element_names q.groups.elements) names in
     let within = both_known t.columns (flat_map item_names q.items) (flat_map test_names (tests_where q.condition)) before.0 in
     let sums = (or_false (list_any (is_text_sum t.columns) q.items) _ typed.0).0 in
-    let sets = grouping_sets q.elements in
-    let least : 0 < length sets = some_grouping [] q.elements filled in
+    let sets = grouping_sets q.groups.elements in
+    let all = map (places t.columns) sets in
+    let least : 0 < length sets = some_grouping [] q.groups.elements filled in
     let most : length sets ≤ 256 = within_limit (length sets) few.0 in
-    let placed : length (map (places t.columns) sets) ≡ length sets = length-map sets (places t.columns) in
+    let placed : length all ≡ length sets = length-map sets (places t.columns) in
+    let kept = few_kept q.groups.distinct all in
     subst (IsPlanOf t) (sym made) (record {
       items = items_of t.columns q.items within.0 sums;
       headings = length-map q.items heading ∙ sym (length-map q.items (placed_item t.columns));
       condition = condition_of t.columns q.condition within.1;
-      sets = each_set t.columns sets;
-      some = omega arith;
+      sets = all_kept (IsSetOf t.columns) q.groups.distinct all (each_set t.columns sets);
+      some = some_kept q.groups.distinct all (omega arith);
       few = omega arith;
     })
+
+-- ---- places are as many as names
+long_placed : (cs : List Column) (i : Item (List ℕ)) → is_long (placed_item cs i) ≡ is_long i
+long_placed cs (item.Column n) = refl
+long_placed cs (item.Grouping ns) = ap (nat_lt 16) (length-map ns (place_of cs))
+long_placed cs item.CountRows = refl
+long_placed cs (item.Count n) = refl
+long_placed cs (item.CountDistinct n) = refl
+long_placed cs (item.Sum n) = refl
+long_placed cs (item.Min n) = refl
+long_placed cs (item.Max n) = refl
+
+any_placed : (cs : List Column) (is : List (Item (List ℕ))) → list_any is_long (map (placed_item cs) is) ≡ list_any is_long is
+any_placed cs [] = refl
+any_placed cs (i ∷ is) = ap₂ (λ a b. a || b) (long_placed cs i) (any_placed cs is)
+
+pub short_placed : (cs : List Column) (is : List (Item (List ℕ))) (placed : List (Item ℕ)) → placed ≡ map (placed_item cs) is → list_any is_long is ≡ false → list_any is_long placed ≡ false
+short_placed cs is placed made short = ap (list_any is_long) made ∙ any_placed cs is ∙ short

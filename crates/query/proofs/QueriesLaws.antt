@@ -11,9 +11,9 @@ use Rattle.cells.specs.declared.token.Token.{Token}
 use Rattle.query.specs.Depth.{is_too_deep}
 use Rattle.query.specs.Ends.{Whole}
 use Rattle.query.specs.Grammar.{SpellsQuery}
-use Rattle.query.specs.Limits.{item_limit, query_limit}
-use Rattle.query.specs.Queries.{FirstFault, HasTokens, IsAnswered, IsNoQuery, IsQuery, a_fault, a_query, no_query, no_tokens, too_deep, too_long, too_many_items}
-use Rattle.query.specs.Values.{QueryTree}
+use Rattle.query.specs.Limits.{query_limit}
+use Rattle.query.specs.Queries.{FirstFault, HasTokens, IsAnswered, IsNoQuery, IsQuery, a_fault, a_query, no_query, no_tokens, too_deep, too_long, too_many}
+use Rattle.query.specs.Values.{QueryTree, has_too_many}
 use Rattle.query.proofs.Deciding.{query_decided}
 use Rattle.query.proofs.Decisions.{Decided, no_phrase, one_phrase}
 
@@ -52,36 +52,37 @@ module _ (text : List ℕ) where
   no_both q e a (no_tokens k n) = none_spelt a.tokens n a.has.spelt
   no_both q e a (too_deep {ts = ts} k s d) = deep_shallow ts a.tokens (same_tokens ts a.tokens s a.has.spelt) d a.has.shallow
   no_both q e a (no_query {ts = ts} h n) = no_query_here ts a.tokens q (same_tokens ts a.tokens h.spelt a.has.spelt) n a.query
-  no_both q e a (too_many_items {ts = ts} {q = p} h s many) =
+  no_both q e a (too_many {ts = ts} {q = p} h s many) =
       let same = one_spelt ts a.tokens p q (same_tokens ts a.tokens h.spelt a.has.spelt) s a.query in
-      omega (arith, many, a.few, ap (λ x. length x.items) same)
+      let both : true ≡ false = sym many ∙ ap has_too_many same ∙ a.few in
+      cc
 
   pub one_fault : (e f : Refused) → FirstFault text e → FirstFault text f → e ≡ f
   one_fault e f (too_long h) (too_long k) = refl
   one_fault e f (too_long h) (no_tokens k n) = absurd (long_short h k)
   one_fault e f (too_long h) (too_deep k s d) = refl
   one_fault e f (too_long h) (no_query k n) = absurd (long_short h k.short)
-  one_fault e f (too_long h) (too_many_items k s m) = refl
+  one_fault e f (too_long h) (too_many k s m) = refl
   one_fault e f (no_tokens h n) (too_long k) = absurd (long_short k h)
   one_fault e f (no_tokens h n) (no_tokens k m) = refl
   one_fault e f (no_tokens h n) (too_deep {ts = us} k s d) = absurd (none_spelt us n s)
   one_fault e f (no_tokens h n) (no_query k m) = refl
-  one_fault e f (no_tokens h n) (too_many_items {ts = us} k s m) = absurd (none_spelt us n k.spelt)
+  one_fault e f (no_tokens h n) (too_many {ts = us} k s m) = absurd (none_spelt us n k.spelt)
   one_fault e f (too_deep h s d) (too_long k) = refl
   one_fault e f (too_deep {ts = ts} h s d) (no_tokens k n) = absurd (none_spelt ts n s)
   one_fault e f (too_deep h s d) (too_deep k t c) = refl
   one_fault e f (too_deep {ts = ts} h s d) (no_query {ts = us} k n) = absurd (deep_shallow ts us (same_tokens ts us s k.spelt) d k.shallow)
-  one_fault e f (too_deep h s d) (too_many_items k t m) = refl
+  one_fault e f (too_deep h s d) (too_many k t m) = refl
   one_fault e f (no_query h n) (too_long k) = absurd (long_short k h.short)
   one_fault e f (no_query h n) (no_tokens k m) = refl
   one_fault e f (no_query {ts = ts} h n) (too_deep {ts = us} k s d) = absurd (deep_shallow us ts (same_tokens us ts s h.spelt) d h.shallow)
   one_fault e f (no_query h n) (no_query k m) = refl
-  one_fault e f (no_query {ts = ts} h n) (too_many_items {ts = us} {q = q} k s m) = absurd (no_query_here ts us q (same_tokens ts us h.spelt k.spelt) n s)
-  one_fault e f (too_many_items h s m) (too_long k) = refl
-  one_fault e f (too_many_items {ts = ts} h s m) (no_tokens k n) = absurd (none_spelt ts n h.spelt)
-  one_fault e f (too_many_items h s m) (too_deep k t d) = refl
-  one_fault e f (too_many_items {ts = ts} {q = q} h s m) (no_query {ts = us} k n) = absurd (no_query_here us ts q (same_tokens us ts k.spelt h.spelt) n s)
-  one_fault e f (too_many_items h s m) (too_many_items k t n) = refl
+  one_fault e f (no_query {ts = ts} h n) (too_many {ts = us} {q = q} k s m) = absurd (no_query_here ts us q (same_tokens ts us h.spelt k.spelt) n s)
+  one_fault e f (too_many h s m) (too_long k) = refl
+  one_fault e f (too_many {ts = ts} h s m) (no_tokens k n) = absurd (none_spelt ts n h.spelt)
+  one_fault e f (too_many h s m) (too_deep k t d) = refl
+  one_fault e f (too_many {ts = ts} {q = q} h s m) (no_query {ts = us} k n) = absurd (no_query_here us ts q (same_tokens us ts k.spelt h.spelt) n s)
+  one_fault e f (too_many h s m) (too_many k t n) = refl
 
   -- what is the text's query, or its first fault, is no other answer
   pub only_answer : (r : Result QueryTree Refused) → MatchResult r (λ q. IsQuery text q) (λ e. (e ≡ OutOfMemory) ⊎ FirstFault text e) → (q : QueryTree) → IsQuery text q → Answers QuerySyntax (Some q) r
@@ -90,12 +91,12 @@ module _ (text : List ℕ) where
   only_answer (Err e) (inr fault) q is = absurd (no_both q e is fault)
 
   -- ---- at least one
-  by_items : (ts : List Token) (q : QueryTree) → HasTokens text ts → SpellsQuery ts q → (item_limit < length q.items) ⊎ (length q.items ≤ item_limit) → IsAnswered text
-  by_items ts q has s (inl many) = a_fault Limit (too_many_items has s many)
+  by_items : (ts : List Token) (q : QueryTree) → HasTokens text ts → SpellsQuery ts q → (has_too_many q ≡ true) ⊎ (has_too_many q ≡ false) → IsAnswered text
+  by_items ts q has s (inl many) = a_fault Limit (too_many has s many)
   by_items ts q has s (inr few) = a_query q (record { tokens = ts; has = has; query = s; few = few })
 
   by_query : (ts : List Token) → HasTokens text ts → Decided (Whole SpellsQuery ts) → IsAnswered text
-  by_query ts has (one_phrase q r h) = by_items ts q has (h.is).spells (cases_lt item_limit (length q.items))
+  by_query ts has (one_phrase q r h) = by_items ts q has (h.is).spells (cases_Bool (has_too_many q))
   by_query ts has (no_phrase h) = a_fault QuerySyntax (no_query has (record { none = λ q s. h.none q [] (record { spells = s; ended = refl }) }))
 
   by_depth : (ts : List Token) → length text ≤ query_limit → tokens_of text ≡ Some ts → (is_too_deep ts ≡ true) ⊎ (is_too_deep ts ≡ false) → IsAnswered text

@@ -14,7 +14,7 @@ shorter_name ts n rest (name free) = omega arith
 
 pub shorter_item : (ts : List Token) (i : _) (rest : List Token) → SpellsItem ts i rest → length rest < length ts
 shorter_item ts i rest (column free) = omega arith
-shorter_item ts i rest (grouping free) = omega arith
+shorter_item ts i rest (grouping h) = omega (arith, shorter_list shorter_name h)
 shorter_item ts i rest count_rows = omega arith
 shorter_item ts i rest (count free) = omega arith
 shorter_item ts i rest (count_distinct free) = omega arith

@@ -6,7 +6,7 @@ use Rattle.std.proofs.lemmas.Option.{none-some, some_pair_parts}
 use Rattle.cells.specs.Schemas.{is_reserved}
 use Rattle.cells.specs.declared.token.Token.{Token}
 use Rattle.cells.specs.declared.token.Token.TheVariants.{Word, Number, Quoted}
-use Rattle.query.specs.Grammar.{Separated, name, SpellsLiteral, number, text, SpellsOperand, name_operand, literal_operand, SpellsNot, without, with, SpellsTest, compare, is_null, between, among, lparen, rparen, comma, AND, BETWEEN, IN, IS, NOT, NULL}
+use Rattle.query.specs.Grammar.{Separated, name, SpellsLiteral, number, text, SpellsOperand, name_operand, literal_operand, SpellsMark, SpellsNot, without, with, SpellsTest, compare, is_null, between, among, lparen, rparen, comma, AND, BETWEEN, IN, IS, NOT, NULL}
 use Rattle.query.specs.Phrases.{comparison_at, BoundsAt, NullAfter, null, RangeAfter, range, list, TestAfter, after_compare, after_is, after_not}
 use Rattle.query.specs.Reading.{Any, BeginsNot, BeginsNotCall, Marked, Starts, Found, Nothing}
 use Rattle.query.specs.declared.test.Test.{Test}
@@ -25,21 +25,21 @@ words_differ v w xs ys differ e =
     let both : true ≡ false = sym ((bytes_eq-Decides v w).1 same) ∙ differ in
     cc
 
-pub marked : (us vs : List Token) → us ≡ NOT ∷ vs → Marked us true vs
-marked us vs e = record {
-  spells = subst (λ v. SpellsNot v true vs) (sym e) with;
-  only = λ n r s other. inside s e other;
+pub marked : (mark : Token) (us vs : List Token) → us ≡ mark ∷ vs → Marked mark us true vs
+marked mark us vs e = record {
+  spells = subst (λ v. SpellsMark mark v true vs) (sym e) with;
+  only = λ s r h other. inside h e other;
 } where
-  inside : {ws r : List Token} {n : Bool} → SpellsNot ws n r → ws ≡ NOT ∷ vs → BeginsNot NOT r → (n ≡ true) × (r ≡ vs)
+  inside : {ws r : List Token} {s : Bool} → SpellsMark mark ws s r → ws ≡ mark ∷ vs → BeginsNot mark r → (s ≡ true) × (r ≡ vs)
   inside without f other = absurd (other vs f)
   inside with f other = (refl, cc)
 
-pub unmarked : (us : List Token) → BeginsNot NOT us → Marked us false us
-unmarked us absent = record {
+pub unmarked : (mark : Token) (us : List Token) → BeginsNot mark us → Marked mark us false us
+unmarked mark us absent = record {
   spells = without;
-  only = λ n r s other. inside s absent;
+  only = λ s r h other. inside h absent;
 } where
-  inside : {ws r : List Token} {n : Bool} → SpellsNot ws n r → BeginsNot NOT ws → (n ≡ false) × (r ≡ ws)
+  inside : {ws r : List Token} {s : Bool} → SpellsMark mark ws s r → BeginsNot mark ws → (s ≡ false) × (r ≡ ws)
   inside without f = (refl, refl)
   inside (with {rest = rest}) f = absurd (f rest refl)
 
@@ -61,7 +61,7 @@ module _ (us : List Token) where
 
 module _ (a : Operand (List ℕ)) (us : List Token) where
   -- IS, and what follows it
-  module _ (not : Bool) (vs : List Token) (m : Marked us not vs) where
+  module _ (not : Bool) (vs : List Token) (m : Marked NOT us not vs) where
     pub null_found : (rest : List Token) → vs ≡ NULL ∷ rest → Found (NullAfter a us) (test.IsNull a not) rest
     null_found rest e = record {
       is = null (subst (SpellsNot us not) e m.spells);
@@ -153,12 +153,12 @@ module _ (a : Operand (List ℕ)) (us : List Token) where
     inside (after_not without h) f = absurd ((range_word h).1 more f)
     inside (after_not with h) f = absurd (let bad : NOT ≡ IS = cc in cc)
 
-  pub test_range : comparison_at us ≡ None → BeginsNot IS us → (not : Bool) (vs : List Token) → Marked us not vs → Turns (TestAfter a us) (RangeAfter a not vs) (λ t. t)
+  pub test_range : comparison_at us ≡ None → BeginsNot IS us → (not : Bool) (vs : List Token) → Marked NOT us not vs → Turns (TestAfter a us) (RangeAfter a not vs) (λ t. t)
   test_range e other not vs m = record {
     to = λ t r h. after_not m.spells h;
     from = λ t r s. (t, refl, inside s e other m);
   } where
-    inside : {ws r : List Token} {t : Test (List ℕ)} → TestAfter a ws t r → comparison_at ws ≡ None → BeginsNot IS ws → Marked ws not vs → RangeAfter a not vs t r
+    inside : {ws r : List Token} {t : Test (List ℕ)} → TestAfter a ws t r → comparison_at ws ≡ None → BeginsNot IS ws → Marked NOT ws not vs → RangeAfter a not vs t r
     inside (after_compare {vs = xs} {c = c} k h) f g m' = absurd (none-some (c, xs) (sym f ∙ comparison_complete k))
     inside (after_is {us = ws} h) f g m' = absurd (g ws refl)
     inside {r = r} {t = t} (after_not {vs = xs} {not = n} k h) f g m' =

@@ -69,7 +69,7 @@ is_text_sum columns i = false
 abbrev pub is_wrong_type : Table → QueryTree → Bool
 is_wrong_type table query = list_any (is_text_sum table.columns) query.items || list_any (is_mixed table.columns) (tests_where query.condition)
 
--- ---- NotGrouped: an item is a column alone, or GROUPING of one, that is in no grouping set (7.11)
+-- ---- NotGrouped: an item is a column alone that is in no grouping set, or GROUPING of such a column (7.11)
 
 -- one of the sets names the column
 abbrev pub is_in_some : List Names → List ℕ → Bool
@@ -77,16 +77,16 @@ is_in_some sets name = list_any (λ s. list_any (bytes_eq name) s) sets
 
 abbrev pub is_ungrouped : List Names → Item (List ℕ) → Bool
 is_ungrouped sets (item.Column n) = not (is_in_some sets n)
-is_ungrouped sets (item.Grouping n) = not (is_in_some sets n)
+is_ungrouped sets (item.Grouping ns) = list_any (λ n. not (is_in_some sets n)) ns
 is_ungrouped sets i = false
 
 abbrev pub is_not_grouped : QueryTree → Bool
-is_not_grouped query = list_any (is_ungrouped (grouping_sets query.elements)) query.items
+is_not_grouped query = list_any (is_ungrouped (grouping_sets query.groups.elements)) query.items
 
--- ---- TooManySets: there are more grouping sets than the limit, repeated ones counted
+-- ---- TooManySets: there are more grouping sets than the limit, repeated ones counted, also those that DISTINCT drops
 
 abbrev pub has_too_many_sets : QueryTree → Bool
-has_too_many_sets query = nat_lt set_limit (length (grouping_sets query.elements))
+has_too_many_sets query = nat_lt set_limit (length (grouping_sets query.groups.elements))
 
 -- ---- all of them, and the first in the order in which they are answered
 

@@ -1,6 +1,7 @@
 -- How tokens spell a query (after ISO/IEC 9075-2:1999: 7.11 query specification, 7.8 where clause, 7.9 group by
 -- clause, 6.16 set function specification, 8.1 to 8.4 and the null predicate of clause 8, and the boolean value
--- expression): a family for each rule of the grammar, a constructor for each alternative.
+-- expression; and after ISO/IEC 9075-2:2016: GROUP BY DISTINCT, feature T434, and GROUPING of several columns, feature
+-- T433): a family for each rule of the grammar, a constructor for each alternative.
 -- `SpellsX ts x rest` says that the tokens ts begin with a spelling of x, and that rest follows it.
 use Rattle.std.specs.Prelude.{◌≡◌, ℕ, Bool, true, false, List, [], ◌∷◌, codes, Option, Some, None}
 use Rattle.cells.specs.Schemas.{is_reserved}
@@ -8,7 +9,7 @@ use Rattle.cells.specs.declared.token.Token.{Token}
 use Rattle.cells.specs.declared.token.Token.TheVariants.{Word, Number, Quoted, Mark}
 use Rattle.cells.specs.declared.token.Mark.TheVariants.{LeftParen, RightParen, Comma, Asterisk, Equals, NotEquals, LessThanOrEquals, GreaterThanOrEquals, LessThan, GreaterThan}
 use Rattle.query.specs.Trees.{ElementTree, Empty, OneUnit, Rollup, Cube, Sets, ElementTrees, NoElements, MoreElements, PredicateTree, Or, And, Not, Holds, PredicateTrees, NoPredicates, MorePredicates}
-use Rattle.query.specs.Values.{QueryTree}
+use Rattle.query.specs.Values.{GroupsTree, QueryTree, all_rows}
 use Rattle.query.specs.declared.item.Item.{Item}
 use Rattle.query.specs.declared.item.Item.TheVariants as item
 use Rattle.query.specs.declared.test.Test.{Test}
@@ -108,13 +109,13 @@ pub data Separated {X : Type 0} (sep : Token) (Spells : List Token → X → Lis
 pub data SpellsName : List Token → List ℕ → List Token → Type 0 where
   name : {n : List ℕ} {rest : List Token} → is_reserved n ≡ false → SpellsName (Word n ∷ rest) n rest
 
--- item = name | GROUPING "(" name ")" | COUNT "(" "*" ")" | COUNT "(" [ DISTINCT ] name ")"
+-- item = name | GROUPING "(" name { "," name } ")" | COUNT "(" "*" ")" | COUNT "(" [ DISTINCT ] name ")"
 --     | ( SUM | MIN | MAX ) "(" name ")"
 pub data SpellsItem : List Token → Item (List ℕ) → List Token → Type 0 where
   -- name
   column : {n : List ℕ} {rest : List Token} → is_reserved n ≡ false → SpellsItem (Word n ∷ rest) (item.Column n) rest
-  -- GROUPING "(" name ")"
-  grouping : {n : List ℕ} {rest : List Token} → is_reserved n ≡ false → SpellsItem (GROUPING ∷ lparen ∷ Word n ∷ rparen ∷ rest) (item.Grouping n) rest
+  -- GROUPING "(" name { "," name } ")"
+  grouping : {ts rest : List Token} {ns : List (List ℕ)} → Separated comma SpellsName ts ns (rparen ∷ rest) → SpellsItem (GROUPING ∷ lparen ∷ ts) (item.Grouping ns) rest
   -- COUNT "(" "*" ")"
   count_rows : {rest : List Token} → SpellsItem (COUNT ∷ lparen ∷ star ∷ rparen ∷ rest) item.CountRows rest
   -- COUNT "(" [ DISTINCT ] name ")"
@@ -169,10 +170,14 @@ pub data SpellsComparison : List Token → Comparison → List Token → Type 0 
   greater : {rest : List Token} → SpellsComparison (Mark GreaterThan ∷ rest) comparison.Greater rest
   greater_or_equal : {rest : List Token} → SpellsComparison (Mark GreaterThanOrEquals ∷ rest) comparison.GreaterOrEqual rest
 
+-- [ word ]: whether the word stands there
+pub data SpellsMark (mark : Token) : List Token → Bool → List Token → Type 0 where
+  without : {rest : List Token} → SpellsMark mark rest false rest
+  with : {rest : List Token} → SpellsMark mark (mark ∷ rest) true rest
+
 -- [ NOT ]
-pub data SpellsNot : List Token → Bool → List Token → Type 0 where
-  without : {rest : List Token} → SpellsNot rest false rest
-  with : {rest : List Token} → SpellsNot (NOT ∷ rest) true rest
+abbrev pub SpellsNot : List Token → Bool → List Token → Type 0
+SpellsNot = SpellsMark NOT
 
 -- test = operand comparison operand | operand IS [ NOT ] NULL | operand [ NOT ] BETWEEN operand AND operand
 --     | operand [ NOT ] IN "(" literal { "," literal } ")"
@@ -222,13 +227,13 @@ pub data SpellsWhere : List Token → Option (PredicateTree (Test (List ℕ))) �
   no_where : {rest : List Token} → SpellsWhere rest None rest
   where_predicate : {ts rest : List Token} {p : PredicateTree (Test (List ℕ))} → SpellsPredicate ts p rest → SpellsWhere (WHERE ∷ ts) (Some p) rest
 
--- [ GROUP BY element { "," element } ]: without it, it is as with GROUP BY ()
-pub data SpellsGroups : List Token → List ElementTree → List Token → Type 0 where
-  no_groups : {rest : List Token} → SpellsGroups rest (Empty ∷ []) rest
-  group_by : {ts rest : List Token} {es : List ElementTree} → Separated comma SpellsElement ts es rest → SpellsGroups (GROUP ∷ BY ∷ ts) es rest
+-- [ GROUP BY [ DISTINCT ] element { "," element } ]: without it, it is as with GROUP BY ()
+pub data SpellsGroups : List Token → GroupsTree → List Token → Type 0 where
+  no_groups : {rest : List Token} → SpellsGroups rest all_rows rest
+  group_by : {ts us rest : List Token} {d : Bool} {es : List ElementTree} → SpellsMark DISTINCT ts d us → Separated comma SpellsElement us es rest → SpellsGroups (GROUP ∷ BY ∷ ts) (record { distinct = d; elements = es }) rest
 
--- query = SELECT item { "," item } FROM name [ WHERE predicate ] [ GROUP BY element { "," element } ]
+-- query = SELECT item { "," item } FROM name [ WHERE predicate ] [ GROUP BY [ DISTINCT ] element { "," element } ]
 pub data SpellsQuery : List Token → QueryTree → Type 0 where
-  query : {ts us vs ws : List Token} {items : List (Item (List ℕ))} {table : List ℕ} {condition : Option (PredicateTree (Test (List ℕ)))} {elements : List ElementTree} →
-      Separated comma SpellsItem ts items (FROM ∷ us) → SpellsName us table vs → SpellsWhere vs condition ws → SpellsGroups ws elements [] →
-      SpellsQuery (SELECT ∷ ts) (record { items = items; table = table; condition = condition; elements = elements })
+  query : {ts us vs ws : List Token} {items : List (Item (List ℕ))} {table : List ℕ} {condition : Option (PredicateTree (Test (List ℕ)))} {groups : GroupsTree} →
+      Separated comma SpellsItem ts items (FROM ∷ us) → SpellsName us table vs → SpellsWhere vs condition ws → SpellsGroups ws groups [] →
+      SpellsQuery (SELECT ∷ ts) (record { items = items; table = table; condition = condition; groups = groups })

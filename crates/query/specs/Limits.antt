@@ -13,6 +13,10 @@ parenthesis_limit = 64
 abbrev pub item_limit : ℕ
 item_limit = 32
 
+-- the most columns of a GROUPING
+abbrev pub grouping_limit : ℕ
+grouping_limit = 16
+
 -- the most grouping sets of a query, repeated ones counted
 abbrev pub set_limit : ℕ
 set_limit = 256

@@ -12,7 +12,7 @@ use Rattle.query.specs.declared.test.Operand.TheVariants as operand
 
 abbrev pub item_names : Item (List ℕ) → List (List ℕ)
 item_names (item.Column n) = n ∷ []
-item_names (item.Grouping n) = n ∷ []
+item_names (item.Grouping ns) = ns
 item_names item.CountRows = []
 item_names (item.Count n) = n ∷ []
 item_names (item.CountDistinct n) = n ∷ []
@@ -61,4 +61,4 @@ abbrev mutual
 
 -- the names in the items, in the predicate and in the elements of GROUP BY
 abbrev pub names_of : QueryTree → List (List ℕ)
-names_of q = flat_map item_names q.items ++ flat_map test_names (tests_where q.condition) ++ flat_map element_names q.elements
+names_of q = flat_map item_names q.items ++ flat_map test_names (tests_where q.condition) ++ flat_map element_names q.groups.elements

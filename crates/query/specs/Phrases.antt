@@ -22,15 +22,14 @@ abbrev pub name_at : List Token → Option (List ℕ × List Token)
 name_at (Word n ∷ rest) = if is_reserved n then None else Some (n, rest)
 name_at ts = None
 
--- the item that a word with a name in parentheses is
+-- the aggregate that a word with a name in parentheses is
 abbrev pub call_of : List ℕ → List ℕ → Option (Item (List ℕ))
 call_of w n =
-    if bytes_eq w (codes "GROUPING") then Some (item.Grouping n)
-    else (if bytes_eq w (codes "COUNT") then Some (item.Count n)
+    if bytes_eq w (codes "COUNT") then Some (item.Count n)
     else (if bytes_eq w (codes "SUM") then Some (item.Sum n)
     else (if bytes_eq w (codes "MIN") then Some (item.Min n)
     else (if bytes_eq w (codes "MAX") then Some (item.Max n)
-    else None))))
+    else None)))
 
 -- the rest of an item that begins with a reserved word and "("
 abbrev pub rows_at : List ℕ → List Token → Option (Item (List ℕ) × List Token)
@@ -56,7 +55,7 @@ call_at w (Mark LeftParen ∷ Mark Asterisk ∷ rest) = rows_at w rest
 call_at w (Mark LeftParen ∷ Word n ∷ rest) = if bytes_eq n (codes "DISTINCT") then distinct_at w rest else named_at w n rest
 call_at w ts = None
 
--- the item at the front, and what follows it
+-- the item at the front that is no GROUPING, and what follows it
 unfoldable pub item_at : List Token → Option (Item (List ℕ) × List Token)
 item_at (Word w ∷ rest) = if is_reserved w then call_at w rest else Some (item.Column w, rest)
 item_at ts = None

@@ -9,7 +9,7 @@ use Rattle.cells.specs.declared.schema.ColumnType.TheVariants.{Int}
 use Rattle.query.specs.Checks.{fault_of}
 use Rattle.query.specs.Headings.{heading}
 use Rattle.query.specs.Limits.{set_limit}
-use Rattle.query.specs.Sets.{grouping_sets, places}
+use Rattle.query.specs.Sets.{placed_sets}
 use Rattle.query.specs.Trees.{PredicateTree, Or, And, Not, Holds, PredicateTrees, NoPredicates, MorePredicates}
 use Rattle.query.specs.Truth.{IsOver}
 use Rattle.query.specs.Values.{QueryTree}
@@ -35,7 +35,7 @@ place_of columns name = position_or_len (λ c. bytes_eq c.name name) columns
 
 abbrev pub placed_item : List Column → Item (List ℕ) → Item ℕ
 placed_item columns (item.Column n) = item.Column (place_of columns n)
-placed_item columns (item.Grouping n) = item.Grouping (place_of columns n)
+placed_item columns (item.Grouping ns) = item.Grouping (map (place_of columns) ns)
 placed_item columns item.CountRows = item.CountRows
 placed_item columns (item.Count n) = item.Count (place_of columns n)
 placed_item columns (item.CountDistinct n) = item.CountDistinct (place_of columns n)
@@ -70,7 +70,7 @@ plan_of table query = record {
   items = map (placed_item table.columns) query.items;
   headings = map heading query.items;
   condition = option_map (placed_predicate table.columns) query.condition;
-  sets = map (places table.columns) (grouping_sets query.elements);
+  sets = placed_sets table.columns query.groups;
 }
 
 -- the fault that is answered, and the plan where there is none
@@ -92,10 +92,10 @@ PlacesRise (p ∷ ps) = AllByRecursion (λ q. p < q) ps × PlacesRise ps
 abbrev pub type_at : List Column → ℕ → Option ColumnType
 type_at columns place = option_map (λ c. c.kind) (slice_get columns place)
 
--- the place is that of a column, in SUM of an INT column
+-- each place is that of a column, in SUM of an INT column
 abbrev pub IsItemOf : List Column → Item ℕ → Type 0
 IsItemOf columns (item.Column p) = p < length columns
-IsItemOf columns (item.Grouping p) = p < length columns
+IsItemOf columns (item.Grouping ps) = AllByRecursion (λ p. p < length columns) ps
 IsItemOf columns item.CountRows = ⊤
 IsItemOf columns (item.Count p) = p < length columns
 IsItemOf columns (item.CountDistinct p) = p < length columns

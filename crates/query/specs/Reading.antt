@@ -1,5 +1,5 @@
 -- What a reader answers: the only phrase with which the tokens begin, or that there is none.
-use Rattle.query.specs.Grammar.{AND, OR, NOT, SpellsNot}
+use Rattle.query.specs.Grammar.{AND, OR, SpellsMark}
 use Rattle.std.specs.Prelude.{Bool, ◌≡◌, ◌≢◌, ◌⊎◌, List, ◌∷◌, Result, Ok, Err}
 use Rattle.cells.specs.declared.token.Token.{Token}
 use Rattle.cells.specs.declared.token.Mark.{Mark as Sign}
@@ -55,7 +55,7 @@ abbrev pub ReadsPhrase : {X Y : Type 0} → (Y → X × List Token) → (X → L
 ReadsPhrase view S (Ok y) = Found S (view y).0 (view y).1
 ReadsPhrase view S (Err e) = (e ≡ OutOfMemory) ⊎ ((e ≡ QuerySyntax) × Nothing S)
 
--- whether the tokens begin with NOT, and what follows it or else the tokens themselves
-pub record Marked (us : List Token) (not : Bool) (vs : List Token) : Type 0 where
-  pub spells : SpellsNot us not vs
-  pub only : (n : Bool) (r : List Token) → SpellsNot us n r → BeginsNot NOT r → (n ≡ not) × (r ≡ vs)
+-- whether the tokens begin with the mark, and what follows it or else the tokens themselves
+pub record Marked (mark : Token) (us : List Token) (stands : Bool) (vs : List Token) : Type 0 where
+  pub spells : SpellsMark mark us stands vs
+  pub only : (s : Bool) (r : List Token) → SpellsMark mark us s r → BeginsNot mark r → (s ≡ stands) × (r ≡ vs)

@@ -1,10 +1,10 @@
 -- Worked examples: a table of three columns, elements of GROUP BY over them, and their grouping sets as places;
 -- predicates of each truth, and two of them with AND or OR between; the text of a query, and its tree.
-use Rattle.std.specs.Prelude.{ℕ, List, [], ◌∷◌, Some, codes, map, pos}
+use Rattle.std.specs.Prelude.{ℕ, List, [], ◌∷◌, Some, codes, false, pos, true}
 use Rattle.cells.specs.declared.cell.Cell.TheVariants.{Null}
 use Rattle.cells.specs.declared.schema.Column.{Column}
 use Rattle.cells.specs.declared.schema.ColumnType.TheVariants.{Int}
-use Rattle.query.specs.Sets.{Names, grouping_sets, places}
+use Rattle.query.specs.Sets.{Names, placed_sets}
 use Rattle.query.specs.Trees.{Cube, ElementTree, And, Holds, MorePredicates, NoPredicates, Or, PredicateTree}
 use Rattle.query.specs.Truth.{truth}
 use Rattle.query.specs.Values.{QueryTree}
@@ -31,7 +31,11 @@ columns = record { name = codes "A"; kind = Int } ∷ record { name = codes "B";
 
 -- the grouping sets over the table
 abbrev pub sets_over : List ElementTree → List (List ℕ)
-sets_over elements = map (places columns) (grouping_sets elements)
+sets_over elements = placed_sets columns (record { distinct = false; elements = elements })
+
+-- the same with DISTINCT
+abbrev pub different_sets_over : List ElementTree → List (List ℕ)
+different_sets_over elements = placed_sets columns (record { distinct = true; elements = elements })
 
 -- 1 = 1, 1 = 2, and UNITS = 1 for the one column UNITS
 abbrev pub holds : PredicateTree (Test ℕ)
@@ -62,5 +66,5 @@ sums_tree = record {
   items = Named (codes "A") ∷ Sum (codes "B") ∷ [];
   table = codes "T";
   condition = Some (Holds (Compare (operand.Column (codes "B")) Greater (operand.Literal (literal.Int (pos 1)))));
-  elements = Cube (A ∷ []) ∷ [];
+  groups = record { distinct = false; elements = Cube (A ∷ []) ∷ [] };
 }

@@ -3,7 +3,7 @@ ghost use Rattle.std.specs.Prelude.{◌≡◌, IfOk, MatchResult, None, Some};
 ghost use Rattle.cells.specs.Refusals.{Reads};
 ghost use Rattle.query.specs.Checks.{fault_of, faults_of, first_of, has_too_many_sets};
 ghost use Rattle.query.specs.Plans.{IsPlanOf, checked};
-ghost use Rattle.query.specs.Values.{AreFilled};
+ghost use Rattle.query.specs.Values.{IsKept};
 
 use crate::counting::set_count;
 use crate::grouped::is_not_grouped;
@@ -19,9 +19,9 @@ use std::alloc::Global;
 /// The plan of the query for the table of the schema. The refusal is the first of these:
 /// [`Refused::Unknown`] where the query is of another table, or some name in its items, its predicate or its elements of
 /// GROUP BY is no column; [`Refused::WrongType`] where SUM is over a TEXT column, or a comparison, BETWEEN or IN puts an
-/// integer beside a text; [`Refused::NotGrouped`] where an item is a column alone, or GROUPING of one, that is in no
-/// grouping set; [`Refused::TooManySets`] where there are more than 256 grouping sets, repeated ones counted. It makes no
-/// set before all of them are looked at. [`Refused::OutOfMemory`] where a growth was refused.
+/// integer beside a text; [`Refused::NotGrouped`] where an item is a column alone that is in no grouping set, or GROUPING
+/// of such a column; [`Refused::TooManySets`] where there are more than 256 grouping sets, repeated ones counted, also those
+/// that DISTINCT drops. It makes no set before all of them are looked at. [`Refused::OutOfMemory`] where a growth was refused.
 pub fn check(alloc: Global, query: Query, schema: &Schema) -> Result<Plan, Refused>
     // The plan of the query exactly where it has no fault, and its first fault where it has one.
     ensures exact { Reads (checked schema.now query) result }
@@ -36,7 +36,7 @@ pub fn check(alloc: Global, query: Query, schema: &Schema) -> Result<Plan, Refus
 /// The query, where it has no fault for the table; else its first fault.
 fn without_fault(query: Query, schema: &Schema) -> Result<Query, Refused>
     ensures first { MatchResult result (λ q. (q ≡ query) × (fault_of schema.now query ≡ None)) (λ e. fault_of schema.now query ≡ Some e) }
-    ensures filled { AreFilled query.elements }
+    ensures kept { IsKept query }
 {
     let fault = Faults::of(&query, schema).first();
     unless(query, fault)

@@ -7,7 +7,7 @@ ghost use Rattle.query.specs.Reading.{AfterAnd, AfterOr, Any, Ends, ReadsPhrase,
 
 use crate::owned::closed;
 use crate::phrases::{
-    after_call, after_mark, after_word, comparison_at, literal, not_mark, operand,
+    after_call, after_mark, after_word, comparison_at, literal, operand, word_mark,
 };
 use crate::predicate::Predicate;
 use crate::test::{Comparison, Literal, Literals, Operand, Test};
@@ -60,7 +60,7 @@ fn null_test(left: Operand<Text>, tokens: &[Token]) -> Result<(Test<Text>, &[Tok
     ensures reads { ReadsPhrase (λ x. (x.0, x.1.now)) (NullAfter left tokens.now) result }
     ensures shorter { IfOk result (λ x. length x.1.now < length tokens.now) }
 {
-    let (negated, more) = not_mark(tokens);
+    let (negated, more) = word_mark(tokens, "NOT");
     let Some(rest) = after_word(more, "NULL") else {
         return Err(Refused::QuerySyntax);
     };
@@ -167,7 +167,7 @@ fn test_after(
     if let Some(more) = after_word(tokens, "IS") {
         return null_test(left, more);
     }
-    let (negated, more) = not_mark(tokens);
+    let (negated, more) = word_mark(tokens, "NOT");
     range_test(alloc, left, negated, more)
 }
 

@@ -1,5 +1,5 @@
 //! Whether the columns of a select list are in the grouping sets. No set is made for it.
-ghost use Rattle.std.specs.Prelude.{◌≡◌, bytes_eq};
+ghost use Rattle.std.specs.Prelude.{◌≡◌, bytes_eq, not};
 ghost use Rattle.std.specs.List.{flat_map, list_any};
 ghost use Rattle.query.specs.Checks.{is_in_some, is_not_grouped, is_ungrouped};
 ghost use Rattle.query.specs.Names.{element_names};
@@ -11,7 +11,7 @@ use crate::item::Item;
 use crate::query::Query;
 use cells::Text;
 
-/// Whether some item is a column alone, or GROUPING of one, that is in no grouping set.
+/// Whether some item is a column alone that is in no grouping set, or GROUPING of such a column.
 pub fn is_not_grouped(query: &Query) -> bool
     ensures { result ≡ is_not_grouped query.now }
 {
@@ -32,15 +32,29 @@ fn has_ungrouped(elements: &[Element], items: &[Item<Text>]) -> bool
     false
 }
 
-/// Whether the item is a column alone, or GROUPING of one, that is in no grouping set of the elements.
+/// Whether the item is a column alone that is in no grouping set of the elements, or GROUPING of such a column.
 fn is_ungrouped(elements: &[Element], item: &Item<Text>) -> bool
     requires { AreFilled elements.now }
     ensures { result ≡ is_ungrouped (grouping_sets elements.now) item.now }
 {
     match item {
-        Item::Column(name) | Item::Grouping(name) => !is_grouped(elements, name),
+        Item::Column(name) => !is_grouped(elements, name),
+        Item::Grouping(names) => has_ungrouped_name(elements, names.as_slice()),
         _ => false,
     }
+}
+
+/// Whether some name is in no grouping set of the elements.
+fn has_ungrouped_name(elements: &[Element], names: &[Text]) -> bool
+    requires { AreFilled elements.now }
+    ensures { result ≡ list_any (λ n. not (is_in_some (grouping_sets elements.now) n)) names.now }
+{
+    for name in names {
+        if !is_grouped(elements, name) {
+            return true;
+        }
+    }
+    false
 }
 
 /// Whether some grouping set of the elements has the name: it has exactly where some element names it.

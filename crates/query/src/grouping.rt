@@ -28,7 +28,7 @@ fn names(alloc: Global, tokens: &[Token]) -> Result<(Vec<Text>, &[Token]), Refus
 }
 
 /// The names up to the `)` behind them, and what follows it.
-fn names_in(alloc: Global, tokens: &[Token]) -> Result<(Vec<Text>, &[Token]), Refused>
+pub fn names_in(alloc: Global, tokens: &[Token]) -> Result<(Vec<Text>, &[Token]), Refused>
     ensures reads { ReadsPhrase (λ x. (x.0.items, x.1.now)) (λ ns r. Separated comma SpellsName tokens.now ns (rparen ∷ r)) result }
     ensures shorter { IfOk result (λ x. length x.1.now < length tokens.now) }
 {

@@ -1,6 +1,6 @@
 //! The texts that a report's header has of the items of a select list.
 ghost use Rattle.std.specs.Prelude.{◌≡◌, ◌++◌, IfOk, codes, map};
-ghost use Rattle.query.specs.Headings.{call, heading};
+ghost use Rattle.query.specs.Headings.{call, heading, listed};
 
 use crate::item::Item;
 use cells::Text;
@@ -23,7 +23,7 @@ fn heading(alloc: Global, item: &Item<Text>) -> Result<Text, AllocError>
 {
     match item {
         Item::Column(name) => name.clone(),
-        Item::Grouping(name) => call(alloc, "GROUPING", "", name),
+        Item::Grouping(names) => grouping_call(alloc, names.as_slice()),
         Item::CountRows => Text::copied(alloc, "COUNT(*)"),
         Item::Count(name) => call(alloc, "COUNT", "", name),
         Item::CountDistinct(name) => call(alloc, "COUNT", "DISTINCT ", name),
@@ -41,6 +41,21 @@ fn call(alloc: Global, function: &str, word: &str, column: &Text) -> Result<Text
     text.push_str("(")?;
     text.push_str(word)?;
     text.push_str(column.as_str())?;
+    text.push_str(")")?;
+    Ok(Text::new(text))
+}
+
+/// GROUPING with its columns in parentheses, a comma and a blank between them.
+fn grouping_call(alloc: Global, names: &[Text]) -> Result<Text, AllocError>
+    ensures { IfOk result (λ text. text ≡ call (codes "GROUPING") (listed names.now)) }
+{
+    let mut text = String::from_str(alloc, "GROUPING(")?;
+    let mut between = "";
+    for name in names {
+        text.push_str(between)?;
+        text.push_str(name.as_str())?;
+        between = ", ";
+    }
     text.push_str(")")?;
     Ok(Text::new(text))
 }

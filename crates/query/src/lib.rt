@@ -29,9 +29,11 @@ mod types;
 
 pub use checking::check;
 pub use element::{Element, ElementForm, Unit};
-pub use item::Item;
+pub use item::{GroupingColumns, Item};
 pub use laws::{a_text_has_one_answer, each_text_has_an_answer, worked_query};
-pub use limits::{MAX_ITEMS, MAX_OPEN_PARENTHESES, MAX_QUERY_BYTES, MAX_SETS};
+pub use limits::{
+    MAX_GROUPING_COLUMNS, MAX_ITEMS, MAX_OPEN_PARENTHESES, MAX_QUERY_BYTES, MAX_SETS,
+};
 pub use plan::Plan;
 pub use plan_laws::{predicates_fit_rows, rows_fit_columns, worked_sets, worked_truths};
 pub use predicate::{Predicate, PredicateForm};

@@ -9,5 +9,8 @@ pub const MAX_OPEN_PARENTHESES: usize = 64;
 /// The most items of a select list.
 pub const MAX_ITEMS: usize = 32;
 
+/// The most columns of a GROUPING.
+pub const MAX_GROUPING_COLUMNS: usize = 16;
+
 /// The most grouping sets of a query, repeated ones counted.
 pub const MAX_SETS: u64 = 256;

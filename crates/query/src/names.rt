@@ -55,8 +55,8 @@ fn is_unknown_item(columns: &[Column], item: &Item<Text>) -> bool
 {
     match item {
         Item::CountRows => false,
+        Item::Grouping(names) => has_unknown_name(columns, names.as_slice()),
         Item::Column(name)
-        | Item::Grouping(name)
         | Item::Count(name)
         | Item::CountDistinct(name)
         | Item::Sum(name)
@@ -172,5 +172,12 @@ fn has_unknown_unit(columns: &[Column], units: &[Unit]) -> bool
 fn is_unknown_unit(columns: &[Column], unit: &Unit) -> bool
     ensures { result ≡ has_unknown columns.now unit.now }
 {
-    unit.names().iter().any(|name| !is_column(columns, name))
+    has_unknown_name(columns, unit.names())
+}
+
+/// Whether some name is that of no column.
+fn has_unknown_name(columns: &[Column], names: &[Text]) -> bool
+    ensures { result ≡ has_unknown columns.now names.now }
+{
+    names.iter().any(|name| !is_column(columns, name))
 }

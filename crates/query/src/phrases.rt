@@ -145,12 +145,12 @@ pub fn comparison_at(tokens: &[Token]) -> Option<(Comparison, &[Token])>
     }
 }
 
-/// Whether the tokens begin with NOT, and what follows it or else the tokens themselves.
-pub fn not_mark(tokens: &[Token]) -> (bool, &[Token])
-    ensures marked { Marked tokens.now result.0 result.1.now }
+/// Whether the tokens begin with the word, and what follows it or else the tokens themselves.
+pub fn word_mark<'a>(tokens: &'a [Token], expected: &str) -> (bool, &'a [Token])
+    ensures marked { Marked (word expected.now) tokens.now result.0 result.1.now }
     ensures no_longer { length result.1.now ≤ length tokens.now }
 {
-    if let Some(rest) = after_word(tokens, "NOT") {
+    if let Some(rest) = after_word(tokens, expected) {
         return (true, rest);
     }
     (false, tokens)

@@ -2,9 +2,10 @@
 ghost use Rattle.std.specs.Prelude.{◌≡◌, IfOk, map, option_map};
 ghost use Rattle.query.specs.Plans.{place_of, placed_item, placed_operand, placed_predicate, placed_test};
 ghost use Rattle.query.specs.PredicateViews.{predicate_tree};
+ghost use Rattle.query.specs.declared.item.Item.TheVariants.{Grouping};
 ghost use Rattle.query.specs.declared.test.Test.TheVariants.{Between, Compare};
 
-use crate::item::Item;
+use crate::item::{GroupingColumns, Item};
 use crate::predicate::{Predicate, PredicateForm};
 use crate::test::{Comparison, Operand, Test};
 use cells::{Column, Text};
@@ -30,26 +31,46 @@ pub fn placed_items(
 ) -> Result<Vec<Item<usize>>, AllocError>
     ensures { IfOk result (λ placed. placed.items ≡ map (placed_item columns.now) items.now) }
 {
-    items
-        .iter()
-        .map(|item| placed_item(columns, item))
-        .collect(alloc)
+    let mut placed = Vec::new(alloc);
+    for item in items {
+        placed.push(placed_item(alloc, columns, item)?)?;
+    }
+    Ok(placed)
 }
 
-/// The item with a place for its name.
-fn placed_item(columns: &[Column], item: &Item<Text>) -> Item<usize>
-    ensures { result ≡ placed_item columns.now item.now }
+/// The item with places for its names.
+fn placed_item(
+    alloc: Global,
+    columns: &[Column],
+    item: &Item<Text>,
+) -> Result<Item<usize>, AllocError>
+    ensures { IfOk result (λ placed. placed ≡ placed_item columns.now item.now) }
 {
     match item {
-        Item::Column(name) => Item::Column(place_of(columns, name)),
-        Item::Grouping(name) => Item::Grouping(place_of(columns, name)),
-        Item::CountRows => Item::CountRows,
-        Item::Count(name) => Item::Count(place_of(columns, name)),
-        Item::CountDistinct(name) => Item::CountDistinct(place_of(columns, name)),
-        Item::Sum(name) => Item::Sum(place_of(columns, name)),
-        Item::Min(name) => Item::Min(place_of(columns, name)),
-        Item::Max(name) => Item::Max(place_of(columns, name)),
+        Item::Column(name) => Ok(Item::Column(place_of(columns, name))),
+        Item::Grouping(names) => placed_grouping(alloc, columns, names.as_slice()),
+        Item::CountRows => Ok(Item::CountRows),
+        Item::Count(name) => Ok(Item::Count(place_of(columns, name))),
+        Item::CountDistinct(name) => Ok(Item::CountDistinct(place_of(columns, name))),
+        Item::Sum(name) => Ok(Item::Sum(place_of(columns, name))),
+        Item::Min(name) => Ok(Item::Min(place_of(columns, name))),
+        Item::Max(name) => Ok(Item::Max(place_of(columns, name))),
     }
+}
+
+/// GROUPING of the columns of the names, by their places.
+fn placed_grouping(
+    alloc: Global,
+    columns: &[Column],
+    names: &[Text],
+) -> Result<Item<usize>, AllocError>
+    ensures { IfOk result (λ placed. placed ≡ Grouping (map (place_of columns.now) names.now)) }
+{
+    let places = names
+        .iter()
+        .map(|name| place_of(columns, name))
+        .collect(alloc)?;
+    Ok(Item::Grouping(GroupingColumns::new(places)))
 }
 
 /// The predicate of WHERE with places for names, where there is one.

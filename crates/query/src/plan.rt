@@ -1,9 +1,11 @@
 //! Plans: what a query means for a table.
-ghost use Rattle.std.specs.Prelude.{◌≡◌, IfOk, map};
+ghost use Rattle.std.specs.Prelude.{◌≡◌, IfOk, false, map};
+ghost use Rattle.std.specs.List.{list_any};
 ghost use Rattle.std.specs.Option.{option_copied};
 ghost use Rattle.query.specs.Headings.{heading};
 ghost use Rattle.query.specs.Plans.{placed_item, plan_of};
-ghost use Rattle.query.specs.Sets.{grouping_sets, places};
+ghost use Rattle.query.specs.Sets.{placed_sets};
+ghost use Rattle.query.specs.Values.{is_long};
 
 use crate::headings::headings;
 use crate::item::Item;
@@ -11,13 +13,14 @@ use crate::owned::beside;
 use crate::places::{placed_condition, placed_items};
 use crate::predicate::Predicate;
 use crate::query::Query;
-use crate::sets::{GroupSet, grouping_sets};
+use crate::sets::{GroupSet, placed_sets};
 use cells::{Column, Schema, Text};
 use std::alloc::{AllocError, Global};
 use std::marker::Model;
 
 /// A query with the places of columns for their names, and with its grouping sets. It is made by
-/// [`check`](crate::check), and may be carried out over rows of the table that it was checked for.
+/// [`check`](crate::check), and may be carried out over rows of the table that it was checked for. No GROUPING in it has more
+/// than [`MAX_GROUPING_COLUMNS`](crate::MAX_GROUPING_COLUMNS).
 #[derive(Drop)]
 pub struct Plan {
     items: Vec<Item<usize>>,
@@ -37,6 +40,12 @@ impl Model for Plan {
     ghost coded = { Prim.hlevel (codes, coded_predicate) };
 
     ghost view = { λ p. record { items = p.items.items; headings = p.headings.items; condition = p.condition; sets = p.sets.items } };
+
+    ghost use Rattle.std.specs.Prelude.{◌≡◌, false};
+    ghost use Rattle.std.specs.List.{list_any};
+    ghost use Rattle.query.specs.Values.{is_long};
+
+    ghost invariant = { λ p. list_any is_long p.items.items ≡ false };
 }
 
 /// What a plan has of a query beside its predicate.
@@ -51,12 +60,13 @@ impl Outline {
     /// The outline of the query, whose names are all of these columns.
     fn of(alloc: Global, columns: &[Column], query: &Query) -> Result<Outline, AllocError>
         ensures items { IfOk result (λ outline. outline.items.items ≡ map (placed_item columns.now) query.now.items) }
+        ensures short { IfOk result (λ outline. list_any is_long outline.items.items ≡ false) }
         ensures headings { IfOk result (λ outline. outline.headings.items ≡ map heading query.now.items) }
-        ensures sets { IfOk result (λ outline. outline.sets.items ≡ map (places columns.now) (grouping_sets query.now.elements)) }
+        ensures sets { IfOk result (λ outline. outline.sets.items ≡ placed_sets columns.now query.now.groups) }
     {
         let items = placed_items(alloc, columns, query.items())?;
         let headings = headings(alloc, query.items())?;
-        let sets = grouping_sets(alloc, columns, query.elements())?;
+        let sets = placed_sets(alloc, columns, query.is_distinct(), query.elements())?;
         Ok(Outline {
             items,
             headings,
@@ -83,7 +93,8 @@ impl Plan {
 
     /// The items of the select list, in the order of the query. It takes no memory.
     pub fn items(&self) -> &[Item<usize>]
-        ensures { result.now ≡ self.now.items }
+        ensures items { result.now ≡ self.now.items }
+        ensures short { list_any is_long self.now.items ≡ false }
     {
         self.items.as_slice()
     }
@@ -102,7 +113,7 @@ impl Plan {
         self.condition.as_ref()
     }
 
-    /// The grouping sets, in order, repeated ones too. It takes no memory.
+    /// The grouping sets, in order, repeated ones too unless DISTINCT was asked for. It takes no memory.
     pub fn sets(&self) -> &[GroupSet]
         ensures { result.now ≡ self.now.sets }
     {

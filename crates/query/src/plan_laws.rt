@@ -5,7 +5,7 @@ ghost use Rattle.cells.specs.Values.{RowValue, Table};
 ghost use Rattle.query.specs.Plans.{IsPlanOf, PlanTree, type_at};
 ghost use Rattle.query.specs.Trees.{Cube, Empty, MoreElements, NoElements, Not, OneUnit, PredicateTree, Rollup, Sets, Holds};
 ghost use Rattle.query.specs.Truth.{IsOver, truth};
-ghost use Rattle.query.specs.Worked.{A, B, C, both, either, fails, holds, of_null, sets_over, unknown};
+ghost use Rattle.query.specs.Worked.{A, B, C, both, different_sets_over, either, fails, holds, of_null, sets_over, unknown};
 ghost use Rattle.query.specs.declared.test.Test.{Test as TestTree};
 
 use crate::item::Item;
@@ -33,6 +33,13 @@ pub fn worked_sets()
     ensures rising { sets_over (OneUnit (C ++ A) ∷ []) ≡ (0 ∷ 2 ∷ []) ∷ [] }
     // No GROUP BY.
     ensures none { sets_over [] ≡ [] ∷ [] }
+    // ROLLUP(A), ROLLUP(A), and the same with DISTINCT
+    ensures repeated { sets_over (Rollup (A ∷ []) ∷ Rollup (A ∷ []) ∷ []) ≡ (0 ∷ []) ∷ (0 ∷ []) ∷ (0 ∷ []) ∷ [] ∷ [] }
+    ensures distinct { different_sets_over (Rollup (A ∷ []) ∷ Rollup (A ∷ []) ∷ []) ≡ (0 ∷ []) ∷ [] ∷ [] }
+    // DISTINCT GROUPING SETS (A, B, ROLLUP(A)): the first of equal sets stays.
+    ensures first { different_sets_over (Sets (MoreElements (OneUnit A) (MoreElements (OneUnit B) (MoreElements (Rollup (A ∷ [])) NoElements))) ∷ []) ≡ (0 ∷ []) ∷ (1 ∷ []) ∷ [] ∷ [] }
+    // DISTINCT GROUPING SETS ((A, A), A, (B, A), (A, B)): sets are equal where their columns are.
+    ensures by_places { different_sets_over (Sets (MoreElements (OneUnit (A ++ A)) (MoreElements (OneUnit A) (MoreElements (OneUnit (B ++ A)) (MoreElements (OneUnit (A ++ B)) NoElements)))) ∷ []) ≡ (0 ∷ []) ∷ (0 ∷ 1 ∷ []) ∷ [] }
 {}
 
 /// The truth of examples over rows of one cell, computed by the definition.

@@ -1,25 +1,67 @@
 //! The syntax tree of a query.
-ghost use Rattle.std.specs.Prelude.{◌≡◌};
+ghost use Rattle.std.specs.Prelude.{◌≡◌, IfOk, false};
+ghost use Rattle.std.specs.List.{list_any};
 ghost use Rattle.std.specs.Option.{option_copied};
-ghost use Rattle.query.specs.Values.{AreFilled, query_tree};
+ghost use Rattle.query.specs.Values.{AreFilled, IsKept, all_rows, is_long};
 
 use crate::element::Element;
 use crate::item::Item;
 use crate::predicate::Predicate;
 use cells::Text;
+use std::alloc::{AllocError, Global};
 use std::marker::Model;
 
-/// A query (ISO/IEC 9075-2:1999, 7.11), its names in upper case. No GROUPING SETS in it is without elements.
+/// GROUP BY of a query.
 #[derive(Drop)]
-pub struct Query {
-    items: Vec<Item<Text>>,
-    table: Text,
-    condition: Option<Predicate<Text>>,
-    elements: Vec<Element>,
+pub(crate) struct Groups {
+    /// Whether DISTINCT stands behind GROUP BY.
+    pub distinct: bool,
+    /// The elements, in the order of the text.
+    pub elements: Vec<Element>,
 }
 
-impl Model for Query {
-    ghost use Rattle.query.specs.Values.{AreFilled, QueryTree, query_tree};
+impl Model for Groups {
+    ghost use Rattle.query.specs.Values.{GroupsTree};
+
+    ghost Value = { GroupsTree };
+
+    ghost use Rattle.query.specs.Codes.{coded_element};
+    ghost use Rattle.std.specs.Coded.{codes};
+
+    ghost coded = { Prim.hlevel (codes, coded_element) };
+
+    ghost view = { λ g. record { distinct = g.distinct; elements = g.elements.items } };
+}
+
+impl Groups {
+    /// What a query without GROUP BY has: the element `()` alone.
+    pub fn all_rows(alloc: Global) -> Result<Groups, AllocError>
+        ensures { IfOk result (λ groups. groups ≡ all_rows) }
+    {
+        let mut elements = Vec::new(alloc);
+        elements.push(Element::empty())?;
+        Ok(Groups {
+            distinct: false,
+            elements,
+        })
+    }
+}
+
+/// The clauses of a query as they were read, before its limits are looked at.
+#[derive(Drop)]
+pub(crate) struct Clauses {
+    /// The items of the select list.
+    pub items: Vec<Item<Text>>,
+    /// The table of FROM.
+    pub table: Text,
+    /// The predicate of WHERE, where there is one.
+    pub condition: Option<Predicate<Text>>,
+    /// GROUP BY.
+    pub groups: Groups,
+}
+
+impl Model for Clauses {
+    ghost use Rattle.query.specs.Values.{QueryTree};
 
     ghost Value = { QueryTree };
 
@@ -28,63 +70,82 @@ impl Model for Query {
 
     ghost coded = { Prim.hlevel (codes, coded_element, coded_predicate) };
 
-    ghost view = { λ q. query_tree q.items.items (q.table, (q.condition, q.elements.items)) };
+    ghost view = { λ q. record { items = q.items.items; table = q.table; condition = q.condition; groups = q.groups } };
+}
 
-    ghost invariant = { λ q. AreFilled q.elements.items };
+/// A query (ISO/IEC 9075-2:1999, 7.11), its names in upper case. No GROUPING SETS in it is without elements, and no
+/// GROUPING has more than [`MAX_GROUPING_COLUMNS`](crate::MAX_GROUPING_COLUMNS).
+#[derive(Drop)]
+pub struct Query {
+    clauses: Clauses,
+}
+
+impl Model for Query {
+    ghost use Rattle.query.specs.Values.{IsKept, QueryTree};
+
+    ghost Value = { QueryTree };
+
+    ghost use Rattle.query.specs.Codes.{coded_element, coded_predicate};
+    ghost use Rattle.std.specs.Coded.{codes};
+
+    ghost coded = { Prim.hlevel (codes, coded_element, coded_predicate) };
+
+    ghost view = { λ q. q.clauses };
+
+    ghost invariant = { λ q. IsKept q.clauses };
 }
 
 impl Query {
-    /// The query of these parts. No GROUPING SETS among the elements may be without elements.
-    pub fn new(
-        items: Vec<Item<Text>>,
-        table: Text,
-        condition: Option<Predicate<Text>>,
-        elements: Vec<Element>,
-    ) -> Query
-        requires { AreFilled elements.items }
-        ensures { result ≡ query_tree items.items (table, (condition, elements.items)) }
+    /// The query of these clauses. No GROUPING SETS in them may be without elements, and no GROUPING may be too long.
+    pub(crate) fn of(clauses: Clauses) -> Query
+        requires { IsKept clauses }
+        ensures { result ≡ clauses }
     {
-        Query {
-            items,
-            table,
-            condition,
-            elements,
-        }
+        Query { clauses }
     }
 
     /// The items of the select list, in the order of the text.
     pub fn items(&self) -> &[Item<Text>]
-        ensures { result.now ≡ self.now.items }
+        ensures items { result.now ≡ self.now.items }
+        ensures short { list_any is_long self.now.items ≡ false }
     {
-        self.items.as_slice()
+        self.clauses.items.as_slice()
     }
 
     /// The table of FROM.
     pub fn table(&self) -> &Text
         ensures { result.now ≡ self.now.table }
     {
-        &self.table
+        &self.clauses.table
     }
 
     /// The predicate of WHERE, where there is one.
     pub fn condition(&self) -> Option<&Predicate<Text>>
         ensures { option_copied result ≡ self.now.condition }
     {
-        self.condition.as_ref()
+        self.clauses.condition.as_ref()
     }
 
     /// The predicate of WHERE out of the query, whose other parts are let go.
     pub(crate) fn into_condition(self) -> Option<Predicate<Text>>
         ensures { result ≡ self.condition }
     {
-        self.condition
+        let clauses = self.clauses;
+        clauses.condition
+    }
+
+    /// Whether DISTINCT stands behind GROUP BY, so that of equal grouping sets the first alone stays.
+    pub fn is_distinct(&self) -> bool
+        ensures { result ≡ self.now.groups.distinct }
+    {
+        self.clauses.groups.distinct
     }
 
     /// The elements of GROUP BY, in the order of the text; `()` alone where there is no GROUP BY.
     pub fn elements(&self) -> &[Element]
-        ensures elements { result.now ≡ self.now.elements }
-        ensures filled { AreFilled self.now.elements }
+        ensures elements { result.now ≡ self.now.groups.elements }
+        ensures filled { AreFilled self.now.groups.elements }
     {
-        self.elements.as_slice()
+        self.clauses.groups.elements.as_slice()
     }
 }

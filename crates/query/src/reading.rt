@@ -1,37 +1,37 @@
 //! Reads a text into a query: its tokens, and then clause by clause.
 ghost use Rattle.std.specs.Bool.{Decides};
-ghost use Rattle.std.specs.Prelude.{◌≡◌, ◌≢◌, ◌<◌, ◌≤◌, ◌⊎◌, ◌∷◌, [], ℕ, List, IfOk, MatchOption, MatchResult, Some, length};
+ghost use Rattle.std.specs.Prelude.{◌≡◌, ◌≢◌, ◌≤◌, ◌⊎◌, ◌∷◌, [], ℕ, List, MatchOption, MatchResult, Some, false, length, true};
+ghost use Rattle.std.specs.List.{list_any};
 ghost use Rattle.cells.specs.Reading.{tokens_of};
 ghost use Rattle.cells.specs.Refusals.{Answers};
 ghost use Rattle.cells.specs.declared.token.Token.{Token};
 ghost use Rattle.query.specs.Grammar.{BY, GROUP, FROM, Separated, SpellsItem, SpellsQuery, WHERE, comma};
-ghost use Rattle.query.specs.Ends.{SpellsEnd, SpellsFrom, SpellsTail, Whole};
-ghost use Rattle.query.specs.Limits.{item_limit, query_limit};
+ghost use Rattle.query.specs.Ends.{SpellsEnd, SpellsFrom, SpellsLast, SpellsTail, Whole};
+ghost use Rattle.query.specs.Limits.{query_limit};
 ghost use Rattle.query.specs.Queries.{FirstFault, IsQuery};
 ghost use Rattle.query.specs.Reading.{ReadsPhrase};
-ghost use Rattle.query.specs.Trees.{Empty};
-ghost use Rattle.query.specs.Values.{QueryTree};
+ghost use Rattle.query.specs.Values.{QueryTree, from_tree, has_too_many, is_long};
 
 use crate::conditions::predicate;
 use crate::depth::is_too_deep;
 use crate::element::Element;
 use crate::grouping::elements;
 use crate::item::Item;
-use crate::limits::{MAX_ITEMS, MAX_QUERY_BYTES};
+use crate::limits::{MAX_GROUPING_COLUMNS, MAX_ITEMS, MAX_QUERY_BYTES};
 use crate::owned::{beside, unless};
-use crate::phrases::{after_word, name};
+use crate::phrases::{after_word, name, word_mark};
 use crate::predicate::Predicate;
-use crate::query::Query;
+use crate::query::{Clauses, Groups, Query};
 use crate::select_list::items;
 use cells::{Refused, Text, Token, tokens_or};
-use std::alloc::{AllocError, Global};
+use std::alloc::Global;
 
 /// The query that the text spells. The refusal is the first fault of the text: [`Refused::Limit`]
 /// where it has more than [`MAX_QUERY_BYTES`], [`Refused::QuerySyntax`] where it is no list of tokens,
 /// [`Refused::Limit`] where more than [`MAX_OPEN_PARENTHESES`](crate::MAX_OPEN_PARENTHESES) are open at some
 /// token (those closed so far are taken from those opened so far), [`Refused::QuerySyntax`] where the tokens
-/// are no query, [`Refused::Limit`] where there are more than [`MAX_ITEMS`]; or [`Refused::OutOfMemory`]
-/// where a growth was refused. Its time is linear in the text's length.
+/// are no query, [`Refused::Limit`] where there are more than [`MAX_ITEMS`], or more than [`MAX_GROUPING_COLUMNS`]
+/// in one GROUPING; or [`Refused::OutOfMemory`] where a growth was refused. Its time is linear in the text's length.
 pub fn read(alloc: Global, text: &str) -> Result<Query, Refused>
     // What is answered is the text's query, or its first fault.
     ensures found { MatchResult result (λ q. IsQuery text.now q) (λ e. (e ≡ Refused.OutOfMemory) ⊎ FirstFault text.now e) }
@@ -45,7 +45,7 @@ pub fn read(alloc: Global, text: &str) -> Result<Query, Refused>
     query_within(alloc, tokens.as_slice())
 }
 
-/// The query that the tokens are, where not too many parentheses are open and there are not too many items.
+/// The query that the tokens are, where not too many parentheses are open and there are not too many items or columns.
 fn query_within(alloc: Global, tokens: &[Token]) -> Result<Query, Refused>
     // It is the answer for each text of these tokens that is not too long.
     ensures { (text : List ℕ) → length text ≤ query_limit → tokens_of text ≡ Some tokens.now → MatchResult result (λ q. IsQuery text q) (λ e. (e ≡ Refused.OutOfMemory) ⊎ FirstFault text e) }
@@ -53,38 +53,64 @@ fn query_within(alloc: Global, tokens: &[Token]) -> Result<Query, Refused>
     if is_too_deep(tokens) {
         return Err(Refused::Limit);
     }
-    let query = query(alloc, tokens)?;
-    with_few_items(query)
+    let clauses = clauses(alloc, tokens)?;
+    let clauses = within_limits(clauses)?;
+    Ok(Query::of(clauses))
 }
 
-/// The query, where it has not too many items.
-fn with_few_items(query: Query) -> Result<Query, Refused>
-    ensures { MatchResult result (λ q. (q ≡ query) × (length q.items ≤ item_limit)) (λ e. (e ≡ Refused.Limit) × (item_limit < length query.items)) }
+/// The clauses, where they have not too many items or columns.
+fn within_limits(clauses: Clauses) -> Result<Clauses, Refused>
+    ensures { MatchResult result (λ q. (q ≡ clauses) × (has_too_many q ≡ false)) (λ e. (e ≡ Refused.Limit) × (has_too_many clauses ≡ true)) }
 {
-    let fault = too_many_items(query.items());
-    unless(query, fault)
+    let fault = limit_fault(&clauses);
+    unless(clauses, fault)
 }
 
-/// The fault of so many items, if they are too many.
-fn too_many_items(items: &[Item<Text>]) -> Option<Refused>
-    ensures { MatchOption result (length items.now ≤ item_limit) (λ e. (e ≡ Refused.Limit) × (item_limit < length items.now)) }
+/// The fault of the clauses, if their items are too many or if one of them is too long.
+fn limit_fault(clauses: &Clauses) -> Option<Refused>
+    ensures { MatchOption result (has_too_many clauses.now ≡ false) (λ e. (e ≡ Refused.Limit) × (has_too_many clauses.now ≡ true)) }
 {
-    if items.len() > MAX_ITEMS {
+    if clauses.items.len() > MAX_ITEMS {
+        return Some(Refused::Limit);
+    }
+    if has_long(clauses.items.as_slice()) {
         return Some(Refused::Limit);
     }
     None
 }
 
-/// The query that the tokens are.
-fn query(alloc: Global, tokens: &[Token]) -> Result<Query, Refused>
+/// Whether one of the items is a GROUPING of too many columns.
+fn has_long(items: &[Item<Text>]) -> bool
+    ensures { result ≡ list_any is_long items.now }
+{
+    items.iter().any(|item| is_long(item))
+}
+
+/// Whether the item is a GROUPING of too many columns.
+fn is_long(item: &Item<Text>) -> bool
+    ensures { result ≡ is_long item.now }
+{
+    match item {
+        Item::Grouping(names) => names.as_slice().len() > MAX_GROUPING_COLUMNS,
+        _ => false,
+    }
+}
+
+/// The clauses that the tokens are.
+fn clauses(alloc: Global, tokens: &[Token]) -> Result<Clauses, Refused>
     ensures { ReadsPhrase (λ q. (q, [])) (Whole SpellsQuery tokens.now) result }
 {
     let Some(more) = after_word(tokens, "SELECT") else {
         return Err(Refused::QuerySyntax);
     };
     let (items, behind) = items_from(alloc, more)?;
-    let (table, condition, elements) = table_and_tail(alloc, behind)?;
-    Ok(Query::new(items, table, condition, elements))
+    let (table, condition, groups) = table_and_tail(alloc, behind)?;
+    Ok(Clauses {
+        items,
+        table,
+        condition,
+        groups,
+    })
 }
 
 /// The items up to the FROM behind them, and what follows it.
@@ -98,56 +124,62 @@ fn items_from(alloc: Global, tokens: &[Token]) -> Result<(Vec<Item<Text>>, &[Tok
     Ok((items, behind))
 }
 
-/// The table's name, the predicate of WHERE, and the elements of GROUP BY.
+/// The table's name, the predicate of WHERE, where there is one, and GROUP BY.
 fn table_and_tail(
     alloc: Global,
     tokens: &[Token],
-) -> Result<(Text, Option<Predicate<Text>>, Vec<Element>), Refused>
-    ensures { ReadsPhrase (λ x. ((x.0, (x.1, x.2.items)), [])) (Whole SpellsFrom tokens.now) result }
+) -> Result<(Text, Option<Predicate<Text>>, Groups), Refused>
+    ensures { ReadsPhrase (λ x. (from_tree x.0 (x.1, x.2), [])) (Whole SpellsFrom tokens.now) result }
 {
     let (table, behind) = name(tokens)?;
-    let (condition, elements) = tail(alloc, behind)?;
-    Ok((table, condition, elements))
+    let (condition, groups) = tail(alloc, behind)?;
+    Ok((table, condition, groups))
 }
 
-/// The predicate of WHERE, where there is one, and the elements of GROUP BY.
-fn tail(alloc: Global, tokens: &[Token]) -> Result<(Option<Predicate<Text>>, Vec<Element>), Refused>
-    ensures { ReadsPhrase (λ x. ((x.0, x.1.items), [])) (Whole SpellsTail tokens.now) result }
+/// The predicate of WHERE, where there is one, and GROUP BY.
+fn tail(alloc: Global, tokens: &[Token]) -> Result<(Option<Predicate<Text>>, Groups), Refused>
+    ensures { ReadsPhrase (λ x. ((x.0, x.1), [])) (Whole SpellsTail tokens.now) result }
 {
     if let Some(more) = after_word(tokens, "WHERE") {
         return where_tail(alloc, more);
     }
-    let elements = groups(alloc, tokens)?;
-    Ok((None, elements))
+    let groups = groups(alloc, tokens)?;
+    Ok((None, groups))
 }
 
-/// The predicate behind WHERE, and the elements of GROUP BY.
-fn where_tail(
-    alloc: Global,
-    tokens: &[Token],
-) -> Result<(Option<Predicate<Text>>, Vec<Element>), Refused>
-    ensures { ReadsPhrase (λ x. ((x.0, x.1.items), [])) (Whole SpellsTail (WHERE ∷ tokens.now)) result }
+/// The predicate behind WHERE, and GROUP BY.
+fn where_tail(alloc: Global, tokens: &[Token]) -> Result<(Option<Predicate<Text>>, Groups), Refused>
+    ensures { ReadsPhrase (λ x. ((x.0, x.1), [])) (Whole SpellsTail (WHERE ∷ tokens.now)) result }
 {
     let (condition, behind) = predicate(alloc, tokens)?;
     beside(groups(alloc, behind), Some(condition))
 }
 
-/// The elements of GROUP BY. Without it, it is as with `GROUP BY ()`.
-fn groups(alloc: Global, tokens: &[Token]) -> Result<Vec<Element>, Refused>
-    ensures { ReadsPhrase (λ v. (v.items, [])) (Whole SpellsEnd tokens.now) result }
+/// GROUP BY, with which the tokens end. Without it, it is as with `GROUP BY ()`.
+fn groups(alloc: Global, tokens: &[Token]) -> Result<Groups, Refused>
+    ensures { ReadsPhrase (λ g. (g, [])) (Whole SpellsEnd tokens.now) result }
 {
     if is_end(tokens) {
-        return Ok(all_rows(alloc)?);
+        return Ok(Groups::all_rows(alloc)?);
     }
     let Some(more) = after_group_by(tokens) else {
         return Err(Refused::QuerySyntax);
     };
-    last_elements(alloc, more)
+    last_groups(alloc, more)
 }
 
-/// The elements behind GROUP BY, with which the tokens end.
+/// What stands behind GROUP BY, with which the tokens end.
+fn last_groups(alloc: Global, tokens: &[Token]) -> Result<Groups, Refused>
+    ensures { ReadsPhrase (λ g. (g, [])) (Whole SpellsEnd (GROUP ∷ BY ∷ tokens.now)) result }
+{
+    let (distinct, more) = word_mark(tokens, "DISTINCT");
+    let elements = last_elements(alloc, more)?;
+    Ok(Groups { distinct, elements })
+}
+
+/// The elements with which the tokens end.
 fn last_elements(alloc: Global, tokens: &[Token]) -> Result<Vec<Element>, Refused>
-    ensures { ReadsPhrase (λ v. (v.items, [])) (Whole SpellsEnd (GROUP ∷ BY ∷ tokens.now)) result }
+    ensures { ReadsPhrase (λ v. (v.items, [])) (Whole SpellsLast tokens.now) result }
 {
     let (elements, rest) = elements(alloc, tokens)?;
     if is_end(rest) {
@@ -162,15 +194,6 @@ fn after_group_by(tokens: &[Token]) -> Option<&[Token]>
 {
     let rest = after_word(tokens, "GROUP")?;
     after_word(rest, "BY")
-}
-
-/// The element `()` alone.
-fn all_rows(alloc: Global) -> Result<Vec<Element>, AllocError>
-    ensures { IfOk result (λ v. v.items ≡ Empty ∷ []) }
-{
-    let mut elements = Vec::new(alloc);
-    elements.push(Element::empty())?;
-    Ok(elements)
 }
 
 /// Whether no token is left.

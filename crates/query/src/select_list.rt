@@ -1,12 +1,13 @@
 //! Reads the items of a select list, up to what follows them.
 ghost use Rattle.std.specs.Prelude.{◌≡◌, ◌<◌, IfOk, length};
 ghost use Rattle.cells.specs.Refusals.{AnswersBy};
-ghost use Rattle.query.specs.Grammar.{Separated, SpellsItem, comma};
+ghost use Rattle.query.specs.Grammar.{GROUPING, Separated, SpellsItem, comma};
 ghost use Rattle.query.specs.Phrases.{call_at, call_of, distinct_at, item_at, named_at, rows_at};
-ghost use Rattle.query.specs.Reading.{Any, Ends, ReadsPhrase, Starts};
+ghost use Rattle.query.specs.Reading.{Any, BeginsNotCall, Ends, ReadsPhrase, Starts};
 
-use crate::item::Item;
-use crate::phrases::after_mark;
+use crate::grouping::names_in;
+use crate::item::{GroupingColumns, Item};
+use crate::phrases::{after_call, after_mark};
 use cells::{Mark, Refused, Text, Token, is_reserved};
 use std::alloc::Global;
 
@@ -18,7 +19,7 @@ pub fn items(alloc: Global, tokens: &[Token]) -> Result<(Vec<Item<Text>>, &[Toke
     let mut found = Vec::new(alloc);
     let mut rest = tokens;
     loop {
-        let (item, behind) = item(rest)?;
+        let (item, behind) = item(alloc, rest)?;
         found.push(item)?;
         let Some(more) = after_mark(behind, Mark::Comma) else {
             return Ok((found, behind));
@@ -28,14 +29,26 @@ pub fn items(alloc: Global, tokens: &[Token]) -> Result<(Vec<Item<Text>>, &[Toke
 }
 
 /// The item at the front by the rule of the grammar, and what follows it.
-fn item(tokens: &[Token]) -> Result<(Item<Text>, &[Token]), Refused>
+fn item(alloc: Global, tokens: &[Token]) -> Result<(Item<Text>, &[Token]), Refused>
     ensures reads { ReadsPhrase (λ x. (x.0, x.1.now)) (Starts SpellsItem Any tokens.now) result }
+    ensures shorter { IfOk result (λ x. length x.1.now < length tokens.now) }
+{
+    if let Some(more) = after_call(tokens, "GROUPING") {
+        let (names, rest) = names_in(alloc, more)?;
+        return Ok((Item::Grouping(GroupingColumns::new(names)), rest));
+    }
+    other_item(tokens)
+}
+
+/// The item at the front, where it is no GROUPING, and what follows it.
+fn other_item(tokens: &[Token]) -> Result<(Item<Text>, &[Token]), Refused>
+    ensures reads { BeginsNotCall GROUPING tokens.now → ReadsPhrase (λ x. (x.0, x.1.now)) (Starts SpellsItem Any tokens.now) result }
     ensures shorter { IfOk result (λ x. length x.1.now < length tokens.now) }
 {
     item_at(tokens)
 }
 
-/// The item at the front, and what follows it.
+/// The item at the front that is no GROUPING, and what follows it.
 #[tactic(auto, unfolding(crate::specs::Phrases::item_at))]
 fn item_at(tokens: &[Token]) -> Result<(Item<Text>, &[Token]), Refused>
     ensures exact { AnswersBy (λ x. (x.0, x.1.now)) Refused.QuerySyntax (item_at tokens.now) result }
@@ -122,12 +135,11 @@ fn named_at<'a>(
     Ok((item, rest))
 }
 
-/// The item that a word with a name in parentheses is.
+/// The aggregate that a word with a name in parentheses is.
 fn call_of(word: &str, name: Text) -> Option<Item<Text>>
     ensures { result ≡ call_of word.now name }
 {
     match word {
-        "GROUPING" => Some(Item::Grouping(name)),
         "COUNT" => Some(Item::Count(name)),
         "SUM" => Some(Item::Sum(name)),
         "MIN" => Some(Item::Min(name)),

@@ -1,8 +1,8 @@
 //! The grouping sets of GROUP BY.
-ghost use Rattle.std.specs.Prelude.{◌≡◌, ◌∷◌, [], IfOk, map};
-ghost use Rattle.std.specs.List.{flat_map};
+ghost use Rattle.std.specs.Prelude.{◌≡◌, ◌∷◌, [], IfOk, bytes_eq, map};
+ghost use Rattle.std.specs.List.{flat_map, list_any};
 ghost use Rattle.query.specs.Marks.{joined, marked_from, marks};
-ghost use Rattle.query.specs.Sets.{cube, grouping_sets, names_column, places, rollup, sets_of};
+ghost use Rattle.query.specs.Sets.{cube, different_sets, grouping_sets, names_column, placed_sets, places, rollup, sets_of};
 
 use crate::element::{Element, ElementForm, Unit};
 use cells::Column;
@@ -37,9 +37,45 @@ impl Model for Marks {
     ghost view = { λ m. m.marks.items };
 }
 
+/// The grouping sets of GROUP BY, in order; with DISTINCT without those that stand earlier in the list, too.
+pub fn placed_sets(
+    alloc: Global,
+    columns: &[Column],
+    distinct: bool,
+    elements: &[Element],
+) -> Result<Vec<GroupSet>, AllocError>
+    ensures { IfOk result (λ sets. sets.items ≡ placed_sets columns.now (record { distinct = distinct; elements = elements.now })) }
+{
+    let sets = grouping_sets(alloc, columns, elements)?;
+    if distinct {
+        return different_sets(alloc, sets);
+    }
+    Ok(sets)
+}
+
+/// The sets without those that stand earlier in the list, too.
+fn different_sets(alloc: Global, sets: Vec<GroupSet>) -> Result<Vec<GroupSet>, AllocError>
+    ensures { IfOk result (λ different. different.items ≡ different_sets sets.items) }
+{
+    let mut different = Vec::new(alloc);
+    for set in sets {
+        if !is_among(different.as_slice(), &set) {
+            different.push(set)?;
+        }
+    }
+    Ok(different)
+}
+
+/// Whether one of the sets has the same columns.
+fn is_among(sets: &[GroupSet], set: &GroupSet) -> bool
+    ensures { result ≡ list_any (bytes_eq set.now) sets.now }
+{
+    sets.iter().any(|other| set.columns == other.columns)
+}
+
 /// The grouping sets that the elements of GROUP BY give, in order: the union of each choice of one set from every
 /// element, the last varying fastest.
-pub fn grouping_sets(
+fn grouping_sets(
     alloc: Global,
     columns: &[Column],
     elements: &[Element],

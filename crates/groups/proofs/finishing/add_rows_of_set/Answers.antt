@@ -15,6 +15,6 @@ returns g c = λ kept stands.
     let made = rows_by c.as_slice.result.now c.items.result.now (lent c.as_slice-2.result.now) in
     IfOk-weaker c.add_rows.result (λ _. c.add_rows.new.rows.items ≡ all made) (λ _. c.add_rows.new.rows.items ≡ all (set_rows items set kept)) (λ _ e. e
     ∙ ap all (ap (λ s. rows_by s c.items.result.now (lent c.as_slice-2.result.now)) (c.as_slice.ensures.value ∙ c.set.view_is)
-    ∙ ap (λ i. rows_by set i (lent c.as_slice-2.result.now)) c.items.ensures ∙ ap (λ l. rows_by set items (lent l)) c.as_slice-2.ensures.value
+    ∙ ap (λ i. rows_by set i (lent c.as_slice-2.result.now)) c.items.ensures.items ∙ ap (λ l. rows_by set items (lent l)) c.as_slice-2.ensures.value
     ∙ rows_are g.H.KeyHash-2.hash_of set items kept c.args.groups.now c.keys_rise.ensures stands (lent c.in_ok-rising.rising.items)
     c.in_ok-rising.ensures.all c.in_ok-rising.ensures.rising)) c.add_rows.ensures

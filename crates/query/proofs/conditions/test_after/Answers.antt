@@ -11,4 +11,4 @@ returns-in-Some-after_word-clause-reads c =
 
 pub returns-clause-reads : goal.returns-clause-reads
 returns-clause-reads c =
-    turn_reads (λ x. (x.0, x.1.now)) c.range_test.result (test_range c.args.left c.args.tokens.now c.in_default.ensures.exact c.in_default-after_word.ensures c.not_mark-negated.result.0 c.not_mark-negated.result.1.now c.not_mark-negated.ensures.marked) c.range_test.ensures.reads
+    turn_reads (λ x. (x.0, x.1.now)) c.range_test.result (test_range c.args.left c.args.tokens.now c.in_default.ensures.exact c.in_default-after_word.ensures c.word_mark-negated.result.0 c.word_mark-negated.result.1.now c.word_mark-negated.ensures.marked) c.range_test.ensures.reads

@@ -1,6 +1,6 @@
 use Rattle.std.proofs.Common.{arith, refl}
 use Rattle.cells.specs.Scanning.{mark_at, number_at, token_at, word_at}
-use Rattle.query.specs.Grammar.{column, compare, cube, greater, group_by, last, literal_operand, name, name_operand, next, number, one, one_factor, one_term, plain, query, sum, tested, where_predicate}
+use Rattle.query.specs.Grammar.{column, compare, cube, greater, group_by, last, literal_operand, name, name_operand, next, number, one, one_factor, one_term, plain, query, sum, tested, where_predicate, without}
 use Rattle.query.proofs.laws.worked_query.Goals as goal
 
 pub returns : goal.returns
@@ -11,6 +11,6 @@ returns c = record {
   query =
       query (next (column refl) (last (sum refl))) (name refl)
       (where_predicate (one_term (one_factor (plain (tested (compare (name_operand (name refl)) greater (literal_operand number)))))))
-      (group_by (last (cube (last (one (name refl))))));
-  few = omega arith;
+      (group_by without (last (cube (last (one (name refl))))));
+  few = refl;
 }

@@ -6,5 +6,5 @@ use Rattle.groups.proofs.folding.Folding.new.Goals as goal
 
 pub returns : goal.returns
 returns g c =
-    folds_none c.args.plan.now _ refl (c.in_ok-aggregations.ensures ∙ ap aggregations_of c.items.ensures)
+    folds_none c.args.plan.now _ refl (c.in_ok-aggregations.ensures ∙ ap aggregations_of c.items.ensures.items)
     (subst (λ sets. AreSources sets c.in_ok-sources.sources.items) c.sets.ensures c.in_ok-sources.ensures)

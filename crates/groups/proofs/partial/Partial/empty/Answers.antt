@@ -12,5 +12,5 @@ loop-set-preserved g c =
     c.as_slice.result.now c.loop-set.tries.items c.push.new.self.items trie c.sets-set-items.ensures c.loop-set-test.true c.set-item.is
     (c.as_slice.ensures.value ∙ c.set.view_is) c.loop-set.invariant
     (start_stands_by hash (aggregations_of plan.items) c.as_slice-in-loop-set.result.now c.as_slice.result.now trie
-    (c.as_slice-in-loop-set.ensures.value ∙ c.in_ok-aggregations.ensures ∙ ap aggregations_of c.items.ensures) c.in_ok-trie.ensures)
+    (c.as_slice-in-loop-set.ensures.value ∙ c.in_ok-aggregations.ensures ∙ ap aggregations_of c.items.ensures.items) c.in_ok-trie.ensures)
     c.in_ok-push.ensures.items

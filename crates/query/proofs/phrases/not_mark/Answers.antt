@@ -1,8 +1,0 @@
-use Rattle.query.proofs.TestsLemmas.{marked, unmarked}
-use Rattle.query.proofs.phrases.not_mark.Goals as goal
-
-pub returns-in-Some-clause-marked : goal.returns-in-Some-clause-marked
-returns-in-Some-clause-marked c = marked c.args.tokens.now c.in-Some.rest.now c.in-Some.ensures
-
-pub returns-clause-marked : goal.returns-clause-marked
-returns-clause-marked c = unmarked c.args.tokens.now c.in_default.ensures
