@@ -24,6 +24,23 @@ class Text:
 
 
 @dataclass
+class OneOf(Text):
+    """One of several texts: any of them is right."""
+
+    texts: tuple = ()
+
+    def __init__(self, texts):
+        super().__init__()
+        self.texts = tuple(as_bytes(text) for text in texts)
+
+    def is_met_by(self, got):
+        return got in self.texts
+
+    def __str__(self):
+        return " or ".join(map(repr, self.texts))
+
+
+@dataclass
 class Case:
     """One start of the program. `files` lie in the folder that it runs in; the name of a folder has None. Its
     standard input is the file of the name `given`, or nothing. `output` and `errors` are what it writes to

@@ -4,7 +4,7 @@ ghost use Rattle.board.specs.Limits.{place_limit, row_limit};
 
 use board::{Keeper, MAX_PLACES, MAX_ROWS, Root, Snapshot, rows_have_the_shape_of_their_keys};
 use cells::{Cell, Plain, Refused, Row, Schema};
-use std::alloc::Global;
+use std::alloc::{AllocError, Global};
 use std::process::Abort;
 use std::sync::Wait;
 use std::test::Fail;
@@ -23,6 +23,12 @@ use Step::*;
 #[derive(Clone, Copy, PartialEq)]
 struct Held(u64, [i64; 4], u64);
 
+/// Puts a row.
+fn put(alloc: Global, keeper: &mut Keeper<Plain>, key: &str, value: &str) -> Result<(), Refused> {
+    let row = Row::read(alloc, &[key.as_bytes(), value.as_bytes()], keeper.schema())?;
+    keeper.put(row)
+}
+
 fn apply(
     rt: &(impl Abort + Wait),
     alloc: Global,
@@ -30,11 +36,7 @@ fn apply(
     step: &Step,
 ) -> Result<(), Refused> {
     match step {
-        Put(key, value) => {
-            let fields = [key.as_bytes(), value.as_bytes()];
-            let row = Row::read(alloc, &fields, keeper.schema())?;
-            keeper.put(row)
-        }
+        Put(key, value) => put(alloc, keeper, key, value),
         Delete(key) => keeper.delete(&Cell::Int(*key)),
         Publish => {
             assert!(rt; keeper.edition() < 100);
@@ -153,24 +155,40 @@ fn greatest_limits() -> (u64, u64)
     (MAX_ROWS, MAX_PLACES)
 }
 
-/// The first snapshot of a keeper of the greatest limits, which has a draft of one row by now.
-fn first_of_the_greatest(
-    rt: &(impl Abort + Wait),
-    alloc: Global,
-) -> Result<Snapshot<Plain>, Refused> {
+/// A snapshot, behind which a row is put.
+fn taken_before(alloc: Global, keeper: &mut Keeper<Plain>) -> Result<Snapshot<Plain>, Refused> {
+    let snapshot = keeper.snapshot()?;
+    put(alloc, keeper, "2", "20")?;
+    Ok(snapshot)
+}
+
+/// The first snapshot of a keeper of the greatest limits, which had a draft of one row at its end.
+fn first_of_the_greatest(alloc: Global) -> Result<Snapshot<Plain>, Refused> {
     let (limit, places) = greatest_limits();
     let mut keeper = keeper_of(alloc, limit, places)?;
-    let first = keeper.snapshot()?;
-    apply(rt, alloc, &mut keeper, &Put("2", "20"))?;
-    Ok(first)
+    let first = taken_before(alloc, &mut keeper);
+    drop(keeper);
+    first
+}
+
+/// Whether it is a snapshot of the table without rows.
+fn is_first(snapshot: &Snapshot<Plain>) -> Result<bool, AllocError> {
+    if snapshot.schema().name() != "T" {
+        return Ok(false);
+    }
+    let root = snapshot.root();
+    if !root.rows().is_empty() {
+        return Ok(false);
+    }
+    Ok(root.shape()?.is_empty())
 }
 
 /// A snapshot stays as it is, with its keeper gone, too.
 #[test]
 fn a_snapshot_stays(rt: HostRuntime) -> Result<(), Fail> {
-    let first = first_of_the_greatest(&rt, rt.alloc())?;
-    assert_eq!(rt; first.schema().name(), "T");
-    assert!(rt; first.root().rows().is_empty());
-    assert!(rt; first.root().shape()?.is_empty());
+    let first = first_of_the_greatest(rt.alloc())?;
+    let stays = is_first(&first);
+    drop(first);
+    assert!(rt; stays?);
     Ok(())
 }

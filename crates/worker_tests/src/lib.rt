@@ -1,9 +1,11 @@
-//! Tests of `crew`, `loader` and `report` by their public items: threads at once, gates, writers, and what a refusal of
-//! memory gives.
+//! Tests of `board`, `crew`, `loader` and `report` by their public items: threads at once, viewers, gates, writers, and what
+//! a refusal of memory gives.
 #![tactic(auto)]
 
 #[cfg(test)]
 mod gates;
+#[cfg(test)]
+mod of_board;
 #[cfg(test)]
 mod of_crew;
 #[cfg(test)]

@@ -41,16 +41,30 @@ fn closed(alloc: Global, deal: Deal, first: Seat, second: Seat) -> Result<Dealt,
     Ok(deal.close(seats))
 }
 
+/// What two seats draw by turns, the first one first.
+fn draw_by_turns(deal: &Deal, first: &mut Seat, second: &mut Seat) -> [Option<u64>; 5]
+    requires { IsSeatOf deal.now first.old × IsSeatOf deal.now second.old }
+    ensures first { IsSeatOf deal.now first.new × (first.new.number ≡ first.old.number) }
+    ensures second { IsSeatOf deal.now second.new × (second.new.number ≡ second.old.number) }
+{
+    [
+        deal.next(first),
+        deal.next(second),
+        deal.next(first),
+        deal.next(second),
+        deal.next(first),
+    ]
+}
+
 #[test]
 fn three_pieces_and_two_seats(rt: HostRuntime) -> Result<(), Fail> {
     let (deal, mut a, mut b) = two_seats(rt.alloc(), 3)?;
-    assert_eq!(rt; (a.number(), b.number()), (0, 1));
-    assert_eq!(rt; deal.next(&mut a), Some(0));
-    assert_eq!(rt; deal.next(&mut b), Some(1));
-    assert_eq!(rt; deal.next(&mut a), Some(2));
-    assert_eq!(rt; deal.next(&mut b), None);
-    assert_eq!(rt; deal.next(&mut a), None);
-    assert_eq!(rt; closed(rt.alloc(), deal, a, b)?, Dealt { drawn: 3 });
+    let numbers = (a.number(), b.number());
+    let drawn = draw_by_turns(&deal, &mut a, &mut b);
+    let dealt = closed(rt.alloc(), deal, a, b)?;
+    assert_eq!(rt; numbers, (0, 1));
+    assert_eq!(rt; drawn, [Some(0), Some(1), Some(2), None, None]);
+    assert_eq!(rt; dealt, Dealt { drawn: 3 });
     Ok(())
 }
 
@@ -58,8 +72,10 @@ fn three_pieces_and_two_seats(rt: HostRuntime) -> Result<(), Fail> {
 fn a_deal_that_is_closed_early(rt: HostRuntime) -> Result<(), Fail> {
     draws_rise();
     let (deal, a, mut b) = two_seats(rt.alloc(), 5)?;
-    assert_eq!(rt; deal.next(&mut b), Some(0));
-    assert_eq!(rt; closed(rt.alloc(), deal, a, b)?, Dealt { drawn: 1 });
+    let drawn = deal.next(&mut b);
+    let dealt = closed(rt.alloc(), deal, a, b)?;
+    assert_eq!(rt; drawn, Some(0));
+    assert_eq!(rt; dealt, Dealt { drawn: 1 });
     Ok(())
 }
 
@@ -74,9 +90,10 @@ fn greatest_limits() -> (u64, u64)
 fn the_greatest_deal(rt: HostRuntime) -> Result<(), Fail> {
     let (pieces, count) = greatest_limits();
     let (deal, seats) = Deal::new(rt.alloc(), pieces, count)?;
-    assert_eq!(rt; seats.len(), 64);
+    let made = seats.len();
     drop(seats);
     drop(deal);
+    assert_eq!(rt; made, 64);
     Ok(())
 }
 

@@ -11,15 +11,23 @@ use std::test::Fail;
 use std::thread::Threads;
 use trie::Trie;
 
-/// The first faulty part and its record, or how many rows there are. Want of memory, or of a thread, is an error.
-fn told(
-    rows: Result<Trie<Cell, Row, Plain>, PartFault>,
-) -> Result<Result<u64, (u64, u64)>, Refused> {
+/// How many rows there are, or the first faulty part and its record.
+type Found = Result<u64, (u64, u64)>;
+
+/// The first faulty part and its record. Want of memory, or of a thread, is an error.
+fn faulty(fault: PartFault) -> Result<Found, Refused> {
+    match fault {
+        PartFault::Bad { part, entry } => Ok(Err((part, entry))),
+        PartFault::OutOfMemory => Err(Refused::OutOfMemory),
+        PartFault::NoWorker => Err(Refused::NoWorker),
+    }
+}
+
+/// What a load found.
+fn told(rows: Result<Trie<Cell, Row, Plain>, PartFault>) -> Result<Found, Refused> {
     match rows {
         Ok(rows) => Ok(Ok(rows.len())),
-        Err(PartFault::Bad { part, entry }) => Ok(Err((part, entry))),
-        Err(PartFault::OutOfMemory) => Err(Refused::OutOfMemory),
-        Err(PartFault::NoWorker) => Err(Refused::NoWorker),
+        Err(fault) => faulty(fault),
     }
 }
 
@@ -30,7 +38,7 @@ fn load_four<G: Gate, R: Abort + Threads + Wait>(
     texts: [&[u8]; 4],
     workers: u64,
     gate: &G,
-) -> Result<Result<u64, (u64, u64)>, Refused> {
+) -> Result<Found, Refused> {
     let [first, second, third, fourth] = texts;
     assert!(*rt; first.len() <= 100);
     assert!(*rt; second.len() <= 100);
@@ -60,18 +68,26 @@ fn four_parts_are_read_and_merged_at_the_same_time(rt: HostRuntime) -> Result<()
     Ok(())
 }
 
+/// Whether four parts, of which the second is this one, are loaded so, and the gate is told of the reading of each and of
+/// the merging of so many.
+fn is_told<R: Abort + Threads + Wait>(
+    rt: &R,
+    alloc: Global,
+    workers: u64,
+    second: &[u8],
+    wanted: Found,
+    halves: u64,
+) -> Result<bool, Refused> {
+    let watch = Watch::new();
+    let found = load_four(rt, alloc, [LOW, second, HIGH, LOW], workers, &watch)?;
+    Ok(found == wanted && watch.reading.get() == 10 && watch.merging.get() == halves)
+}
+
 #[test]
 fn the_gate_is_told_of_each_place_and_half(rt: HostRuntime) -> Result<(), Fail> {
-    for (workers, second, wanted, halves) in [
-        (1, MIDDLE, Ok(4), 4),
-        (4, MIDDLE, Ok(4), 4),
-        (2, BAD, Err((6, 2)), 0),
-    ] {
-        let watch = Watch::new();
-        let found = load_four(&rt, rt.alloc(), [LOW, second, HIGH, LOW], workers, &watch)?;
-        assert_eq!(rt; found, wanted);
-        assert_eq!(rt; (watch.reading.get(), watch.merging.get()), (10, halves));
-    }
+    assert!(rt; is_told(&rt, rt.alloc(), 1, MIDDLE, Ok(4), 4)?);
+    assert!(rt; is_told(&rt, rt.alloc(), 4, MIDDLE, Ok(4), 4)?);
+    assert!(rt; is_told(&rt, rt.alloc(), 2, BAD, Err((6, 2)), 0)?);
     Ok(())
 }
 
@@ -80,7 +96,7 @@ fn rows_of_two<G: Gate, R: Threads + Wait>(
     rt: &R,
     alloc: Global,
     gate: &G,
-) -> Result<Result<u64, (u64, u64)>, Refused> {
+) -> Result<Found, Refused> {
     let schema = Schema::read(alloc, "T (K INT KEY, V INT)")?;
     told(load(rt, alloc, &[(1, LOW), (2, MIDDLE)], &schema, 2, gate))
 }
@@ -103,14 +119,25 @@ fn two_parts_with_or_without_memory(rt: HostRuntime) -> Result<(), Fail> {
     Ok(())
 }
 
+/// What a load of no parts finds.
+fn load_none<R: Threads + Wait>(rt: &R, alloc: Global, schema: &Schema) -> Result<Found, Refused> {
+    told(load(rt, alloc, &[], schema, 64, &Open))
+}
+
+/// Whether a record is read into its row.
+fn is_read(alloc: Global, schema: &Schema) -> Result<bool, Refused> {
+    let row = read_record(alloc, b"1,\"2\"\n", schema)?;
+    Ok(matches!(row.cells(), [Cell::Int(1), Cell::Int(2)]))
+}
+
 /// No parts have no rows, and one record has one.
 #[test]
 fn no_parts_and_one_record(rt: HostRuntime) -> Result<(), Fail> {
-    let alloc = rt.alloc();
-    let schema = Schema::read(alloc, "T (K INT KEY, V INT)")?;
-    let found = told(load(&rt, alloc, &[], &schema, 64, &Open))?;
-    assert_eq!(rt; found, Ok(0));
-    let row = read_record(alloc, b"1,\"2\"\n", &schema)?;
-    assert!(rt; matches!(row.cells(), [Cell::Int(1), Cell::Int(2)]));
+    let schema = Schema::read(rt.alloc(), "T (K INT KEY, V INT)")?;
+    let none = load_none(&rt, rt.alloc(), &schema);
+    let one = is_read(rt.alloc(), &schema);
+    drop(schema);
+    assert_eq!(rt; none?, Ok(0));
+    assert!(rt; one?);
     Ok(())
 }

@@ -56,6 +56,21 @@ const CUTS: [(u8, u64, &[(u64, i64)]); 5] = [
     (MAX_DEPTH, 3, &[(3, 1), (1, 2)]),
 ];
 
+/// Whether the pieces lend so much.
+fn are_lent(
+    rt: &impl Abort,
+    alloc: Global,
+    pieces: &[Piece<Cell, Cell, Plain>],
+    wanted: &[(u64, i64)],
+) -> Result<bool, AllocError> {
+    for (piece, each) in pieces.iter().zip(wanted) {
+        if lent(rt, alloc, piece)? != *each {
+            return Ok(false);
+        }
+    }
+    Ok(pieces.len() == wanted.len())
+}
+
 /// Whether the map is cut so.
 fn is_cut(
     rt: &impl Abort,
@@ -64,12 +79,7 @@ fn is_cut(
     (depth, small, wanted): (u8, u64, &[(u64, i64)]),
 ) -> Result<bool, AllocError> {
     let pieces = map.split(alloc, &Cutting { depth, small })?;
-    for (piece, each) in pieces.iter().zip(wanted) {
-        if lent(rt, alloc, piece)? != *each {
-            return Ok(false);
-        }
-    }
-    Ok(pieces.len() == wanted.len())
+    are_lent(rt, alloc, pieces.as_slice(), wanted)
 }
 
 /// A whole map lends its entries, too.

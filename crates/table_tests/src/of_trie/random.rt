@@ -84,6 +84,26 @@ fn after(
     Ok(now)
 }
 
+/// Puts all pairs of a model into another.
+fn lay_over(model: &mut Model, later: &Model) -> Result<(), AllocError> {
+    for (key, value) in later {
+        model.insert(*key, *value)?;
+    }
+    Ok(())
+}
+
+/// Whether the maps together hold what the model does.
+fn hold_together(
+    rt: &impl Abort,
+    alloc: Global,
+    first: &Map,
+    second: &Map,
+    model: &Model,
+) -> Result<bool, AllocError> {
+    let (map, _) = merged(rt, alloc, first, second)?;
+    Ok(agree(&map, model))
+}
+
 /// Whether the maps together hold what their models do: the second's values stand.
 fn merge_well(
     rt: &impl Abort,
@@ -91,12 +111,9 @@ fn merge_well(
     first: &Version,
     second: &Version,
 ) -> Result<bool, AllocError> {
-    let (map, _) = merged(rt, alloc, &first.map, &second.map)?;
     let mut model = first.model.clone()?;
-    for (key, value) in &second.model {
-        model.insert(*key, *value)?;
-    }
-    Ok(agree(&map, &model))
+    lay_over(&mut model, &second.model)?;
+    hold_together(rt, alloc, &first.map, &second.map, &model)
 }
 
 /// Versions of one map, one behind another.
