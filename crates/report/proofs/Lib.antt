@@ -1,4 +1,6 @@
+pub mod CrossingLemmas
 pub mod PiecesLemmas
 pub mod TableRowsLemmas
 pub mod WaitingLemmas
+pub mod WatchingLemmas
 pub mod WritingLemmas

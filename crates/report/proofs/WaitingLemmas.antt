@@ -2,6 +2,7 @@
 use Rattle.std.proofs.Common.{◌≡◌, ℕ, List, [], ◌∷◌, ◌++◌, Option, Result, Ok, Err, refl, sym, ap, ◌∙◌, subst, append_assoc}
 use Rattle.std.proofs.lemmas.List.{append-nil}
 use Rattle.std.proofs.lemmas.Result.{on_err_weaker, on_ok_weaker}
+use Rattle.std.proofs.KnownBytes.{Appends-trans}
 use Rattle.std.specs.Io.KnownBytes.{Appends}
 use Rattle.std.specs.Prelude.{IsErr, OnErr, OnOk}
 use Rattle.board.specs.Editions.{Edition}
@@ -9,7 +10,7 @@ use Rattle.cells.specs.declared.refused.Refused.{Refused}
 use Rattle.query.specs.Plans.{PlanTree}
 use Rattle.report.specs.Laws.{takes_beginning, takes_last, takes_more, takes_start, takes_whole}
 use Rattle.report.specs.Taken.{TakesBeginning, TakesUpTo}
-use Rattle.report.specs.Waiting.{Awaits, Comes, GoesOn, HasAnswer, TakesFront, UnderWay, Waits, report_first, text_alone}
+use Rattle.report.specs.Waiting.{Awaits, Comes, GoesOn, HasAnswer, Heads, IsReportText, TakesFront, UnderWay, Waits, report_first, text_alone}
 
 pub always_on_err : {T E P : Type 0} (r : Result T E) → P → OnErr r P
 always_on_err (Ok x) p = tt
@@ -29,6 +30,18 @@ module _ (a b : Option (List ℕ)) (first rest : List ℕ) where
 -- the first, and a beginning of the other
 pub begins_second : (a b c : Option (List ℕ)) (first rest : List ℕ) → Appends a b first → TakesBeginning b c rest → TakesBeginning a c (first ++ rest)
 begins_second a b c first rest p q = takes_last a b c (first ++ rest) rest (takes_first a b first rest p) q
+
+-- a heading and then the answer of a plan, of which there is one
+module _ (a b c : Option (List ℕ)) (heading answer : List ℕ) (edition : Edition) (plan : PlanTree) (text : List ℕ) (heads : Heads heading edition plan text) where
+  pub begins_heading : TakesBeginning a b heading → TakesBeginning a b text
+  begins_heading p = rw heads.joined (begins_first a b heading heads.answer p)
+
+  module _ {T : Type 0} (r : Result T Refused) (is : IsReportText edition.rows plan answer) (first : Appends a b heading) where
+    pub writes_heads : OnOk r (Appends b c answer) → OnOk r (Appends a c text)
+    writes_heads = on_ok_weaker r (λ second. rw heads.joined (Appends-trans a b c heading heads.answer first (subst (Appends b c) (heads.has answer is) second)))
+
+    pub begins_heads : OnErr r (TakesBeginning b c answer) → OnErr r (TakesBeginning a c text)
+    begins_heads = on_err_weaker r (λ late. rw heads.joined (begins_second a b c heading heads.answer first (subst (TakesBeginning b c) (heads.has answer is) late)))
 
 -- what was taken of a text, with more behind it
 pub takes_with : (a b : Option (List ℕ)) (whole rest more : List ℕ) → TakesUpTo a b whole rest → TakesUpTo a b (whole ++ more) (rest ++ more)

@@ -1,3 +1,4 @@
+pub mod Audiences
 pub mod Laws
 pub mod Limits
 pub mod Pieces
@@ -5,3 +6,4 @@ pub mod Reports
 pub mod Taken
 pub mod Tapes
 pub mod Waiting
+pub mod Watching

@@ -1,5 +1,6 @@
 -- Text that waits to be written behind reports that are under way.
-use Rattle.std.specs.Prelude.{◌≡◌, ◌⊎◌, ℕ, List, [], ◌∷◌, ◌++◌, Option, Result, OnErr, OnOk}
+use Rattle.std.specs.Prelude.{◌≡◌, ◌<◌, ◌⊎◌, ℕ, List, [], ◌∷◌, ◌++◌, Option, Result, IfErr, IsErrOf, OnErr, OnOk}
+use Rattle.std.specs.Io.KnownBytes.{Appends}
 use Rattle.board.specs.Editions.{Edition}
 use Rattle.cells.specs.Tables.{Rows, table}
 use Rattle.cells.specs.Updates.{AreLeft}
@@ -53,6 +54,20 @@ pub data Comes (after : List ℕ) : List UnderWay → List ℕ → Type 0 where
 abbrev pub Awaits : Waits → List ℕ → Type 0
 Awaits waits text = Comes waits.after waits.reports text
 
+-- the text is a heading, and then the one answer of the plan on the edition
+pub record Heads (heading : List ℕ) (edition : Edition) (plan : PlanTree) (text : List ℕ) : Type 0 where
+  pub answer : List ℕ
+  pub has : HasAnswer edition plan answer
+  pub joined : text ≡ heading ++ answer
+
+-- the text is what waits, and then more that is so
+pub record AwaitsThen (waits : Waits) (IsMore : List ℕ → Type 0) (text : List ℕ) : Type 0 where
+  pub waiting : List ℕ
+  pub more : List ℕ
+  pub awaits : Awaits waits waiting
+  pub is_more : IsMore more
+  pub joined : text ≡ waiting ++ more
+
 -- the writer took the text up to what waits of it
 pub record TakesFront (old new : Option (List ℕ)) (waits : Waits) (text : List ℕ) : Type 0 where
   pub rest : List ℕ
@@ -63,3 +78,19 @@ pub record TakesFront (old new : Option (List ℕ)) (waits : Waits) (text : List
 pub record GoesOn {T : Type 0} (old new : Option (List ℕ)) (waits : Waits) (text : List ℕ) (result : Result T Refused) : Type 0 where
   pub front : OnOk result (TakesFront old new waits text)
   pub beginning : OnErr result (TakesBeginning old new text)
+
+-- The call goes on with each text that is so, and has no fault more at Ok; it ends early for want of memory or of a worker, or where the
+-- writer failed in the call. `taken` and `faults` are what a writer tells, `old` and `new` the writer before and after.
+pub record WritesOn {W T : Type 0} (taken : W → Option (List ℕ)) (faults : W → ℕ) (old new : W) (waits : Waits) (Is : List ℕ → Type 0) (result : Result T Refused) : Type 0 where
+  pub written : (text : List ℕ) → Is text → GoesOn (taken old) (taken new) waits text result
+  pub sound : OnOk result (faults new ≡ faults old)
+  pub refused : IfErr result IsLate
+  pub fault : IsErrOf result WriteFailed → faults old < faults new
+
+-- the same, where it writes all of the text
+pub record WritesAll {W T : Type 0} (taken : W → Option (List ℕ)) (faults : W → ℕ) (old new : W) (Is : List ℕ → Type 0) (result : Result T Refused) : Type 0 where
+  pub written : (text : List ℕ) → Is text → OnOk result (Appends (taken old) (taken new) text)
+  pub beginning : (text : List ℕ) → Is text → OnErr result (TakesBeginning (taken old) (taken new) text)
+  pub sound : OnOk result (faults new ≡ faults old)
+  pub refused : IfErr result IsLate
+  pub fault : IsErrOf result WriteFailed → faults old < faults new

@@ -4,7 +4,7 @@ ghost use Rattle.std.specs.Io.KnownBytes.{Appends};
 ghost use Rattle.query.specs.Plans.{IsPlanOf};
 ghost use Rattle.report.specs.Limits.{under_way_limit, worker_limit};
 ghost use Rattle.report.specs.Taken.{TakesBeginning};
-ghost use Rattle.report.specs.Waiting.{Awaits, GoesOn, HasAnswer, IsLate, IsUnmade};
+ghost use Rattle.report.specs.Waiting.{Awaits, AwaitsThen, Heads, IsUnmade, WritesAll, WritesOn};
 
 use crate::limits::MAX_REPORTS;
 use crate::out::{Out, write_whole};
@@ -100,10 +100,7 @@ impl<H: KeyHash<Cell>> Backlog<H> {
         requires some { 0 < length self.old.reports }
         requires faults { O.faults out.old + 1 < 2 ^ 64 }
         ensures fewer { length self.new.reports + 1 ≡ length self.old.reports }
-        ensures written { (text : List ℕ) → Awaits self.old text → GoesOn (O.taken out.old) (O.taken out.new) self.new text result }
-        ensures sound { OnOk result (O.faults out.new ≡ O.faults out.old) }
-        ensures refused { IfErr result IsLate }
-        ensures fault { IsErrOf result Refused.WriteFailed → O.faults out.old < O.faults out.new }
+        ensures goes_on { WritesOn O.taken O.faults out.old out.new self.new (Awaits self.old) result }
     {
         let Some(oldest) = self.reports.pop_front() else {
             unreachable!();
@@ -116,10 +113,7 @@ impl<H: KeyHash<Cell>> Backlog<H> {
         requires { O.faults out.old + 1 < 2 ^ 64 }
         ensures room { OnOk result (length self.new.reports < under_way_limit) }
         ensures early { length self.old.reports < under_way_limit → self.new ≡ self.old }
-        ensures written { (text : List ℕ) → Awaits self.old text → GoesOn (O.taken out.old) (O.taken out.new) self.new text result }
-        ensures sound { OnOk result (O.faults out.new ≡ O.faults out.old) }
-        ensures refused { IfErr result IsLate }
-        ensures fault { IsErrOf result Refused.WriteFailed → O.faults out.old < O.faults out.new }
+        ensures goes_on { WritesOn O.taken O.faults out.old out.new self.new (Awaits self.old) result }
     {
         if self.len() < MAX_REPORTS {
             return Ok(());
@@ -149,12 +143,10 @@ impl<H: KeyHash<Cell>> Backlog<H> {
     /// [`Refused::OutOfMemory`] where there is no room for the text, [`Refused::WriteFailed`] where the writer failed.
     pub fn say<O: Out>(&mut self, out: &mut O, text: &[u8]) -> Result<(), Refused>
         requires { O.faults out.old + 1 < 2 ^ 64 }
-        ensures written { (waiting : List ℕ) → Awaits self.old waiting → GoesOn (O.taken out.old) (O.taken out.new) self.new (waiting ++ text.now) result }
+        ensures goes_on { WritesOn O.taken O.faults out.old out.new self.new (AwaitsThen self.old (λ more. text.now ≡ more)) result }
         ensures at_once { self.old.reports ≡ [] → OnOk result (self.new.after ≡ []) }
-        ensures sound { OnOk result (O.faults out.new ≡ O.faults out.old) }
         ensures reports { length self.new.reports ≡ length self.old.reports }
         ensures refused { IfErr result (λ e. (e ≡ Refused.OutOfMemory) ⊎ (e ≡ Refused.WriteFailed)) }
-        ensures fault { IsErrOf result Refused.WriteFailed → O.faults out.old < O.faults out.new }
     {
         self.push_text(text)?;
         if self.len() > 0 {
@@ -182,11 +174,7 @@ impl<H: KeyHash<Cell>> Backlog<H> {
         requires planned { IsPlanOf snapshot.schema plan }
         requires workers { 1 ≤ starter.now.workers × (starter.now.workers ≤ worker_limit) }
         requires faults { O.faults out.old + 1 < 2 ^ 64 }
-        ensures written { (waiting answer : List ℕ) → Awaits self.old waiting → HasAnswer snapshot plan answer
-            → GoesOn (O.taken out.old) (O.taken out.new) self.new (waiting ++ (heading.now ++ answer)) result }
-        ensures sound { OnOk result (O.faults out.new ≡ O.faults out.old) }
-        ensures refused { IfErr result IsLate }
-        ensures fault { IsErrOf result Refused.WriteFailed → O.faults out.old < O.faults out.new }
+        ensures { WritesOn O.taken O.faults out.old out.new self.new (AwaitsThen self.old (Heads heading.now snapshot plan)) result }
     {
         self.make_room(starter.rt, out)?;
         self.push_text(heading)?;
@@ -201,12 +189,8 @@ impl<H: KeyHash<Cell>> Backlog<H> {
     /// writer failed: then later reports may still be under way.
     pub fn finish<O: Out, R: Threads>(&mut self, rt: &R, out: &mut O) -> Result<(), Refused>
         requires { O.faults out.old + 1 < 2 ^ 64 }
-        ensures written { (text : List ℕ) → Awaits self.old text → OnOk result (Appends (O.taken out.old) (O.taken out.new) text) }
-        ensures beginning { (text : List ℕ) → Awaits self.old text → OnErr result (TakesBeginning (O.taken out.old) (O.taken out.new) text) }
-        ensures sound { OnOk result (O.faults out.new ≡ O.faults out.old) }
-        ensures refused { IfErr result IsLate }
+        ensures whole { WritesAll O.taken O.faults out.old out.new (Awaits self.old) result }
         ensures worker { IsErrOf result Refused.NoWorker → 0 < length self.old.reports }
-        ensures fault { IsErrOf result Refused.WriteFailed → O.faults out.old < O.faults out.new }
     {
         while self.len() > 0 {
             self.write_oldest(rt, out)?;
@@ -226,14 +210,8 @@ impl<H: KeyHash<Cell>> Pending<H> {
     /// Waits for the report, and then writes what waits with it and its answer.
     fn write<O: Out, R: Threads>(self, rt: &R, out: &mut O) -> Result<(), Refused>
         requires { O.faults out.old + 1 < 2 ^ 64 }
-        ensures written { (text : List ℕ) → HasAnswer self.answer.promise.edition.value self.answer.promise.plan.value text
-            → OnOk result (Appends (O.taken out.old) (O.taken out.new) (self.before.items ++ text)) }
-        ensures beginning { (text : List ℕ) → HasAnswer self.answer.promise.edition.value self.answer.promise.plan.value text
-            → OnErr result (TakesBeginning (O.taken out.old) (O.taken out.new) (self.before.items ++ text)) }
-        ensures sound { OnOk result (O.faults out.new ≡ O.faults out.old) }
+        ensures whole { WritesAll O.taken O.faults out.old out.new (Heads self.before.items self.answer.promise.edition.value self.answer.promise.plan.value) result }
         ensures waited { IfErr result (λ e. (e ≡ Refused.WriteFailed) ⊎ (IsUnmade e × (O.taken out.new ≡ O.taken out.old))) }
-        ensures refused { IfErr result IsLate }
-        ensures fault { IsErrOf result Refused.WriteFailed → O.faults out.old < O.faults out.new }
     {
         let Pending { before, answer } = self;
         let answer = answer.join(rt)?;

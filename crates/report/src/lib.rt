@@ -3,6 +3,7 @@
 #![tactic(auto)]
 
 mod answering;
+mod audience;
 mod backlog;
 mod limits;
 mod out;
@@ -10,8 +11,10 @@ mod pour;
 mod printing;
 mod starting;
 mod tape;
+mod watching;
 
 pub use answering::answer;
+pub use audience::Audience;
 pub use backlog::Backlog;
 pub use limits::{MAX_REPORTS, MAX_WORKERS};
 pub use out::{Out, OutFault, write_whole};
@@ -19,3 +22,4 @@ pub use pour::Pour;
 pub use printing::text;
 pub use starting::Starter;
 pub use tape::Tape;
+pub use watching::{Answering, Shot, Watcher};

@@ -7,19 +7,34 @@ use Rattle.report.specs.Laws.{takes_nothing}
 use Rattle.report.specs.Taken.{TakesBeginning}
 use Rattle.report.proofs.backlog.Backlog.say.Goals as goal
 
-pub returns-in_err-push_text-clause-written : goal.returns-in_err-push_text-clause-written
-returns-in_err-push_text-clause-written g c = λ waiting awaits. stops _ _ _ _ c.from_residual.result c.from_residual.ensures.0 (takes_nothing _ _)
+pub returns-in_err-push_text-clause-goes_on : goal.returns-in_err-push_text-clause-goes_on
+returns-in_err-push_text-clause-goes_on g c = record {
+  written = λ text p. stops _ _ _ _ c.from_residual.result c.from_residual.ensures.0 (takes_nothing _ _);
+  sound = search rules;
+  refused = search rules;
+  fault = search rules;
+}
 
-pub returns-then-len-gt0-clause-written : goal.returns-then-len-gt0-clause-written
-returns-then-len-gt0-clause-written g c = λ waiting awaits.
-    waits_all _ _ _ _ (awaits_text c.args.self.now c.push_text.new.self waiting c.args.text.now c.in_ok-push_text.ensures.reports c.in_ok-push_text.ensures.after awaits)
+pub returns-then-len-gt0-clause-goes_on : goal.returns-then-len-gt0-clause-goes_on
+returns-then-len-gt0-clause-goes_on g c = record {
+  written = λ text p. rw (p.joined, ← p.is_more)
+      (waits_all _ _ _ _ (awaits_text c.args.self.now c.push_text.new.self p.waiting c.args.text.now c.in_ok-push_text.ensures.reports c.in_ok-push_text.ensures.after p.awaits));
+  sound = search rules;
+  refused = search rules;
+  fault = search rules;
+}
 
-pub returns-clause-written : goal.returns-clause-written
-returns-clause-written g c = λ waiting awaits.
-    let longer = awaits_text c.args.self.now c.push_text.new.self waiting c.args.text.now c.in_ok-push_text.ensures.reports c.in_ok-push_text.ensures.after awaits in
-    let none : c.push_text.new.self.reports ≡ [] = search rules in
-    let all = awaits_only_text c.push_text.new.self _ none longer in
-    goes_whole _ _ c.write_after.new.self _ c.write_after.result
-    (subst (λ text. OnOk c.write_after.result (Appends (g.O.Out.taken c.args.out.now) (g.O.Out.taken c.write_after.new.out) text)) (sym all) c.write_after.ensures.written)
-    (subst (λ text. OnErr c.write_after.result (TakesBeginning (g.O.Out.taken c.args.out.now) (g.O.Out.taken c.write_after.new.out) text)) (sym all) c.write_after.ensures.beginning)
-    (on_ok_weaker c.write_after.result (awaits_nothing c.write_after.new.self c.write_after.ensures.idle) c.write_after.ensures.nothing)
+pub returns-clause-goes_on : goal.returns-clause-goes_on
+returns-clause-goes_on g c = record {
+  written = λ text p.
+      let longer = awaits_text c.args.self.now c.push_text.new.self p.waiting c.args.text.now c.in_ok-push_text.ensures.reports c.in_ok-push_text.ensures.after p.awaits in
+      let none : c.push_text.new.self.reports ≡ [] = search rules in
+      let all = awaits_only_text c.push_text.new.self _ none longer in
+      rw (p.joined, ← p.is_more) (goes_whole _ _ c.write_after.new.self _ c.write_after.result
+      (subst (λ said. OnOk c.write_after.result (Appends (g.O.Out.taken c.args.out.now) (g.O.Out.taken c.write_after.new.out) said)) (sym all) c.write_after.ensures.written)
+      (subst (λ said. OnErr c.write_after.result (TakesBeginning (g.O.Out.taken c.args.out.now) (g.O.Out.taken c.write_after.new.out) said)) (sym all) c.write_after.ensures.beginning)
+      (on_ok_weaker c.write_after.result (awaits_nothing c.write_after.new.self c.write_after.ensures.idle) c.write_after.ensures.nothing));
+  sound = search rules;
+  refused = search rules;
+  fault = search rules;
+}

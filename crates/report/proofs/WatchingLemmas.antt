@@ -1,0 +1,148 @@
+-- What viewers have reported, while what they know grows.
+use Rattle.std.proofs.Common.{◌≡◌, ℕ, zero, suc, ◌+◌, ◌<◌, ◌≤◌, true, false, Option, Some, Result, Ok, Err, List, [], ◌∷◌, ◌++◌, inl, inr, length, map, get_or, refl, sym, ap, subst, ◌∙◌, arith, length-append}
+use mathlib.Core.List.{IsPrefix}
+use Rattle.std.proofs.Math.Seq.{get_or-append_seam}
+use Rattle.std.proofs.lemmas.Bool.{cases_Bool}
+use Rattle.std.proofs.lemmas.Bool.Decides.{nat_tests}
+use Rattle.std.proofs.lemmas.List.{append-nil, get_or_append_left}
+use Rattle.std.proofs.lemmas.Option.{get_or_from_slice_get, slice_get-get_or, slice_get_within}
+use Rattle.std.specs.List.{slice_get}
+use Rattle.std.specs.Prelude.{IfOk, nat_lt}
+use Rattle.board.specs.Editions.{Edition, Editions, History, IsLastOf, Known, Learns, Looks, Note, last_rows}
+use Rattle.board.specs.Editions as keeper
+use Rattle.cells.specs.Tables.{Rows}
+use Rattle.cells.specs.declared.refused.Refused.{Refused}
+use Rattle.query.specs.Plans.{PlanTree}
+use Rattle.report.specs.Waiting.{IsReportText}
+use Rattle.report.specs.Watching.{AreShots, GoUpTo, IsLastEdition, IsShot, Sight, Watching, at_last, before_last, no_shot, shot_first, up_to}
+
+module _ {A : Type 0} where
+  prefix_length : (xs ys : List A) → IsPrefix xs ys → length xs ≤ length ys
+  prefix_length xs ys a = let e : length (xs ++ a.0) ≡ length ys = ap length a.1 in omega (arith, e, length-append xs a.0)
+
+  at_append : (xs ys : List A) (k : ℕ) (x : A) → slice_get xs k ≡ Some x → slice_get (xs ++ ys) k ≡ Some x
+  at_append xs ys k x e =
+      let within = slice_get_within xs k x e in
+      slice_get-get_or (xs ++ ys) k x (omega (arith, within, length-append xs ys)) ∙ ap Some (get_or_append_left xs ys x k within ∙ get_or_from_slice_get xs k x x e)
+
+  -- what stands at a place of a beginning stands there
+  at_longer : (xs ys : List A) (k : ℕ) (x : A) → IsPrefix xs ys → slice_get xs k ≡ Some x → slice_get ys k ≡ Some x
+  at_longer xs ys k x a e = subst (λ (w : List A). slice_get w k ≡ Some x) a.1 (at_append xs a.0 k x e)
+
+  at_shorter : (xs ys : List A) (k : ℕ) (x : A) → IsPrefix xs ys → k < length xs → slice_get ys k ≡ Some x → slice_get xs k ≡ Some x
+  at_shorter xs ys k x a within e =
+      slice_get-get_or xs k x within ∙ ap Some (sym (get_or_append_left xs a.0 x k within) ∙ ap (λ (w : List A). get_or w k x) a.1 ∙ get_or_from_slice_get ys k x x e)
+
+  -- a beginning as long as the whole is the whole
+  prefix_whole : (xs ys : List A) → IsPrefix xs ys → length ys ≤ length xs → xs ≡ ys
+  prefix_whole xs ys (zs, e) short = whole zs e where
+    whole : (zs : List A) → xs ++ zs ≡ ys → xs ≡ ys
+    whole [] e = sym (append-nil xs) ∙ e
+    whole (z ∷ zs) e = absurd (let n : length (xs ++ z ∷ zs) ≡ length ys = ap length e in omega (arith, n, length-append xs (z ∷ zs), short))
+
+last_or : (h : History) (k : ℕ) (d : Rows) → length h ≡ k + 1 → get_or h k d ≡ last_rows h
+last_or [] k d e = absurd (omega arith)
+last_or (x ∷ []) zero d e = refl
+last_or (x ∷ []) (suc k) d e = absurd (omega arith)
+last_or (x ∷ y ∷ ys) zero d e = absurd (omega arith)
+last_or (x ∷ y ∷ ys) (suc k) d e = last_or (y ∷ ys) k d (omega arith)
+
+-- a report on the last edition of the history
+pub shot_on_last : (h : History) (plan : PlanTree) (shot : Sight) (number : ℕ) (rows : Rows) → IsLastOf h number rows → shot.edition ≡ number → IsReportText rows plan shot.text → IsShot h plan shot
+shot_on_last h plan shot number rows last same is = record {
+  rows = rows;
+  at = slice_get-get_or h shot.edition rows (omega (arith, last.long, same)) ∙ ap Some (last_or h shot.edition rows (omega (arith, last.long, same)) ∙ sym last.is);
+  is = is;
+}
+
+shot_longer : (h more : History) (plan : PlanTree) (shot : Sight) → IsPrefix h more → IsShot h plan shot → IsShot more plan shot
+shot_longer h more plan shot begins is = record { rows = is.rows; at = at_longer h more shot.edition is.rows begins is.at; is = is.is }
+
+shot_shorter : (h more : History) (plan : PlanTree) (shot : Sight) → IsPrefix h more → shot.edition < length h → IsShot more plan shot → IsShot h plan shot
+shot_shorter h more plan shot begins within is = record { rows = is.rows; at = at_shorter h more shot.edition is.rows begins within is.at; is = is.is }
+
+-- a report more, on the last edition of a longer history
+pub shots_more : {h : History} {plan : PlanTree} {least : ℕ} {shots : List Sight} (more : History) (shot : Sight) → IsPrefix h more → length more ≡ shot.edition + 1 → least ≤ shot.edition →
+    IsShot more plan shot → AreShots h plan least shots → AreShots more plan least (shots ++ shot ∷ [])
+shots_more more shot begins long low new no_shot = shot_first low new no_shot
+shots_more {h = h} {plan = plan} more shot begins long low new (shot_first {shot = first} higher is rest) =
+    let within = slice_get_within h first.edition is.rows is.at in
+    shot_first higher (shot_longer h more plan first begins is)
+    (shots_more more shot begins long (omega (arith, within, prefix_length h more begins, long)) new rest)
+
+shots_lower : {h : History} {plan : PlanTree} {least : ℕ} {shots : List Sight} (lower : ℕ) → lower ≤ least → AreShots h plan least shots → AreShots h plan lower shots
+shots_lower lower le no_shot = no_shot
+shots_lower lower le (shot_first higher is rest) = shot_first (omega (arith, le, higher)) is rest
+
+behind_is : (m n : ℕ) → nat_lt m n ≡ false → n ≤ m
+behind_is m n e = grind (arith, nat_tests)
+
+-- the reports up to the last edition of a beginning of the history, and then one on that edition
+pub goes_up_to : {more : History} {plan : PlanTree} {least : ℕ} (shots : List Sight) (h : History) (last : Sight) → IsPrefix h more → length h ≡ last.edition + 1 → least ≤ last.edition →
+    IsShot h plan last → AreShots more plan least shots → GoUpTo h plan last.edition least (length shots) (map (up_to last) shots ++ last ∷ [])
+goes_up_to [] h last begins long low is_last no_shot = at_last low refl is_last
+goes_up_to {more = more} {plan = plan} {least = least} (shot ∷ rest) h last begins long low is_last (shot_first higher is are) =
+    elim (cases_Bool (nat_lt last.edition shot.edition)) [
+      | inl behind ↦ rw behind (before_last low is_last (goes_up_to rest h last begins long (omega arith) is_last (shots_lower last.edition (lower behind) are)))
+      | inr within ↦ rw within (before_last higher (shot_shorter h more plan shot begins (let here = behind_is last.edition shot.edition within in omega (arith, here, long)) is)
+          (goes_up_to rest h last begins long (behind_is last.edition shot.edition within) is_last are))
+    ] where
+      lower : nat_lt last.edition shot.edition ≡ true → last.edition ≤ shot.edition
+      lower behind = grind (arith, nat_tests)
+
+-- what a viewer sees once it has learnt all that the keeper knows, and is not above that, is the keeper's last edition
+pub sees_last : (k : Editions) (more : History) (seen : Edition) → IsPrefix (keeper.history k) more → IsLastOf (keeper.history k) (keeper.edition k) (keeper.published k) →
+    IsLastOf more seen.number seen.rows → seen.number ≤ keeper.edition k → seen.schema ≡ keeper.schema k → IsLastEdition k seen
+sees_last k more seen begins mine last within schema =
+    let long = prefix_length (keeper.history k) more begins in
+    let same : keeper.history k ≡ more = prefix_whole (keeper.history k) more begins (omega (arith, mine.long, last.long, within)) in
+    record {
+      number = omega (arith, long, mine.long, last.long, within);
+      rows = last.is ∙ ap last_rows (sym same) ∙ sym mine.is;
+      schema = schema;
+    }
+
+-- a viewer that was told of a history and looks then sees one that begins with it
+pub learnt_of : (before : Known) (note : Note) (after seen : Known) → Learns before note after → Looks after seen → IsPrefix note.history seen.history
+learnt_of before note after seen learns looks =
+    let at : get_or after.told (length before.told) [] ≡ note.history =
+    ap (λ (w : List History). get_or w (length before.told) []) learns.told ∙ get_or-append_seam before.told note.history [] [] in
+    let within : length before.told < length after.told = omega (arith, ap length learns.told, length-append before.told (note.history ∷ [])) in
+    subst (λ (h : History). IsPrefix h seen.history) at (looks.learnt (length before.told) [] within)
+
+-- a viewer that has made so many reports more
+pub record Watched (before : Watching) (viewer : Known) (made : List Sight) (count : ℕ) : Type 0 where
+  pub board : viewer.board ≡ before.viewer.board
+  pub schema : viewer.schema ≡ before.viewer.schema
+  pub shots : AreShots viewer.history before.plan 0 made
+  pub many : length made ≡ length before.shots + count
+
+pub watched_more : (before : Watching) (viewer after : Known) (made : List Sight) (shot : Sight) (count : ℕ) → Watched before viewer made count → Looks viewer after → IsShot after.history before.plan shot →
+    length after.history ≡ shot.edition + 1 → Watched before after (made ++ shot ∷ []) (count + 1)
+watched_more before viewer after made shot count watched looks is long = record {
+  board = looks.board ∙ watched.board;
+  schema = looks.schema ∙ watched.schema;
+  shots = shots_more after.history shot looks.seen long (omega arith) is watched.shots;
+  many = omega (arith, watched.many, length-append made (shot ∷ []));
+}
+
+shots_longer : {h : History} {plan : PlanTree} {least : ℕ} {shots : List Sight} (more : History) → IsPrefix h more → AreShots h plan least shots → AreShots more plan least shots
+shots_longer more begins no_shot = no_shot
+shots_longer {h = h} {plan = plan} more begins (shot_first {shot = first} higher is rest) = shot_first higher (shot_longer h more plan first begins is) (shots_longer more begins rest)
+
+-- a report on the snapshot that was taken
+pub looked : (r : Result Sight Refused) (h : History) (plan : PlanTree) (seen : Edition) → IsLastOf h seen.number seen.rows → IfOk r (λ shot. shot.edition ≡ seen.number) →
+    IfOk r (λ shot. IsReportText seen.rows plan shot.text) → IfOk r (λ shot. IsShot h plan shot × (length h ≡ shot.edition + 1))
+looked (Ok shot) h plan seen last same is = (shot_on_last h plan shot seen.number seen.rows last same is, last.long ∙ ap (λ n. n + 1) (sym same))
+looked (Err e) h plan seen last same is = tt
+
+-- the reports of a viewer, and the one on the keeper's last edition
+pub finished : (k : Editions) (before : Watching) (viewer : Known) (seen : Edition) (last : Sight) (all : List Sight) → IsPrefix before.viewer.history viewer.history → IsPrefix (keeper.history k) viewer.history →
+    IsLastOf (keeper.history k) (keeper.edition k) (keeper.published k) → IsLastEdition k seen → last.edition ≡ seen.number → IsReportText seen.rows before.plan last.text →
+    AreShots before.viewer.history before.plan 0 before.shots → all ≡ map (up_to last) before.shots ++ last ∷ [] →
+    GoUpTo (keeper.history k) before.plan (keeper.edition k) 0 (length before.shots) all
+finished k before viewer seen last all old learnt mine is_last same text shots is =
+    let at : last.edition ≡ keeper.edition k = same ∙ is_last.number in
+    let shot = shot_on_last (keeper.history k) before.plan last (keeper.edition k) (keeper.published k) mine at (subst (λ (rs : Rows). IsReportText rs before.plan last.text) is_last.rows text) in
+    rw is (subst (λ n. GoUpTo (keeper.history k) before.plan n 0 (length before.shots) (map (up_to last) before.shots ++ last ∷ [])) at
+    (goes_up_to before.shots (keeper.history k) last learnt (mine.long ∙ ap (λ n. n + 1) (sym at)) (omega arith) shot (shots_longer viewer.history old shots)))

@@ -1,0 +1,76 @@
+-- Viewers that report in threads of their own, and what they have reported.
+use Rattle.std.specs.Prelude.{◌≡◌, ◌≤◌, ◌+◌, ℕ, suc, List, [], ◌∷◌, Some, Result, IfErr, IfOk, length, nat_lt, if◌then◌else◌}
+use Rattle.std.specs.List.{slice_get}
+use Rattle.board.specs.Editions.{Edition, Editions, History, Known}
+use Rattle.board.specs.Editions as keeper
+use Rattle.cells.specs.Tables.{Rows}
+use Rattle.cells.specs.declared.refused.Refused.{Refused}
+use Rattle.query.specs.Plans.{PlanTree}
+use Rattle.report.specs.Waiting.{IsReportText, IsUnmade}
+
+-- a report of a viewer: the number of its edition, and its text
+pub record Sight : Type 0 where
+  pub edition : ℕ
+  pub text : List ℕ
+
+-- it is the report on the edition of its number in the history
+pub record IsShot (history : History) (plan : PlanTree) (shot : Sight) : Type 0 where
+  pub rows : Rows
+  pub at : slice_get history shot.edition ≡ Some rows
+  pub is : IsReportText rows plan shot.text
+
+-- such reports one after another, whose editions never fall, from the least on
+pub data AreShots (history : History) (plan : PlanTree) : ℕ → List Sight → Type 0 where
+  no_shot : {least : ℕ} → AreShots history plan least []
+  shot_first : {least : ℕ} {shot : Sight} {more : List Sight} → least ≤ shot.edition → IsShot history plan shot → AreShots history plan shot.edition more →
+      AreShots history plan least (shot ∷ more)
+
+-- so many such reports, and then one on the last edition
+pub data GoUpTo (history : History) (plan : PlanTree) (last : ℕ) : ℕ → ℕ → List Sight → Type 0 where
+  at_last : {least : ℕ} {shot : Sight} → least ≤ last → shot.edition ≡ last → IsShot history plan shot → GoUpTo history plan last least 0 (shot ∷ [])
+  before_last : {least count : ℕ} {shot : Sight} {more : List Sight} → least ≤ shot.edition → IsShot history plan shot → GoUpTo history plan last shot.edition count more →
+      GoUpTo history plan last least (suc count) (shot ∷ more)
+
+-- a viewer with the plan that it answers, and the reports that it made
+pub record Watching : Type 0 where
+  pub viewer : Known
+  pub plan : PlanTree
+  pub shots : List Sight
+
+-- a viewer whose thread was started: as it was then, and how many reports it is to make
+pub record Watch : Type 0 where
+  pub before : Watching
+  pub count : ℕ
+
+-- a viewer that is to make so many reports of a plan
+abbrev pub watch_from : Known → PlanTree → ℕ → Watch
+watch_from viewer plan count = record { before = record { viewer = viewer; plan = plan; shots = [] }; count = count }
+
+-- it made so many reports more, and all else but what it has seen stays
+pub record HasWatched (watch : Watch) (after : Watching) : Type 0 where
+  pub board : after.viewer.board ≡ watch.before.viewer.board
+  pub schema : after.viewer.schema ≡ watch.before.viewer.schema
+  pub plan : after.plan ≡ watch.before.plan
+  pub many : length after.shots ≡ length watch.before.shots + watch.count
+
+-- the first of those that were started came back
+pub record ComesBack (old new : List Watch) (result : Result Watching Refused) : Type 0 where
+  pub watch : Watch
+  pub first : old ≡ watch ∷ new
+  pub watched : IfOk result (HasWatched watch)
+  pub unmade : IfErr result IsUnmade
+
+-- the viewer is one of the keeper's board and table
+pub record IsOf (k : Editions) (viewer : Known) : Type 0 where
+  pub board : viewer.board ≡ keeper.board k
+  pub schema : viewer.schema ≡ keeper.schema k
+
+-- it is the last edition of the keeper
+pub record IsLastEdition (k : Editions) (edition : Edition) : Type 0 where
+  pub number : edition.number ≡ keeper.edition k
+  pub rows : edition.rows ≡ keeper.published k
+  pub schema : edition.schema ≡ keeper.schema k
+
+-- the report on the last edition, in place of one on an edition above it
+abbrev pub up_to : Sight → Sight → Sight
+up_to last shot = if nat_lt last.edition shot.edition then last else shot

@@ -1,0 +1,169 @@
+//! The threads of viewers.
+ghost use Rattle.std.specs.Prelude.{◌≡◌, ◌≤◌, ◌++◌, ◌∷◌, [], IfErr, IfOk, IfSome, IsNone, OnOk};
+ghost use Rattle.query.specs.Plans.{IsPlanOf};
+ghost use Rattle.report.specs.Limits.{worker_limit};
+ghost use Rattle.report.specs.Waiting.{IsUnmade};
+ghost use Rattle.report.specs.Watching.{ComesBack, HasWatched, watch_from};
+
+use crate::starting::Starter;
+use crate::watching::{Answering, Watcher};
+use board::{Viewer, viewers_cross_threads};
+use cells::{Cell, KeyHash, Refused, Tuple};
+use crew::Gate;
+use query::Plan;
+use std::alloc::Global;
+use std::collections::VecDeque;
+use std::marker::Model;
+use std::snapshot;
+use std::sync::Wait;
+use std::thread::{Promise, PromisedHandle, Threads};
+
+/// What a viewer's thread promises: so many reports more.
+#[derive(Drop)]
+struct WatchOf<H: KeyHash<Cell>> {
+    viewer: snapshot::Snapshot<Viewer<H>>,
+    plan: snapshot::Snapshot<Plan>,
+    count: u64,
+}
+
+impl<H: KeyHash<Cell>> Promise<Result<Watcher<H>, Refused>> for WatchOf<H> {
+    ghost use Rattle.std.specs.Prelude.{IfErr, IfOk};
+    ghost use Rattle.report.specs.Waiting.{IsUnmade};
+    ghost use Rattle.report.specs.Watching.{HasWatched, watch_from};
+
+    ghost kept_by = { λ promise result.
+        IfOk result (HasWatched (watch_from promise.viewer.value promise.plan.value promise.count)) × IfErr result IsUnmade };
+}
+
+/// A viewer's thread, which was started.
+#[derive(Drop)]
+struct Started<H: KeyHash<Cell>> {
+    handle: PromisedHandle<Result<Watcher<H>, Refused>, WatchOf<H>>,
+}
+
+/// Viewers that report in threads of their own, in the order of their numbers.
+#[derive(Drop)]
+pub struct Audience<H: KeyHash<Cell>> {
+    started: VecDeque<Started<H>>,
+}
+
+impl<H: KeyHash<Cell>> Model for Audience<H> {
+    ghost use Rattle.std.specs.Prelude.{List, map};
+    ghost use Rattle.std.specs.Coded.{codes};
+    ghost use Rattle.board.specs.Editions.{coded_known};
+    ghost use Rattle.query.specs.Codes.{coded_predicate};
+    ghost use Rattle.report.specs.Audiences.{watch_of};
+    ghost use Rattle.report.specs.Watching.{Watch};
+
+    ghost Value = { List Watch };
+
+    ghost coded = { Prim.hlevel (codes, coded_known, coded_predicate) };
+
+    ghost view = { λ a. map watch_of a.started.items };
+}
+
+impl<H: KeyHash<Cell>> Audience<H> {
+    /// Nobody watches. It takes no memory.
+    pub fn new(alloc: Global) -> Audience<H>
+        ensures { result ≡ [] }
+    {
+        Audience {
+            started: VecDeque::new(alloc),
+        }
+    }
+
+    /// Starts a thread in which the viewer answers the plan so many times, each time on a snapshot that it takes then.
+    /// The gate is told of each snapshot before the answer on it, with the viewer's number, which counts from 1 those
+    /// that were started here.
+    ///
+    /// [`Refused::NoWorker`] where the thread can't be started, [`Refused::OutOfMemory`] where a growth was refused.
+    pub fn begin<'s, 'e: 's, R: Threads + Wait + Sync, G: Gate>(
+        &mut self,
+        starter: &Starter<'_, 's, 'e, R, G>,
+        viewer: Viewer<H>,
+        plan: Plan,
+        count: u64,
+    ) -> Result<(), Refused>
+    where
+        H: KeyHash<Tuple> + Send + Sync + 's,
+        requires planned { IsPlanOf viewer.schema plan }
+        requires workers { 1 ≤ starter.now.workers × (starter.now.workers ≤ worker_limit) }
+        ensures watching { OnOk result (self.new ≡ self.old ++ watch_from viewer plan count ∷ []) }
+        ensures refused { IfErr result IsUnmade }
+    {
+        let number = self.started.len() as u64 + 1;
+        let handle = start(starter, viewer, plan, number, count)?;
+        self.started.push_back(Started { handle })?;
+        Ok(())
+    }
+
+    /// Waits for the viewer of the least number that is still here. It has made its reports, or met want of memory or of a
+    /// worker. None where nobody is left.
+    pub fn next<R: Threads>(&mut self, rt: &R) -> Option<Result<Watcher<H>, Refused>>
+        ensures some { IfSome result (ComesBack self.old self.new) }
+        ensures none { IsNone result → self.old ≡ [] }
+    {
+        let Started { handle } = self.started.pop_front()?;
+        Some(handle.join(rt))
+    }
+
+    /// Waits for all viewers, and forgets what they reported.
+    pub fn join<R: Threads>(self, rt: &R) {
+        for started in self.started {
+            drop(started.handle.join(rt));
+        }
+    }
+}
+
+/// Starts a thread in which the viewer answers the plan so many times.
+fn start<
+    's,
+    'e: 's,
+    H: KeyHash<Cell> + KeyHash<Tuple> + Send + Sync + 's,
+    R: Threads + Wait + Sync,
+    G: Gate,
+>(
+    starter: &Starter<'_, 's, 'e, R, G>,
+    viewer: Viewer<H>,
+    plan: Plan,
+    number: u64,
+    count: u64,
+) -> Result<PromisedHandle<Result<Watcher<H>, Refused>, WatchOf<H>>, Refused>
+    requires planned { IsPlanOf viewer.schema plan }
+    requires workers { 1 ≤ starter.now.workers × (starter.now.workers ≤ worker_limit) }
+    ensures viewer { IfOk result (λ handle. handle.promise.viewer.value ≡ viewer) }
+    ensures plan { IfOk result (λ handle. handle.promise.plan.value ≡ plan) }
+    ensures count { IfOk result (λ handle. handle.promise.count ≡ count) }
+    ensures refused { IfErr result (λ e. e ≡ Refused.NoWorker) }
+{
+    // The law by which a viewer may be moved to the thread; it does nothing.
+    viewers_cross_threads::<H>();
+    let promise = WatchOf {
+        viewer: snapshot::Snapshot::of(&viewer),
+        plan: snapshot::Snapshot::of(&plan),
+        count,
+    };
+    let rt = starter.rt;
+    let alloc = starter.alloc;
+    let workers = starter.workers;
+    let cutting = starter.cutting;
+    let gate = starter.gate;
+    let job = move || -> Result<Watcher<H>, Refused>
+        requires { IsPlanOf viewer.schema plan × (1 ≤ workers) × (workers ≤ worker_limit) }
+        ensures watched { IfOk result (HasWatched (watch_from viewer plan count)) }
+        ensures refused { IfErr result IsUnmade }
+    {
+        let answering = Answering {
+            rt,
+            alloc,
+            workers,
+            cutting,
+            gate,
+        };
+        Watcher::new(alloc, viewer, plan).watch(&answering, number, count)
+    };
+    match starter.scope.spawn_with(promise, job) {
+        Ok(handle) => Ok(handle),
+        Err(_) => Err(Refused::NoWorker),
+    }
+}

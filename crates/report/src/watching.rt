@@ -1,0 +1,236 @@
+//! Viewers that report in threads of their own while the keeper goes on.
+ghost use Rattle.std.specs.Prelude.{◌≡◌, ◌≤◌, ◌+◌, ◌++◌, ◌∷◌, [], length, map, IfErr, IfOk};
+ghost use mathlib.Core.List.{IsPrefix};
+ghost use Rattle.board.specs.Editions.{IsLastOf, Looks, edition, history, published};
+ghost use Rattle.query.specs.Plans.{IsPlanOf};
+ghost use Rattle.report.specs.Limits.{worker_limit};
+ghost use Rattle.report.specs.Waiting.{IsReportText, IsUnmade};
+ghost use Rattle.report.specs.Watching.{GoUpTo, HasWatched, IsLastEdition, IsOf, IsShot, up_to as up_to_last};
+
+use crate::answering::answer;
+use board::{Keeper, Snapshot, Viewer};
+use cells::{Cell, KeyHash, Refused, Tuple};
+use crew::Gate;
+use query::Plan;
+use std::alloc::{AllocError, Global};
+use std::marker::Model;
+use std::sync::Wait;
+use std::thread::Threads;
+use trie::Cutting;
+
+/// A report of a viewer: the number of the edition that it is on, and its text.
+#[derive(Drop)]
+pub struct Shot {
+    pub edition: u64,
+    pub text: Vec<u8>,
+}
+
+impl Model for Shot {
+    ghost use Rattle.report.specs.Watching.{Sight};
+
+    ghost Value = { Sight };
+
+    ghost view = { λ s. record { edition = s.edition; text = s.text.items } };
+}
+
+/// A viewer that answers one plan again and again, with the reports that it made: the numbers of their editions never
+/// fall, and each is the report on the edition of its number in the history that the viewer knows.
+#[derive(Drop)]
+pub struct Watcher<H: KeyHash<Cell>> {
+    viewer: Viewer<H>,
+    plan: Plan,
+    shots: Vec<Shot>,
+}
+
+impl<H: KeyHash<Cell>> Model for Watcher<H> {
+    ghost use Rattle.std.specs.Coded.{codes};
+    ghost use Rattle.board.specs.Editions.{coded_known};
+    ghost use Rattle.query.specs.Codes.{coded_predicate};
+    ghost use Rattle.query.specs.Plans.{IsPlanOf};
+    ghost use Rattle.report.specs.Watching.{AreShots, Watching};
+
+    ghost Value = { Watching };
+
+    ghost coded = { Prim.hlevel (codes, coded_known, coded_predicate) };
+
+    ghost view = { λ w. record { viewer = w.viewer; plan = w.plan; shots = w.shots.items } };
+
+    ghost invariant = { λ w. IsPlanOf w.viewer.schema w.plan × AreShots w.viewer.history w.plan 0 w.shots.items };
+}
+
+/// What each report of a viewer is answered with, as of [`answer`](crate::answer).
+#[derive(Drop)]
+pub struct Answering<'a, R, G> {
+    pub rt: &'a R,
+    pub alloc: Global,
+    pub workers: u64,
+    pub cutting: Cutting,
+    pub gate: &'a G,
+}
+
+impl<'a, R: Threads + Wait, G: Gate> Answering<'a, R, G> {
+    /// The report of the plan on the snapshot.
+    fn shot<H: KeyHash<Cell> + KeyHash<Tuple> + Send + Sync>(
+        &self,
+        snapshot: &Snapshot<H>,
+        plan: &Plan,
+    ) -> Result<Shot, Refused>
+        requires planned { IsPlanOf snapshot.now.schema plan.now }
+        requires workers { 1 ≤ self.now.workers × (self.now.workers ≤ worker_limit) }
+        ensures edition { IfOk result (λ shot. shot.edition ≡ snapshot.now.number) }
+        ensures text { IfOk result (λ shot. IsReportText snapshot.now.rows plan.now shot.text) }
+        ensures refused { IfErr result IsUnmade }
+    {
+        let text = answer(
+            self.rt,
+            self.alloc,
+            snapshot,
+            plan,
+            self.workers,
+            &self.cutting,
+            self.gate,
+        )?;
+        Ok(Shot {
+            edition: snapshot.edition(),
+            text,
+        })
+    }
+}
+
+impl<H: KeyHash<Cell>> Watcher<H> {
+    /// The viewer before its first report. It takes no memory.
+    pub(crate) fn new(alloc: Global, viewer: Viewer<H>, plan: Plan) -> Watcher<H>
+        requires { IsPlanOf viewer.schema plan }
+        ensures { result ≡ record { viewer = viewer; plan = plan; shots = [] } }
+    {
+        Watcher {
+            viewer,
+            plan,
+            shots: Vec::new(alloc),
+        }
+    }
+}
+
+impl<H: KeyHash<Cell> + KeyHash<Tuple> + Send + Sync> Watcher<H> {
+    /// Makes so many reports more, each on a snapshot that is taken then.
+    pub(crate) fn watch<R: Threads + Wait, G: Gate>(
+        self,
+        answering: &Answering<'_, R, G>,
+        number: u64,
+        count: u64,
+    ) -> Result<Watcher<H>, Refused>
+        requires workers { 1 ≤ answering.now.workers × (answering.now.workers ≤ worker_limit) }
+        ensures watched { IfOk result (HasWatched (record { before = self; count = count })) }
+        ensures refused { IfErr result IsUnmade }
+    {
+        let Watcher {
+            mut viewer,
+            plan,
+            mut shots,
+        } = self;
+        for _ in 0..count {
+            let shot = look(answering, &mut viewer, &plan, number)?;
+            shots.push(shot)?;
+        }
+        Ok(Watcher {
+            viewer,
+            plan,
+            shots,
+        })
+    }
+
+    /// The reports of the viewer with its last one, which the keeper's thread makes here: the viewer learns what the
+    /// keeper tells, and so the report is on the last edition. The number of each edition is compared with that of the
+    /// last one, and in place of a report on a higher one stands the last report.
+    ///
+    /// [`Refused::NoWorker`] where a thread can't be started, [`Refused::OutOfMemory`] where a growth was refused.
+    pub fn finish<R: Threads + Wait, G: Gate>(
+        self,
+        answering: &Answering<'_, R, G>,
+        keeper: &mut Keeper<H>,
+    ) -> Result<Vec<Shot>, Refused>
+        requires own { IsOf keeper.old self.viewer }
+        requires workers { 1 ≤ answering.now.workers × (answering.now.workers ≤ worker_limit) }
+        ensures same { keeper.new ≡ keeper.old }
+        ensures shots { IfOk result (λ shots. GoUpTo (history keeper.old) self.plan (edition keeper.old) 0 (length self.shots) shots.items) }
+        ensures refused { IfErr result IsUnmade }
+    {
+        let Watcher {
+            mut viewer,
+            plan,
+            shots,
+        } = self;
+        let snapshot = last_edition(&mut viewer, keeper)?;
+        let last = answering.shot(&snapshot, &plan)?;
+        drop(snapshot);
+        ended(answering.alloc, shots, last)
+    }
+}
+
+/// A report on a snapshot that the viewer takes now. The gate is told of the snapshot before it is answered.
+fn look<H: KeyHash<Cell> + KeyHash<Tuple> + Send + Sync, R: Threads + Wait, G: Gate>(
+    answering: &Answering<'_, R, G>,
+    viewer: &mut Viewer<H>,
+    plan: &Plan,
+    number: u64,
+) -> Result<Shot, Refused>
+    requires planned { IsPlanOf viewer.old.schema plan.now }
+    requires workers { 1 ≤ answering.now.workers × (answering.now.workers ≤ worker_limit) }
+    ensures looks { Looks viewer.old viewer.new }
+    ensures shot { IfOk result (λ shot. IsShot viewer.new.history plan.now shot × (length viewer.new.history ≡ shot.edition + 1)) }
+    ensures refused { IfErr result IsUnmade }
+{
+    let snapshot = viewer.snapshot()?;
+    answering.gate.viewing(number, snapshot.edition());
+    answering.shot(&snapshot, plan)
+}
+
+/// The last edition of the keeper, as the viewer sees it once it has learnt what the keeper tells; should it see one above
+/// that, then the keeper's own.
+fn last_edition<H: KeyHash<Cell>>(
+    viewer: &mut Viewer<H>,
+    keeper: &mut Keeper<H>,
+) -> Result<Snapshot<H>, Refused>
+    requires own { IsOf keeper.old viewer.old }
+    ensures same { keeper.new ≡ keeper.old }
+    ensures seen { IsPrefix viewer.old.history viewer.new.history }
+    ensures learnt { IsPrefix (history keeper.old) viewer.new.history }
+    ensures last { IfOk result (IsLastEdition keeper.old) }
+    ensures ended { IsLastOf (history keeper.old) (edition keeper.old) (published keeper.old) }
+    ensures refused { IfErr result (λ e. e ≡ Refused.OutOfMemory) }
+{
+    // The law by which the keeper's history ends with its last edition; it does nothing.
+    keeper.rows_fit();
+    viewer.learn(keeper.tell());
+    let seen = viewer.snapshot()?;
+    if seen.edition() > keeper.edition() {
+        return keeper.snapshot();
+    }
+    Ok(seen)
+}
+
+/// The reports up to the last edition, and then the last report.
+fn ended(alloc: Global, shots: Vec<Shot>, last: Shot) -> Result<Vec<Shot>, Refused>
+    ensures shots { IfOk result (λ all. all.items ≡ map (up_to_last last) shots.items ++ last ∷ []) }
+    ensures refused { IfErr result (λ e. e ≡ Refused.OutOfMemory) }
+{
+    let mut all = Vec::new(alloc);
+    for shot in shots {
+        all.push(up_to(shot, &last)?)?;
+    }
+    all.push(last)?;
+    Ok(all)
+}
+
+/// The report, or where it is on an edition above the last one, a copy of the last report.
+fn up_to(shot: Shot, last: &Shot) -> Result<Shot, AllocError>
+    ensures { IfOk result (λ s. s ≡ up_to_last last.now shot) }
+{
+    if shot.edition > last.edition {
+        return Ok(Shot {
+            edition: last.edition,
+            text: last.text.clone()?,
+        });
+    }
+    Ok(shot)
+}
