@@ -9,6 +9,8 @@ RANGES = {
     "small": "a number from 0 to 18446744073709551615",
     "rows": "a number from 1 to 4294967296",
     "hash": "fnv or plain",
+    "viewers": "a number from 1 to 16",
+    "shots": "a number from 1 to 1000",
 }
 FILES = {"S": "publish\n", "P": "", "--workers": "publish\n"}
 
@@ -19,6 +21,10 @@ def case(line, **more):
 
 def job(line):
     return case(line, output="line 1 refused 1\n")
+
+
+def viewed(line):
+    return case(line, output="line 1 refused 1\nviewers refused 1\n")
 
 
 def beyond(line, option):
@@ -64,6 +70,17 @@ OPTIONS = [
     beyond("run S --hash md5 --rows 0", "rows"),
     beyond("run S --rows 0 --depth 17", "depth"),
     job("run -- --workers"),
+    viewed("live S --query Q"),
+    viewed("live S --query="),
+    viewed("live S --query Q --viewers 1 --shots 1"),
+    viewed("live --workers 7 --query=Q S --viewers 16 --shots 1000 P"),
+    beyond("live S --query Q --viewers 0", "viewers"),
+    beyond("live S --query Q --viewers 17", "viewers"),
+    beyond("live S --query Q --shots 0", "shots"),
+    beyond("live S --query Q --shots 1001", "shots"),
+    # The options of viewers are looked at behind those of a run, viewers first.
+    beyond("live S --query Q --shots 0 --viewers 0", "viewers"),
+    beyond("live S --query Q --viewers 0 --hash md5", "hash"),
 ]
 
 REFUSED = [
@@ -74,8 +91,13 @@ REFUSED = [
     refused("run S --speed 1"),
     refused("run S -w 1"),
     refused("walk S"),
-    refused("live S", "unrecognized subcommand 'live'\n"),
-    refused("live S --query Q"),
+    refused("live S", "the following required arguments were not provided:\n  --query <QUERY>\n"),
+    refused("live --query Q"),
+    refused("live S --query"),
+    refused("live S --query Q --query Q"),
+    refused("live S --query Q --viewers 1 --viewers 1"),
+    refused("run S --query Q"),
+    refused("run S --viewers 1"),
     refused(""),
     refused("S"),
     refused("run --version"),
@@ -83,6 +105,7 @@ REFUSED = [
 
 TOP = "\nUsage: olap <COMMAND>\n"
 RUN = "\nUsage: olap run [OPTIONS] <SCRIPT> [PART]...\n"
+LIVE = "\nUsage: olap live [OPTIONS] --query <QUERY> <SCRIPT> [PART]...\n"
 
 HELP = [
     case("--version", output="olap 0.1.0\n"),
@@ -97,6 +120,11 @@ HELP = [
     help("run --help", ", 0 to 16 [default: 1]\n"),
     help("run --help", ", 1 to 4294967296 [default: 4294967296]\n"),
     help("run --help", " are cut [default: 0]\n"),
+    help("live --help", LIVE),
+    help("help live", LIVE),
+    help("live --help", "\nExample:\n"),
+    help("live --help", ", 1 to 16 [default: 2]\n"),
+    help("live --help", ", 1 to 1000 [default: 1]\n"),
 ]
 
 CASES = OPTIONS + REFUSED + HELP

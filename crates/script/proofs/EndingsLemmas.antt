@@ -1,13 +1,13 @@
 -- Why a line ends a run.
 use Rattle.std.proofs.Common.{◌≡◌, ◌⊎◌, ◌∙◌, Result, Ok, Err, inl, inr, sym, subst}
-use Rattle.std.specs.Prelude.{IfErr, IfOk}
+use Rattle.std.specs.Prelude.{IfErr, IfOk, IsErrOf}
 use Rattle.script.specs.Deeds.{Deed}
 use Rattle.cells.specs.declared.refused.Refused.{Refused}
 use Rattle.cells.specs.declared.refused.Refused.TheVariants as refused
 use Rattle.report.specs.Waiting.{IsLate}
 use Rattle.script.specs.Endings.{EndsAt, EndsBy, HasWorkers, for_memory, for_worker}
 use Rattle.script.specs.declared.ended.Ended.{Ended}
-use Rattle.script.specs.declared.ended.Ended.TheVariants.{NoWorker, OutOfMemory, WriteFailed}
+use Rattle.script.specs.declared.ended.Ended.TheVariants.{NoWorker, NotShown, OutOfMemory, WriteFailed}
 use Rattle.script.specs.declared.fault.Fault.{Fault}
 
 -- any line may want memory
@@ -42,3 +42,14 @@ only_worker late e (inr writer) ends is = absurd (let bad : WriteFailed ≡ NoWo
 -- an error is one
 pub same_error : {T E : Type 0} (result : Result T E) (e f : E) → result ≡ Err e → result ≡ Err f → e ≡ f
 same_error result e f is same = cc
+
+-- and never for the sake of a viewer's place
+pub never_place : (late : Refused) (e : Ended) → IsLate late → EndsBy late e → e ≡ NotShown → ⊥
+never_place late e (inl (inl worker)) ends is = let bad : NoWorker ≡ NotShown = sym (ends.worker worker) ∙ is in cc
+never_place late e (inl (inr memory)) ends is = let bad : OutOfMemory ≡ NotShown = sym (ends.memory memory) ∙ is in cc
+never_place late e (inr writer) ends is = let bad : WriteFailed ≡ NotShown = sym (ends.writer writer) ∙ is in cc
+
+-- nor does a line
+pub line_never_place : {T : Type 0} (does : Result Deed Fault) (e : Ended) (result : Result T Ended) → EndsAt does e → result ≡ Err e → IsErrOf result NotShown → ⊥
+line_never_place does e result for_memory is late = cc
+line_never_place does e result (for_worker workers) is late = cc

@@ -1,11 +1,13 @@
 pub mod BlocksLemmas
 pub mod CommandsLemmas
 pub mod EndingsLemmas
+pub mod GalleryLemmas
 pub mod LinesLemmas
 pub mod ListingsLemmas
 pub mod ProgressLemmas
 pub mod SaysLemmas
 pub mod StatementsLemmas
 pub mod StepsLemmas
+pub mod TailsLemmas
 pub mod WorkedLemmas
 pub mod WorkedQueriesLemmas

@@ -1,14 +1,13 @@
 -- How far a run has come.
 use Rattle.std.proofs.Common.{◌≡◌, ◌∙◌, ◌⊎◌, ℕ, suc, ◌+◌, ◌-◌, ◌<◌, ◌≤◌, Bool, true, false, cond, Option, Some, None, Result, Ok, Err, List, [], ◌∷◌, ◌++◌, inl, inr, length, map, reverse, refl, sym, ap, subst, take, append_assoc, Bor, arith}
-use Rattle.std.proofs.lemmas.List.{append-nil, length-map, length-take, map-append, reverse-append}
+use Rattle.std.proofs.lemmas.List.{append-nil, length-take, map-append, reverse-append, reverse-reverse}
 use Rattle.std.proofs.lemmas.List.Splits.{length-slice_split}
 use Rattle.std.proofs.lemmas.List.Sums.{count_by-le-length}
 use Rattle.std.proofs.KnownBytes.{Appends-nil, Appends-trans}
 use Rattle.std.specs.Io.KnownBytes.{Appends}
 use Rattle.std.specs.List.{AllByRecursion, onto_first, slice_split}
-use Rattle.std.specs.Prelude.{◌==◌, IsErrOf, Vec, slice_index}
+use Rattle.std.specs.Prelude.{◌==◌, IsErrOf, slice_index}
 use Rattle.std.specs.Str.Lines.{lines, lines_of_parts, strip_carriage_return}
-use Rattle.std.specs.declared.alloc.Global.{Global}
 use Rattle.board.specs.Editions.{Editions}
 use Rattle.cells.specs.declared.cell.Cell.{Cell}
 use Rattle.cells.specs.declared.refused.Refused.{Refused}
@@ -18,14 +17,13 @@ use Rattle.script.specs.Blocks.{Foretells, IsAsked, Steps}
 use Rattle.script.specs.Deeds.{Deed, deed}
 use Rattle.script.specs.Endings.{AsksForWorkers, BeginsToWrite, Delivers, EndsAt, EndsBy, HasWorkers, Writes, for_memory, for_worker}
 use Rattle.script.specs.Givens.{Givens, givens}
-use Rattle.script.specs.Limits.{part_limit, script_limit}
-use Rattle.script.specs.Output.{AreBlocks, IsBlock, IsOutput, IsTooMuch, deed_behind, edition, is_publish, line_first, no_line, of_lines, refusal, too_much}
+use Rattle.script.specs.Limits.{script_limit}
+use Rattle.script.specs.Output.{AreBlocks, IsBlock, deed_behind, edition, is_publish, line_first, no_line}
 use Rattle.script.specs.Desks.{Publishable, IsBehind, schema_of_desk}
 use Rattle.script.specs.declared.block.Block.{Block}
 use Rattle.script.specs.declared.ended.Ended.{Ended}
 use Rattle.script.specs.declared.ended.Ended.TheVariants.{NoWorker}
 use Rattle.script.specs.declared.fault.Fault.{Fault}
-use Rattle.script.specs.declared.fault.Fault.TheVariants.{Line}
 use Rattle.script.proofs.BlocksLemmas.{reversed_onto, some_blocks}
 use Rattle.script.proofs.EndingsLemmas.{only_writer}
 use Rattle.script.proofs.SaysLemmas.{EachAnswered}
@@ -156,6 +154,12 @@ module _ (old new : Option (List ℕ)) (hash : Cell → ℕ) (givens : Givens) (
   all_blocks : left ≡ [] → AreBlocks hash givens [] script (reached.front ++ reached.waiting)
   all_blocks is = subst (λ t. AreBlocks hash givens [] script (reached.front ++ t)) (append-nil reached.waiting) (reached.blocks [] (subst (λ ls. AreBlocks hash givens before ls []) (sym is) no_line))
 
+  -- where it stands then
+  pub stands_end : left ≡ [] → IsBehind givens (reverse script) desk
+  stands_end is =
+      let same : reverse script ≡ before = ap reverse (reached.parted ∙ ap (λ ls. reverse before ++ ls) is ∙ append-nil (reverse before)) ∙ reverse-reverse before in
+      subst (λ ls. IsBehind givens ls desk) (sym same) reached.stands
+
   pub reached_end : (newer : Option (List ℕ)) → left ≡ [] → Appends new newer reached.waiting → Writes (AreBlocks hash givens [] script) old newer
   reached_end newer is last = record {
     whole = reached.front ++ reached.waiting;
@@ -265,20 +269,3 @@ narrow_of_parts n (x ∷ y ∷ more) narrow = (let less = stripped x in omega (a
 
 pub narrow_lines : (bs : List ℕ) (n : ℕ) → length bs ≤ n → AllByRecursion (λ l. length l ≤ n) (lines bs)
 narrow_lines bs n few = narrow_of_parts n (slice_split (λ b. b == 10) bs) (narrower (length bs) n (slice_split (λ b. b == 10) bs) few (narrow_parts (λ b. b == 10) bs))
-
--- ---- a script beyond a limit, and one within them
-
-module _ {W T : Type 0} (taken : W → Option (List ℕ)) (faults : W → ℕ) (old new : W) (hash : Cell → ℕ) (rows : ℕ) (parts : List (Vec ℕ Global)) (script : List ℕ) (result : Result T Ended) where
-  counted : length (givens rows parts).parts ≡ length parts
-  counted = length-map parts (λ p. p.items)
-
-  pub delivers_too_much : (script_limit < length script) ⊎ (part_limit < length parts) → Delivers taken faults old new (λ bytes. bytes ≡ refusal 0 (Line Limit)) result →
-      Delivers taken faults old new (IsOutput hash (givens rows parts) script) result
-  delivers_too_much much d = delivers_as taken faults old new _ _ result (λ bytes is. subst (IsOutput hash (givens rows parts) script) (sym is) (too_much (beyond much))) d where
-    beyond : (script_limit < length script) ⊎ (part_limit < length parts) → IsTooMuch (givens rows parts) script
-    beyond (inl long) = inl long
-    beyond (inr many) = inr (omega (arith, many, counted))
-
-  pub delivers_lines : length script ≤ script_limit → length parts ≤ part_limit → Delivers taken faults old new (AreBlocks hash (givens rows parts) [] (lines script)) result →
-      Delivers taken faults old new (IsOutput hash (givens rows parts) script) result
-  delivers_lines short few d = delivers_as taken faults old new _ _ result (λ bytes are. of_lines short (omega (arith, few, counted)) are) d

@@ -1,8 +1,8 @@
 -- A run after one more line.
-use Rattle.std.proofs.Common.{◌≡◌, ℕ, ◌+◌, ◌-◌, ◌<◌, ◌≤◌, Bool, true, false, cond, Option, Some, None, Result, Ok, Err, List, [], ◌∷◌, ◌++◌, inl, inr, length, refl, sym, ap, subst, ◌∙◌, arith}
+use Rattle.std.proofs.Common.{◌≡◌, ℕ, ◌+◌, ◌-◌, ◌<◌, ◌≤◌, Bool, true, false, cond, Option, Some, None, Result, Ok, Err, List, [], ◌∷◌, ◌++◌, inl, inr, length, map, refl, sym, ap, ap₂, subst, ◌∙◌, arith}
 use Rattle.std.proofs.lemmas.Bool.{cases_Bool}
 use Rattle.std.proofs.lemmas.Bool.Decides.{nat_tests}
-use Rattle.std.proofs.lemmas.List.{append-nil}
+use Rattle.std.proofs.lemmas.List.{append-nil, map-append}
 use Rattle.std.specs.FinMap.{contains_key, insert, keys, len, len-empty, len-remove, remove}
 use Rattle.std.specs.Prelude.{◌⊎◌, IfErr, IfOk, IsErr, OnOk, Vec, nat_lt}
 use Rattle.std.specs.declared.alloc.Global.{Global}
@@ -21,9 +21,9 @@ use Rattle.script.specs.Deeds.{Declares, Deed, Loads, Nothing, Publishes, Report
 use Rattle.script.specs.Endings.{HasWorkers, reports}
 use Rattle.script.specs.Givens.{Givens}
 use Rattle.script.specs.Listings.{rows_loaded}
-use Rattle.script.specs.Output.{IsAnswer, IsBlock, IsReport, added, declared, declared_by, edition, is_overfull, is_publish, loaded, published, refusal, shape_text, updated, updates, within, within_loaded}
+use Rattle.script.specs.Output.{IsAnswer, IsBlock, IsReport, added, declared, declared_by, edition, editions, is_overfull, is_publish, loaded, published, refusal, shape_text, updated, updates, within, within_loaded}
 use Rattle.script.specs.Output.{keys as keys_of_rows}
-use Rattle.script.specs.Desks.{Executes, Keeps, LaysOrOverflows, LoadsRows, PutsRow, IsBehind, schema_of_desk}
+use Rattle.script.specs.Desks.{Executes, Keeps, LaysOrOverflows, LoadsRows, PutsRow, IsBehind, Stays, schema_of_desk}
 use Rattle.script.specs.declared.block.Block.{Block}
 use Rattle.script.specs.declared.block.Block.TheVariants.{Text}
 use Rattle.script.specs.declared.command.Command.{Command}
@@ -49,6 +49,9 @@ module _ (givens : Givens) (before : Lines) (line : List ℕ) (r : Result Deed F
 
   published_more : published givens (line ∷ before) ≡ cond (is_publish r) (rows (updates givens before)) (published givens before)
   published_more = ap (λ d. cond (is_publish d) (rows (updates givens before)) (published givens before)) does
+
+  editions_more : editions givens (line ∷ before) ≡ cond (is_publish r) (editions givens before ++ rows (updates givens before) ∷ []) (editions givens before)
+  editions_more = ap (λ d. cond (is_publish d) (editions givens before ++ rows (updates givens before) ∷ []) (editions givens before)) does
 
   block_by : (hash : Cell → ℕ) (bytes : List ℕ) → IsAnswer hash givens before r bytes → IsBlock hash givens before line bytes
   block_by hash bytes is = subst (λ d. IsAnswer hash givens before d bytes) (sym does) is
@@ -79,6 +82,7 @@ record Leaves (givens : Givens) (before : Lines) (line : List ℕ) : Type 0 wher
   updates : updates givens (line ∷ before) ≡ updates givens before
   edition : edition givens (line ∷ before) ≡ edition givens before
   published : published givens (line ∷ before) ≡ published givens before
+  editions : editions givens (line ∷ before) ≡ editions givens before
 
 leaves_at : (givens : Givens) (before : Lines) (line : List ℕ) (r : Result Deed Fault) → deed (declared givens before) line ≡ r
     → declared_by (declared givens before) r ≡ declared givens before → added givens (updates givens before) r ≡ [] → is_publish r ≡ false → Leaves givens before line
@@ -87,6 +91,7 @@ leaves_at givens before line r does same none quiet = record {
   updates = updates_more givens before line r does ∙ ap (λ us. updates givens before ++ us) none ∙ append-nil (updates givens before);
   edition = edition_more givens before line r does ∙ rw quiet refl;
   published = published_more givens before line r does ∙ rw quiet refl;
+  editions = editions_more givens before line r does ∙ rw quiet refl;
 }
 
 leaves_quiet : (givens : Givens) (before : Lines) (line : List ℕ) (r : Result Deed Fault) → deed (declared givens before) line ≡ r → IsQuiet r → Leaves givens before line
@@ -108,7 +113,12 @@ stands_left givens before line (Some k) leaves stands = record {
   within = stands.within;
   edition = stands.edition ∙ sym leaves.edition;
   published = stands.published ∙ ap table (sym leaves.published);
+  history = stands.history ∙ ap (map table) (sym leaves.editions);
 }
+
+same_stays : (desk : Option Editions) → Stays desk desk
+same_stays None = tt
+same_stays (Some k) = record { board = refl; schema = refl }
 
 executes_quiet : (hash : Cell → ℕ) (givens : Givens) (line : List ℕ) (number : ℕ) (desk : Option Editions) (r : Result Deed Fault) (bytes : List ℕ)
     → deed (schema_of_desk desk) line ≡ r → IsQuiet r
@@ -117,6 +127,7 @@ executes_quiet : (hash : Cell → ℕ) (givens : Givens) (line : List ℕ) (numb
 executes_quiet hash givens line number desk r bytes does quiet writes = record {
   block = λ before stands n. block_by givens before line r (does_so givens before line desk r stands does) hash bytes (writes before stands n);
   stands = λ before stands. stands_left givens before line desk (leaves_quiet givens before line r (does_so givens before line desk r stands does) quiet) stands;
+  stays = same_stays desk;
 }
 
 pub executes_nothing : (hash : Cell → ℕ) (givens : Givens) (line : List ℕ) (number : ℕ) (desk : Option Editions) (bytes : List ℕ) → deed (schema_of_desk desk) line ≡ Ok Nothing → bytes ≡ [] → Executes hash givens line number desk desk bytes
@@ -141,6 +152,7 @@ pub steps_text : {H : Type 0} (hash : Cell → ℕ) (givens : Givens) (line : Li
 steps_text hash givens line number old new bytes executes = record {
   foretells = λ before stands n. record { text = bytes.items; is = executes.block before stands n; will = refl };
   stands = executes.stands;
+  stays = executes.stays;
   asks = λ asked. absurd asked;
 }
 
@@ -178,6 +190,7 @@ steps_report hash givens line number k query block does answers =
             will = told.will;
           };
       stands = λ before stands. stands_left givens before line (Some k) (leaves_quiet givens before line r (does_so givens before line (Some k) r stands does) tt) stands;
+      stays = same_stays (Some k);
       asks = λ asked. subst HasWorkers (sym does) reports;
     }
 
@@ -246,7 +259,10 @@ module _ (hash : Cell → ℕ) (givens : Givens) (line : List ℕ) (number : ℕ
               ∙ sym (edition_more givens before line r so ∙ ap (λ b. cond b (edition givens before + 1) (edition givens before)) adds.quiet);
           published = changes.published ∙ stands.published
               ∙ ap table (sym (published_more givens before line r so ∙ ap (λ b. cond b (rows (updates givens before)) (published givens before)) adds.quiet));
+          history = changes.history ∙ stands.history
+              ∙ ap (map table) (sym (editions_more givens before line r so ∙ ap (λ b. cond b (editions givens before ++ rows (updates givens before) ∷ []) (editions givens before)) adds.quiet));
         };
+    stays = record { board = changes.board; schema = changes.schema };
   } where
     fitting : (before : Lines) → Keeps givens before k → is_overfull givens.limit (updates givens before) more ≡ false
     fitting before stands = fits _ _ givens.limit (many before stands) (room before stands)
@@ -268,6 +284,7 @@ module _ (hash : Cell → ℕ) (givens : Givens) (line : List ℕ) (number : ℕ
         (leaves_at givens before line r (does_so givens before line (Some k) r stands does) (adds.declares before)
         (adds.adds (updates givens before) ∙ ap (λ b. cond b [] more) (exceeding before stands)) adds.quiet)
         stands;
+    stays = same_stays (Some k);
   } where
     exceeding : (before : Lines) → Keeps givens before k → is_overfull givens.limit (updates givens before) more ≡ true
     exceeding before stands = exceeds _ _ givens.limit (many before stands) (subst (λ l. l < len left) stands.same_limit full)
@@ -314,6 +331,7 @@ executes_load law hash givens line number k new listing bytes (Err fault) hold d
   stands = λ before stands.
       stands_left givens before line (Some k)
       (leaves_at givens before line r (does_so givens before line (Some k) r stands does) refl (ap (within_loaded givens.limit (updates givens before)) hold) refl) stands;
+  stays = same_stays (Some k);
 }) where
   r : Result Deed Fault
   r = Ok (Loads (keeper.schema k) listing)
@@ -340,7 +358,12 @@ executes_publish hash givens line number k new bytes does publishes none = recor
         within = rw publishes.draft stands.within;
         edition = publishes.edition ∙ ap (λ n. n + 1) stands.edition ∙ sym (edition_more givens before line (Ok Publishes) more);
         published = publishes.published ∙ stands.draft ∙ ap table (sym (published_more givens before line (Ok Publishes) more));
+        history = publishes.history
+            ∙ ap₂ (λ all last. all ++ last ∷ []) stands.history stands.draft
+            ∙ sym (map-append table (editions givens before) (rows (updates givens before) ∷ []))
+            ∙ ap (map table) (sym (editions_more givens before line (Ok Publishes) more));
       };
+  stays = record { board = publishes.board; schema = publishes.schema };
 }
 
 -- ---- the line that declares the table
@@ -378,15 +401,17 @@ record IsBlank (givens : Givens) (before : Lines) : Type 0 where
   updates : updates givens before ≡ []
   edition : edition givens before ≡ 0
   published : published givens before ≡ []
+  editions : editions givens before ≡ [] ∷ []
 
 blank_more : (givens : Givens) (before : Lines) (line : List ℕ) (r : Result Deed Fault) → IsFirst r → deed (declared givens before) line ≡ r → IsBlank givens before → IsBlank givens (line ∷ before)
 blank_more givens before line (Ok Nothing) first does blank = blank_at (leaves_quiet givens before line (Ok Nothing) does tt) where
   blank_at : Leaves givens before line → IsBlank givens (line ∷ before)
-  blank_at leaves = record { updates = leaves.updates ∙ blank.updates; edition = leaves.edition ∙ blank.edition; published = leaves.published ∙ blank.published }
+  blank_at leaves = record { updates = leaves.updates ∙ blank.updates; edition = leaves.edition ∙ blank.edition; published = leaves.published ∙ blank.published; editions = leaves.editions ∙ blank.editions }
 blank_more givens before line (Ok (Declares t)) first does blank = record {
   updates = updates_more givens before line (Ok (Declares t)) does ∙ append-nil (updates givens before) ∙ blank.updates;
   edition = edition_more givens before line (Ok (Declares t)) does ∙ blank.edition;
   published = published_more givens before line (Ok (Declares t)) does ∙ blank.published;
+  editions = editions_more givens before line (Ok (Declares t)) does ∙ blank.editions;
 }
 blank_more givens before line (Ok (Loads t listing)) first does blank = absurd first
 blank_more givens before line (Ok (Updates more)) first does blank = absurd first
@@ -395,7 +420,7 @@ blank_more givens before line (Ok (Reports t query)) first does blank = absurd f
 blank_more givens before line (Ok Shapes) first does blank = absurd first
 blank_more givens before line (Err fault) first does blank = blank_at (leaves_quiet givens before line (Err fault) does tt) where
   blank_at : Leaves givens before line → IsBlank givens (line ∷ before)
-  blank_at leaves = record { updates = leaves.updates ∙ blank.updates; edition = leaves.edition ∙ blank.edition; published = leaves.published ∙ blank.published }
+  blank_at leaves = record { updates = leaves.updates ∙ blank.updates; edition = leaves.edition ∙ blank.edition; published = leaves.published ∙ blank.published; editions = leaves.editions ∙ blank.editions }
 
 -- a table, once declared, stays
 stays : (earlier : Option Table) (r : Result Deed Fault) → declared_by earlier r ≡ None → earlier ≡ None
@@ -410,7 +435,7 @@ stays (Some t) (Ok Shapes) e = e
 stays (Some t) (Err fault) e = e
 
 blank : (givens : Givens) (before : Lines) → declared givens before ≡ None → IsBlank givens before
-blank givens [] e = record { updates = refl; edition = refl; published = refl }
+blank givens [] e = record { updates = refl; edition = refl; published = refl; editions = refl }
 blank givens (line ∷ before) e =
     let none = stays (declared givens before) (deed (declared givens before) line) e in
     blank_more givens before line (deed (declared givens before) line) (subst (λ t. IsFirst (deed t line)) (sym none) (first_deed line)) refl (blank givens before none)
@@ -429,5 +454,7 @@ executes_declare hash givens line number t k bytes does begins none = record {
         within = rw (begins.draft, len-empty cell_cmp RowValue) (omega arith);
         edition = begins.edition ∙ sym (edition_more givens before line (Ok (Declares t)) more ∙ blank.edition);
         published = begins.published ∙ sym (ap table (published_more givens before line (Ok (Declares t)) more ∙ blank.published));
+        history = begins.history ∙ sym (ap (map table) (editions_more givens before line (Ok (Declares t)) more ∙ blank.editions));
       };
+  stays = tt;
 }

@@ -1,5 +1,5 @@
 -- What a line gives: the text of its block, or a report whose answer is still to come.
-use Rattle.std.specs.Prelude.{◌≡◌, ◌+◌, ℕ, List, ◌∷◌, ◌++◌, length, Option, Ok, ⊤}
+use Rattle.std.specs.Prelude.{◌≡◌, ◌+◌, ℕ, List, ◌∷◌, length, Option, Ok, ⊤}
 use Rattle.board.specs.Editions.{Editions}
 use Rattle.board.specs.Editions as keeper
 use Rattle.cells.specs.Tables.{table}
@@ -7,27 +7,20 @@ use Rattle.cells.specs.Updates.{AreLeft}
 use Rattle.cells.specs.Values.{RowValue}
 use Rattle.cells.specs.declared.cell.Cell.{Cell}
 use Rattle.query.specs.Plans.{IsPlanOf, PlanTree}
-use Rattle.report.specs.Waiting.{HasAnswer}
+use Rattle.report.specs.Waiting.{Heads}
 use Rattle.script.specs.Deeds.{deed}
 use Rattle.script.specs.Endings.{HasWorkers}
 use Rattle.script.specs.Givens.{Givens}
 use Rattle.script.specs.Output.{IsBlock, IsReport, report}
 use Rattle.script.specs.Says.{answer_of}
-use Rattle.script.specs.Desks.{IsBehind, schema_of_desk}
-use Rattle.script.specs.declared.block.Asked.{Asked}
+use Rattle.script.specs.Desks.{IsBehind, Stays, schema_of_desk}
 use Rattle.script.specs.declared.block.Block.{Block}
 use Rattle.script.specs.declared.block.Block.TheVariants.{Report, Text}
-
--- the text is the heading of the report, and the one answer that it has
-pub record Heads {H : Type 0} (asked : Asked H) (text : List ℕ) : Type 0 where
-  pub answer : List ℕ
-  pub has : HasAnswer asked.snapshot asked.plan answer
-  pub joined : text ≡ asked.heading.items ++ answer
 
 -- the block will be this text
 abbrev pub WillBe : {H : Type 0} → Block H → List ℕ → Type 0
 WillBe (Text bytes) text = bytes.items ≡ text
-WillBe (Report asked) text = Heads asked text
+WillBe (Report asked) text = Heads asked.heading.items asked.snapshot asked.plan text
 
 -- an answer is still to come
 abbrev pub IsAsked : {H : Type 0} → Block H → Type 0
@@ -45,11 +38,12 @@ pub record Foretells {H : Type 0} (Is : List ℕ → Type 0) (block : Block H) :
   pub is : Is text
   pub will : WillBe block text
 
--- the step of one line: it gives what will be the line's block, and leaves a run that stands behind the line; where an
--- answer is still to come, the line has workers
+-- the step of one line: it gives what will be the line's block, and leaves a run that stands behind the line; a keeper
+-- stays, and where an answer is still to come, the line has workers
 pub record Steps {H : Type 0} (hash : Cell → ℕ) (givens : Givens) (line : List ℕ) (number : ℕ) (old new : Option Editions) (block : Block H) : Type 0 where
   pub foretells : (before : List (List ℕ)) → IsBehind givens before old → number ≡ length before + 1 → Foretells (IsBlock hash givens before line) block
   pub stands : (before : List (List ℕ)) → IsBehind givens before old → IsBehind givens (line ∷ before) new
+  pub stays : Stays old new
   pub asks : IsAsked block → HasWorkers (deed (schema_of_desk old) line)
 
 -- the block will be that of a report over the rows that the keeper has published, in whatever order they are listed

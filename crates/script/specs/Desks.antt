@@ -1,5 +1,6 @@
 -- Where lines have left a run: no table yet, or a keeper.
-use Rattle.std.specs.Prelude.{◌≡◌, ℕ, ◌+◌, ◌^◌, ◌<◌, ◌≤◌, ◌⊎◌, List, [], ◌∷◌, length, Option, Some, None, Result, Ok, Err}
+use Rattle.std.specs.Prelude.{◌≡◌, ℕ, ◌+◌, ◌^◌, ◌<◌, ◌≤◌, ◌⊎◌, List, [], ◌∷◌, length, Option, Some, None, Result, Ok, Err, ⊤}
+use Rattle.std.specs.Prelude.{map as map_all}
 use Rattle.std.specs.FinMap as map
 use Rattle.cells.specs.Tables.{Rows, laid_over, table}
 use Rattle.cells.specs.Updates.{puts, rows}
@@ -11,7 +12,7 @@ use Rattle.board.specs.Editions as keeper
 use Rattle.script.specs.Givens.{Givens}
 use Rattle.script.specs.declared.fault.Fault.{Fault}
 use Rattle.script.specs.declared.fault.Fault.TheVariants.{Line}
-use Rattle.script.specs.Output.{IsBlock, declared, edition, published, refusal, updates}
+use Rattle.script.specs.Output.{IsBlock, declared, edition, editions, published, refusal, updates}
 
 -- the keeper stands where the lines have left it, of which the last one is the first
 pub record Keeps (givens : Givens) (before : List (List ℕ)) (k : Editions) : Type 0 where
@@ -21,6 +22,7 @@ pub record Keeps (givens : Givens) (before : List (List ℕ)) (k : Editions) : T
   pub within : map.len (keeper.draft k) ≤ givens.limit
   pub edition : keeper.edition k ≡ edition givens before
   pub published : keeper.published k ≡ table (published givens before)
+  pub history : keeper.history k ≡ map_all table (editions givens before)
 
 -- a desk is behind these lines: there is a keeper where they declared a table
 abbrev pub IsBehind : Givens → List (List ℕ) → Option Editions → Type 0
@@ -31,10 +33,22 @@ abbrev pub schema_of_desk : Option Editions → Option Table
 schema_of_desk None = None
 schema_of_desk (Some k) = Some (keeper.schema k)
 
--- the step of one line: it gives the line's block, and leaves a run that stands behind the line
+-- the keeper has the same table, on the same board
+pub record StaysSame (old new : Editions) : Type 0 where
+  pub board : keeper.board new ≡ keeper.board old
+  pub schema : keeper.schema new ≡ keeper.schema old
+
+-- a keeper that is there stays
+abbrev pub Stays : Option Editions → Option Editions → Type 0
+Stays None new = ⊤
+Stays (Some k) None = ⊥
+Stays (Some k) (Some new) = StaysSame k new
+
+-- the step of one line: it gives the line's block, and leaves a run that stands behind the line; a keeper stays
 pub record Executes (hash : Cell → ℕ) (givens : Givens) (line : List ℕ) (number : ℕ) (old new : Option Editions) (bytes : List ℕ) : Type 0 where
   pub block : (before : List (List ℕ)) → IsBehind givens before old → number ≡ length before + 1 → IsBlock hash givens before line bytes
   pub stands : (before : List (List ℕ)) → IsBehind givens before old → IsBehind givens (line ∷ before) new
+  pub stays : Stays old new
 
 -- a keeper may publish once more
 abbrev pub Publishable : Option Editions → Type 0

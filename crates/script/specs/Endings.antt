@@ -12,7 +12,7 @@ use Rattle.script.specs.Deeds.{Deed, Loads, Reports}
 use Rattle.script.specs.Givens.{Givens}
 use Rattle.script.specs.Output.{deed_behind}
 use Rattle.script.specs.declared.ended.Ended.{Ended}
-use Rattle.script.specs.declared.ended.Ended.TheVariants.{NoWorker, OutOfMemory, WriteFailed}
+use Rattle.script.specs.declared.ended.Ended.TheVariants.{NoWorker, NotShown, OutOfMemory, WriteFailed}
 use Rattle.script.specs.declared.fault.Fault.{Fault}
 
 -- the numbers of a run that ended early: those of the refusals of the same names
@@ -20,12 +20,14 @@ abbrev pub ending_number : Ended → ℕ
 ending_number OutOfMemory = number_of refused.OutOfMemory
 ending_number NoWorker = number_of refused.NoWorker
 ending_number WriteFailed = number_of refused.WriteFailed
+ending_number NotShown = number_of refused.NotShown
 
 -- how a refusal ends a run that meets it
 pub record EndsBy (late : Refused) (ended : Ended) : Type 0 where
   pub memory : late ≡ refused.OutOfMemory → ended ≡ OutOfMemory
   pub worker : late ≡ refused.NoWorker → ended ≡ NoWorker
   pub writer : late ≡ refused.WriteFailed → ended ≡ WriteFailed
+  pub place : late ≡ refused.NotShown → ended ≡ NotShown
 
 -- how a load that has no rows, and no faulty part, ends a run
 pub record EndsLoad (fault : PartFault) (ended : Ended) : Type 0 where
@@ -70,3 +72,10 @@ pub record Delivers {W T : Type 0} (taken : W → Option (List ℕ)) (faults : W
   pub beginning : OnErr result (BeginsToWrite IsWhole (taken old) (taken new))
   pub fault : IsErrOf result WriteFailed → faults old < faults new
   pub sound : OnOk result (faults new ≡ faults old)
+
+-- how a run ends: it delivers bytes that are so, wants a worker only where it asks for workers, and a viewer's place only
+-- where it has viewers
+pub record Ends {W T : Type 0} (taken : W → Option (List ℕ)) (faults : W → ℕ) (old new : W) (IsWhole : List ℕ → Type 0) (Asks Views : Type 0) (result : Result T Ended) : Type 0 where
+  pub delivered : Delivers taken faults old new IsWhole result
+  pub worker : IsErrOf result NoWorker → Asks
+  pub place : IsErrOf result NotShown → Views

@@ -11,3 +11,5 @@ pub mod Listings
 pub mod Output
 pub mod Says
 pub mod Statements
+pub mod Tails
+pub mod Viewers

@@ -19,6 +19,13 @@ small = record { least = 0; most = 2 ^ 64 - 1; default = 0 }
 abbrev pub rows : Limits
 rows = record { least = 1; most = row_limit; default = row_limit }
 
+-- how many viewers there are beside a run, and how many reports each makes before its last one
+abbrev pub viewers : Limits
+viewers = record { least = 1; most = 16; default = 2 }
+
+abbrev pub shots : Limits
+shots = record { least = 1; most = 1000; default = 1 }
+
 abbrev pub IsWithin : Limits → ℕ → Type 0
 IsWithin limits n = (limits.least ≤ n) × (n ≤ limits.most)
 

@@ -86,6 +86,12 @@ module _ (givens : Givens) where
   published [] = []
   published (line ∷ before) = if is_publish (deed_behind before line) then rows (updates before) else published before
 
+  -- the rows of all editions, in order: of edition 0 none, and of each other one those of the updates before its accepted
+  -- `publish` line
+  abbrev pub editions : List (List ℕ) → List (List RowValue)
+  editions [] = [] ∷ []
+  editions (line ∷ before) = if is_publish (deed_behind before line) then editions before ++ rows (updates before) ∷ [] else editions before
+
 abbrev pub newline : List ℕ
 newline = 10 ∷ []
 
@@ -177,3 +183,11 @@ pub record InThree (First Second Third : List ℕ → Type 0) (bytes : List ℕ)
   pub is_second : Second second
   pub is_third : Third third
   pub joined : bytes ≡ first ++ (second ++ third)
+
+-- the bytes are two parts, one after the other
+pub record InTwo (First Second : List ℕ → Type 0) (bytes : List ℕ) : Type 0 where
+  pub first : List ℕ
+  pub second : List ℕ
+  pub is_first : First first
+  pub is_second : Second second
+  pub joined : bytes ≡ first ++ second

@@ -5,6 +5,8 @@ ghost use Rattle.std.specs.List.{flat_map};
 ghost use Rattle.trie.specs.Shapes.{shape_of};
 ghost use Rattle.board.specs.Editions as editions;
 ghost use Rattle.script.specs.Output.{heading, refusal, shape_line, shape_text};
+ghost use Rattle.script.specs.Tails.{viewers_refused};
+ghost use Rattle.script.specs.Viewers.{view_block};
 ghost use Rattle.script.specs.declared.fault.Fault.TheVariants.{Line};
 
 use crate::ended::Ended;
@@ -12,6 +14,7 @@ use crate::fault::Fault;
 use board::{Keeper, Snapshot};
 use cells::{Cell, KeyHash, Refused};
 use query::Plan;
+use report::Shot;
 use std::alloc::{AllocError, Global};
 use trie::Prefix;
 
@@ -115,4 +118,34 @@ pub fn report_heading(alloc: Global, number: u64, edition: u64) -> Result<Vec<u8
 {
     let text = format!(in alloc; "line {number} edition {edition}\n")?;
     Ok(text.into_bytes())
+}
+
+/// The line that stands in place of all blocks of viewers.
+pub fn viewers_refused_line(alloc: Global, fault: Refused) -> Result<Vec<u8>, AllocError>
+    ensures { IfOk result (λ text. text.items ≡ viewers_refused fault) }
+{
+    let number = fault.number();
+    let text = format!(in alloc; "viewers refused {number}\n")?;
+    Ok(text.into_bytes())
+}
+
+/// The blocks of a viewer: for each of its reports the heading, and then the text.
+pub fn view_text(alloc: Global, viewer: u64, shots: &[Shot]) -> Result<Vec<u8>, AllocError>
+    ensures { IfOk result (λ text. text.items ≡ flat_map (view_block viewer) shots.now) }
+{
+    let mut text = Vec::new(alloc);
+    for shot in shots {
+        push_view(alloc, &mut text, viewer, shot)?;
+    }
+    Ok(text)
+}
+
+/// The text with a report of the viewer behind it, under its heading.
+fn push_view(alloc: Global, text: &mut Vec<u8>, viewer: u64, shot: &Shot) -> Result<(), AllocError>
+    ensures { OnOk result (text.new.items ≡ text.old.items ++ view_block viewer shot.now) }
+{
+    let edition = shot.edition;
+    let heading = format!(in alloc; "viewer {viewer} edition {edition}\n")?;
+    text.extend_from_slice(heading.as_bytes())?;
+    text.extend_from_slice(shot.text.as_slice())
 }

@@ -16,10 +16,12 @@ pub enum Ended {
     NoWorker,
     /// The writer failed during the run.
     WriteFailed,
+    /// The place of a viewer was refused, which a run without viewers does not meet.
+    NotShown,
 }
 
 impl Ended {
-    /// The number of the refusal: 90, 91 or 92. It takes no memory.
+    /// The number of the refusal: 90, 91, 92 or 93. It takes no memory.
     pub fn number(&self) -> u32
         ensures { result ≡ ending_number self.now }
     {
@@ -27,6 +29,7 @@ impl Ended {
             Ended::OutOfMemory => 90,
             Ended::NoWorker => 91,
             Ended::WriteFailed => 92,
+            Ended::NotShown => 93,
         }
     }
 }
@@ -34,11 +37,12 @@ impl Ended {
 impl From<Refused> for Ended {
     ghost from_gives = { EndsBy };
 
-    /// The end of a run that met this refusal, which is of a report under way or of its writer.
+    /// The end of a run that met this refusal, which is of a report under way, of a viewer or of the writer.
     fn from(refused: Refused) -> Ended {
         match refused {
             Refused::NoWorker => Ended::NoWorker,
             Refused::WriteFailed => Ended::WriteFailed,
+            Refused::NotShown => Ended::NotShown,
             _ => Ended::OutOfMemory,
         }
     }

@@ -4,7 +4,8 @@ ghost use Rattle.cells.specs.Hashes.{plain_hash};
 ghost use Rattle.cells.specs.declared.cell.Cell.{Cell as CellValue};
 ghost use Rattle.script.specs.Deeds.{Shapes};
 ghost use Rattle.script.specs.Givens.{Givens};
-ghost use Rattle.script.specs.Output.{AreBlocks, InThree, IsBlock, IsOutput, deed_behind, text_of};
+ghost use Rattle.script.specs.Output.{AreBlocks, InThree, InTwo, IsBlock, IsOutput, deed_behind, text_of};
+ghost use Rattle.script.specs.Tails.{IsLive, IsTail, Viewing};
 
 use query::{a_text_has_one_answer, each_text_has_an_answer};
 
@@ -31,6 +32,14 @@ pub fn hash_decides_shapes_alone()
     ensures { (hash other : CellValue → ℕ) (givens : Givens) (before : List (List ℕ)) (line bytes : List ℕ) →
         (deed_behind givens before line ≡ Ok Shapes → ⊥) → IsBlock hash givens before line bytes → IsBlock other givens before line bytes }
 {}
+
+/// A run with viewers writes first what the script writes without them, and then a live tail.
+pub fn live_writes_the_output_first()
+    ensures { (hash : CellValue → ℕ) (givens : Givens) (viewing : Viewing) (script output bytes : List ℕ) →
+        IsOutput hash givens script output → IsLive hash givens viewing script bytes → InTwo (λ first. first ≡ output) (IsTail givens viewing script) bytes }
+{
+    a_text_has_one_answer();
+}
 
 /// Seven worked scripts, by the definition of the output: none of them asks the code.
 pub fn worked_scripts()

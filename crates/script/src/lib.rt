@@ -7,6 +7,7 @@ mod closing;
 mod command;
 mod ended;
 mod fault;
+mod gallery;
 mod hash_choice;
 mod how;
 mod laws;
@@ -15,7 +16,9 @@ mod lines;
 mod listing;
 mod load_line;
 mod reporting;
+mod request;
 mod running;
+mod stage;
 mod statement;
 mod step;
 
@@ -23,7 +26,10 @@ pub use ended::Ended;
 pub use hash_choice::HashChoice;
 pub use how::How;
 pub use laws::{
-    each_line_by_itself, each_script_has_one_output, hash_decides_shapes_alone, worked_scripts,
+    each_line_by_itself, each_script_has_one_output, hash_decides_shapes_alone,
+    live_writes_the_output_first, worked_scripts,
 };
-pub use limits::{DEPTH, Limits, MAX_PARTS, MAX_SCRIPT_BYTES, ROWS, SMALL, WORKERS};
-pub use running::{run, run_by, run_last};
+pub use limits::{
+    DEPTH, Limits, MAX_PARTS, MAX_SCRIPT_BYTES, ROWS, SHOTS, SMALL, VIEWERS, WORKERS,
+};
+pub use running::{live, live_last, run, run_by, run_last};

@@ -45,6 +45,20 @@ pub const ROWS: Limits = Limits {
     default: MAX_ROWS,
 };
 
+/// How many viewers there are beside a run.
+pub const VIEWERS: Limits = Limits {
+    least: 1,
+    most: 16,
+    default: 2,
+};
+
+/// How many reports each viewer makes before its last one.
+pub const SHOTS: Limits = Limits {
+    least: 1,
+    most: 1_000,
+    default: 1,
+};
+
 /// The most bytes of a script.
 pub const MAX_SCRIPT_BYTES: usize = 1_048_576;
 

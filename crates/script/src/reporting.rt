@@ -36,7 +36,7 @@ pub fn execute_report<H: KeyHash<Cell>>(
 
 /// The plan of the query that the text is. The refusal is the first fault of the text, or of its query
 /// for the table; or [`Refused::OutOfMemory`].
-fn read_plan(alloc: Global, text: &str, schema: &Schema) -> Result<Plan, Refused>
+pub fn read_plan(alloc: Global, text: &str, schema: &Schema) -> Result<Plan, Refused>
     ensures exact { GivesPlan schema.now text.now result }
     ensures planned { IfOk result (IsPlanOf schema.now) }
 {

@@ -1,25 +1,30 @@
 //! Runs a script: one keeper, line after line, and a block of output for each line that has one.
-ghost use Rattle.std.specs.Prelude.{◌≡◌, ◌⊎◌, ℕ, ◌+◌, ◌<◌, ◌≤◌, ◌^◌, ◌++◌, [], List, length, IfErr, IsErrOf, OnOk};
+ghost use Rattle.std.specs.Prelude.{◌≡◌, ◌⊎◌, ◌+◌, ◌<◌, ◌≤◌, ◌^◌, [], length, IfErr, IfOk, IsErrOf, OnOk};
 ghost use Rattle.std.specs.Str.Lines.{lines};
 ghost use Rattle.report.specs.Limits.{worker_limit};
-ghost use Rattle.report.specs.Waiting.{Awaits, GoesOn, IsLate};
+ghost use Rattle.report.specs.Waiting.{AwaitsThen, WritesOn};
 ghost use Rattle.script.specs.Blocks.{IsAsked, IsPlanned, WillBe};
-ghost use Rattle.script.specs.Endings.{AsksForWorkers, Delivers};
+ghost use Rattle.script.specs.Endings.{AsksForWorkers, Delivers, Ends};
 ghost use Rattle.script.specs.Givens.{givens};
 ghost use Rattle.script.specs.Hows.{hash_of_choice};
-ghost use Rattle.script.specs.Limits.{script_limit};
-ghost use Rattle.script.specs.Output.{AreBlocks, IsOutput, refusal};
+ghost use Rattle.script.specs.Limits.{IsWithin, script_limit};
+ghost use Rattle.script.specs.Limits as limits;
+ghost use Rattle.script.specs.Output.{IsOutput};
 ghost use Rattle.script.specs.Desks.{IsFresh};
-ghost use Rattle.script.specs.declared.fault.Fault.TheVariants.{Line as AtLine};
+ghost use Rattle.script.specs.Tails.{IsLive};
+ghost use Rattle.script.specs.Viewers.{EndsLines, HasViewers, IsWritten, MayWant, asked_of, too_much_text};
+ghost use Rattle.script.specs.declared.stage.Stage.TheVariants as Stage;
 
-use crate::block::{Asked, Block, refusal_block};
+use crate::block::{Asked, Block, refusal_block, viewers_refused_line};
 use crate::closing::Closing;
 use crate::ended::Ended;
 use crate::fault::Fault;
+use crate::gallery::Gallery;
 use crate::hash_choice::HashChoice;
 use crate::how::How;
 use crate::limits::{MAX_PARTS, MAX_SCRIPT_BYTES};
 use crate::lines::lines_of;
+use crate::request::Request;
 use crate::step::{Line, Setup, execute};
 use board::Keeper;
 use cells::{Cell, Fnv, KeyHash, Plain, Refused, Tuple};
@@ -63,8 +68,107 @@ pub fn run<
     requires { O.faults out.old + 1 < 2 ^ 64 }
     ensures delivered { Delivers O.taken O.faults out.old out.new (IsOutput H.KeyHash-1.hash_of (givens how.now.rows parts.now) script.now) result }
     ensures worker { IsErrOf result Ended.NoWorker → AsksForWorkers (givens how.now.rows parts.now) (lines script.now) }
+    ensures place { IsErrOf result Ended.NotShown → ⊥ }
 {
-    run_whole::<H, O, G, R>(rt, alloc, script, parts, how, gate, out, Closing::GivesBack)
+    run_whole::<H, O, G, R>(
+        rt,
+        alloc,
+        script,
+        parts,
+        how,
+        None,
+        gate,
+        out,
+        Closing::GivesBack,
+    )
+}
+
+/// Runs a script with viewers beside it. Once a table is declared, `viewers` threads start, of which each takes a snapshot
+/// and reports on it, `shots` times, while the script goes on. Where it answers Ok, the bytes that the writer took in the
+/// call are the script's output, as of [`run`], and then a live tail: for each viewer the blocks of its reports, whose
+/// editions never fall, and one more on the last edition. Where no table was declared or the query is refused, the tail is
+/// the one line `viewers refused N`.
+///
+/// Where it ends early, a beginning of such bytes was taken: [`Ended::OutOfMemory`] where a growth was refused,
+/// [`Ended::NoWorker`] where a thread could not be started, [`Ended::NotShown`] where a viewer's place was refused, and
+/// [`Ended::WriteFailed`] where the writer failed in the call.
+///
+/// There are 1 to 16 viewers, and each makes 1 to 1,000 reports before its last one. All threads are joined before this
+/// returns, however the run ends. The gate is told of each snapshot of a viewer by the viewer's thread, and of all else as
+/// by [`run`].
+pub fn live<
+    H: KeyHash<Cell> + KeyHash<Tuple> + Send + Sync,
+    O: Out,
+    G: Gate,
+    R: Threads + Wait + Sync,
+>(
+    rt: &R,
+    alloc: Global,
+    script: &[u8],
+    parts: &[Vec<u8>],
+    how: &How,
+    viewers: u64,
+    shots: u64,
+    query: &str,
+    gate: &G,
+    out: &mut O,
+) -> Result<(), Ended>
+    requires viewers { IsWithin limits.viewers viewers }
+    requires shots { IsWithin limits.shots shots }
+    requires faults { O.faults out.old + 1 < 2 ^ 64 }
+    ensures delivered { Delivers O.taken O.faults out.old out.new (IsLive H.KeyHash-1.hash_of (givens how.now.rows parts.now) (record { query = query.now; viewers = viewers; shots = shots }) script.now) result }
+{
+    run_whole::<H, O, G, R>(
+        rt,
+        alloc,
+        script,
+        parts,
+        how,
+        Some(Request {
+            query,
+            viewers,
+            shots,
+        }),
+        gate,
+        out,
+        Closing::GivesBack,
+    )
+}
+
+/// [`live`] with the hash of this choice, for a program that ends behind it, however the run ends: the table's memory is
+/// left to the system.
+pub fn live_last<O: Out, G: Gate, R: Threads + Wait + Sync>(
+    rt: &R,
+    alloc: Global,
+    hash: HashChoice,
+    script: &[u8],
+    parts: &[Vec<u8>],
+    how: &How,
+    viewers: u64,
+    shots: u64,
+    query: &str,
+    gate: &G,
+    out: &mut O,
+) -> Result<(), Ended>
+    requires viewers { IsWithin limits.viewers viewers }
+    requires shots { IsWithin limits.shots shots }
+    requires faults { O.faults out.old + 1 < 2 ^ 64 }
+    ensures delivered { Delivers O.taken O.faults out.old out.new (IsLive (hash_of_choice hash) (givens how.now.rows parts.now) (record { query = query.now; viewers = viewers; shots = shots }) script.now) result }
+{
+    let closing = Closing::LeavesToSystem;
+    let asked = Some(Request {
+        query,
+        viewers,
+        shots,
+    });
+    match hash {
+        HashChoice::Fnv => {
+            run_whole::<Fnv, O, G, R>(rt, alloc, script, parts, how, asked, gate, out, closing)
+        }
+        HashChoice::Plain => {
+            run_whole::<Plain, O, G, R>(rt, alloc, script, parts, how, asked, gate, out, closing)
+        }
+    }
 }
 
 /// [`run`] with the hash of this choice. Only the blocks of shapes depend on it.
@@ -81,6 +185,7 @@ pub fn run_by<O: Out, G: Gate, R: Threads + Wait + Sync>(
     requires { O.faults out.old + 1 < 2 ^ 64 }
     ensures delivered { Delivers O.taken O.faults out.old out.new (IsOutput (hash_of_choice hash) (givens how.now.rows parts.now) script.now) result }
     ensures worker { IsErrOf result Ended.NoWorker → AsksForWorkers (givens how.now.rows parts.now) (lines script.now) }
+    ensures place { IsErrOf result Ended.NotShown → ⊥ }
 {
     match hash {
         HashChoice::Fnv => run::<Fnv, O, G, R>(rt, alloc, script, parts, how, gate, out),
@@ -102,19 +207,20 @@ pub fn run_last<O: Out, G: Gate, R: Threads + Wait + Sync>(
     requires { O.faults out.old + 1 < 2 ^ 64 }
     ensures delivered { Delivers O.taken O.faults out.old out.new (IsOutput (hash_of_choice hash) (givens how.now.rows parts.now) script.now) result }
     ensures worker { IsErrOf result Ended.NoWorker → AsksForWorkers (givens how.now.rows parts.now) (lines script.now) }
+    ensures place { IsErrOf result Ended.NotShown → ⊥ }
 {
     let closing = Closing::LeavesToSystem;
     match hash {
         HashChoice::Fnv => {
-            run_whole::<Fnv, O, G, R>(rt, alloc, script, parts, how, gate, out, closing)
+            run_whole::<Fnv, O, G, R>(rt, alloc, script, parts, how, None, gate, out, closing)
         }
         HashChoice::Plain => {
-            run_whole::<Plain, O, G, R>(rt, alloc, script, parts, how, gate, out, closing)
+            run_whole::<Plain, O, G, R>(rt, alloc, script, parts, how, None, gate, out, closing)
         }
     }
 }
 
-/// [`run`], with what becomes of the table at the end.
+/// [`run`] or [`live`], by what viewers are asked, with what becomes of the table at the end.
 fn run_whole<
     H: KeyHash<Cell> + KeyHash<Tuple> + Send + Sync,
     O: Out,
@@ -126,29 +232,31 @@ fn run_whole<
     script: &[u8],
     parts: &[Vec<u8>],
     how: &How,
+    asked: Option<Request<'_>>,
     gate: &G,
     out: &mut O,
     closing: Closing,
 ) -> Result<(), Ended>
     requires { O.faults out.old + 1 < 2 ^ 64 }
-    ensures delivered { Delivers O.taken O.faults out.old out.new (IsOutput H.KeyHash-1.hash_of (givens how.now.rows parts.now) script.now) result }
-    ensures worker { IsErrOf result Ended.NoWorker → AsksForWorkers (givens how.now.rows parts.now) (lines script.now) }
+    ensures { Ends O.taken O.faults out.old out.new (IsWritten H.KeyHash-1.hash_of (givens how.now.rows parts.now) (asked_of asked.entry) script.now)
+        (MayWant (givens how.now.rows parts.now) (asked_of asked.entry) (lines script.now)) (HasViewers (asked_of asked.entry)) result }
 {
     if script.len() > MAX_SCRIPT_BYTES || parts.len() > MAX_PARTS {
-        return write_refusal(alloc, out);
+        return write_too_much(alloc, asked, out);
     }
     let setup = Setup {
         rt,
         alloc,
         how,
         parts,
+        asked,
         gate,
     };
     run_lines::<H, O, G, R>(&setup, script, out, closing)
 }
 
-/// Runs the lines of a script that is not too long. Reports run beside the lines that follow them: however the lines
-/// end, the reports that are under way are joined here, and the keeper ends here.
+/// Runs the lines of a script that is not too long. Reports and viewers run beside the lines: however the lines
+/// end, those that are under way are joined here, and the keeper ends here.
 fn run_lines<
     H: KeyHash<Cell> + KeyHash<Tuple> + Send + Sync,
     O: Out,
@@ -157,8 +265,7 @@ fn run_lines<
 >(setup: &Setup<'_, R, G>, script: &[u8], out: &mut O, closing: Closing) -> Result<(), Ended>
     requires faults { O.faults out.old + 1 < 2 ^ 64 }
     requires short { length script.now ≤ script_limit }
-    ensures delivered { Delivers O.taken O.faults out.old out.new (AreBlocks H.KeyHash-1.hash_of (givens setup.now.how.now.rows setup.now.parts.now) [] (lines script.now)) result }
-    ensures worker { IsErrOf result Ended.NoWorker → AsksForWorkers (givens setup.now.how.now.rows setup.now.parts.now) (lines script.now) }
+    ensures { EndsLines H.KeyHash-1.hash_of O.taken O.faults out.old out.new (givens setup.now.how.now.rows setup.now.parts.now) (asked_of setup.now.asked) (lines script.now) result }
 {
     let (ended, _out) = thread::scope(
         thread::scope_env(),
@@ -166,8 +273,7 @@ fn run_lines<
         move |scope| -> (Result<(), Ended>, &mut O)
             requires { (O.faults out.now + 1 < 2 ^ 64) × (length script.now ≤ script_limit) }
             ensures same { result.1.ghost_name ≡ out.entry.ghost_name }
-            ensures delivered { Delivers O.taken O.faults out.entry.now result.1.now (AreBlocks H.KeyHash-1.hash_of (givens setup.entry.now.how.now.rows setup.entry.now.parts.now) [] (lines script.entry.now)) result.0 }
-            ensures worker { IsErrOf result.0 Ended.NoWorker → AsksForWorkers (givens setup.entry.now.how.now.rows setup.entry.now.parts.now) (lines script.entry.now) }
+            ensures ends { EndsLines H.KeyHash-1.hash_of O.taken O.faults out.entry.now result.1.now (givens setup.entry.now.how.now.rows setup.entry.now.parts.now) (asked_of setup.entry.now.asked) (lines script.entry.now) result.0 }
         {
             let starter = Starter {
                 rt: setup.rt,
@@ -179,8 +285,18 @@ fn run_lines<
             };
             let mut desk: Option<Keeper<H>> = None;
             let mut backlog = Backlog::new(setup.alloc);
-            let ended = run_beside(setup, &starter, script, &mut desk, &mut backlog, out);
+            let mut gallery = Gallery::new(setup.alloc);
+            let ended = run_beside(
+                setup,
+                &starter,
+                script,
+                &mut desk,
+                &mut backlog,
+                &mut gallery,
+                out,
+            );
             backlog.join(setup.rt);
+            gallery.join(setup.rt);
             closing.close(desk);
             (ended, out)
         },
@@ -188,7 +304,7 @@ fn run_lines<
     ended
 }
 
-/// The same at a desk where there is no keeper yet. At an early end reports may still be under way.
+/// The same at a desk where there is no keeper yet. At an early end reports and viewers may still be under way.
 fn run_beside<
     's,
     'e: 's,
@@ -202,14 +318,15 @@ fn run_beside<
     script: &[u8],
     desk: &mut Option<Keeper<H>>,
     backlog: &mut Backlog<H>,
+    gallery: &mut Gallery<H>,
     out: &mut O,
 ) -> Result<(), Ended>
     requires faults { O.faults out.old + 1 < 2 ^ 64 }
     requires short { length script.now ≤ script_limit }
     requires workers { 1 ≤ starter.now.workers × (starter.now.workers ≤ worker_limit) }
     requires fresh { IsFresh desk.old × (backlog.old ≡ record { reports = []; after = [] }) }
-    ensures delivered { Delivers O.taken O.faults out.old out.new (AreBlocks H.KeyHash-1.hash_of (givens setup.now.how.now.rows setup.now.parts.now) [] (lines script.now)) result }
-    ensures worker { IsErrOf result Ended.NoWorker → AsksForWorkers (givens setup.now.how.now.rows setup.now.parts.now) (lines script.now) }
+    requires nobody { (gallery.old.stage ≡ Stage.Expected) × (gallery.old.audience ≡ []) }
+    ensures { EndsLines H.KeyHash-1.hash_of O.taken O.faults out.old out.new (givens setup.now.how.now.rows setup.now.parts.now) (asked_of setup.now.asked) (lines script.now) result }
 {
     // The law by which what was written is a beginning of an output, where a line ends the run; it does
     // nothing.
@@ -218,10 +335,11 @@ fn run_beside<
     for bytes in lines_of(script) {
         number += 1;
         let block = execute(setup, desk, Line { number, bytes })?;
+        gallery.attend(setup, starter, desk)?;
         add(starter, backlog, out, block)?;
     }
     backlog.finish(starter.rt, out)?;
-    Ok(())
+    gallery.write_tail(setup, desk, out)
 }
 
 /// What a line gave comes behind all that waits: its text, or the report that it asks for, which is started.
@@ -241,13 +359,9 @@ fn add<
     requires planned { IsPlanned block }
     requires workers { 1 ≤ starter.now.workers × (starter.now.workers ≤ worker_limit) }
     requires faults { O.faults out.old + 1 < 2 ^ 64 }
-    ensures written { (waiting text : List ℕ) → Awaits backlog.old waiting → WillBe block text
-        → GoesOn (O.taken out.old) (O.taken out.new) backlog.new (waiting ++ text) result }
-    ensures sound { OnOk result (O.faults out.new ≡ O.faults out.old) }
+    ensures goes_on { WritesOn O.taken O.faults out.old out.new backlog.new (AwaitsThen backlog.old (WillBe block)) result }
     ensures asked { OnOk result (0 < length backlog.new.reports → (0 < length backlog.old.reports) ⊎ IsAsked block) }
-    ensures refused { IfErr result IsLate }
     ensures worker { IsErrOf result Refused.NoWorker → IsAsked block }
-    ensures fault { IsErrOf result Refused.WriteFailed → O.faults out.old < O.faults out.new }
 {
     match block {
         Block::Text(text) => backlog.say(out, text.as_slice()),
@@ -262,16 +376,32 @@ fn add<
     }
 }
 
-/// Delivers the output of a script that is too long, or of too many parts.
+/// Delivers the output of a script that is too long, or of too many parts, and behind it the tail where there are viewers.
 #[tactic(auto, using(report::specs::Laws::takes_nothing))]
-fn write_refusal<O: Out>(alloc: Global, out: &mut O) -> Result<(), Ended>
+fn write_too_much<O: Out>(
+    alloc: Global,
+    asked: Option<Request<'_>>,
+    out: &mut O,
+) -> Result<(), Ended>
     requires { O.faults out.old + 1 < 2 ^ 64 }
-    ensures delivered { Delivers O.taken O.faults out.old out.new (λ bytes. bytes ≡ refusal 0 (AtLine Refused.Limit)) result }
-    ensures worker { IsErrOf result Ended.NoWorker → ⊥ }
+    ensures { Ends O.taken O.faults out.old out.new (λ bytes. bytes ≡ too_much_text (asked_of asked.entry)) ⊥ ⊥ result }
 {
-    let refusal = refusal_block(alloc, 0, Fault::Line(Refused::Limit))?;
-    let Ok(()) = write_whole(out, refusal.as_slice()) else {
+    let text = too_much_block(alloc, asked)?;
+    let Ok(()) = write_whole(out, text.as_slice()) else {
         return Err(Ended::WriteFailed);
     };
     Ok(())
+}
+
+/// What is written for a script that is too long, or for too many parts.
+fn too_much_block(alloc: Global, asked: Option<Request<'_>>) -> Result<Vec<u8>, Ended>
+    ensures text { IfOk result (λ text. text.items ≡ too_much_text (asked_of asked.entry)) }
+    ensures ended { IfErr result (λ e. e ≡ Ended.OutOfMemory) }
+{
+    let mut text = refusal_block(alloc, 0, Fault::Line(Refused::Limit))?;
+    if let Some(_) = asked {
+        let line = viewers_refused_line(alloc, Refused::NoTable)?;
+        text.extend_from_slice(line.as_slice())?;
+    }
+    Ok(text)
 }

@@ -15,8 +15,10 @@ use crate::block::{Block, refusal_block, shape_block};
 use crate::ended::Ended;
 use crate::fault::Fault;
 use crate::how::How;
+use crate::limits::VIEWERS;
 use crate::load_line::execute_load;
 use crate::reporting::execute_report;
+use crate::request::Request;
 use crate::statement::{Statement, read_first, read_statement};
 use board::{Keeper, rows_have_the_shape_of_their_keys};
 use cells::{Cell, KeyHash, Row, later_puts_lie_over};
@@ -26,13 +28,14 @@ use std::sync::Wait;
 use std::thread::Threads;
 
 /// What each line is run with: where the threads of workers come from, where memory comes from, how the run is
-/// made, the parts that may be loaded, and who is told of each publish, of a report's pieces and of a load's parts.
+/// made, the parts that may be loaded, what viewers are asked where there are some, and who is told of each publish, of a report's pieces and of a load's parts.
 #[derive(Drop)]
 pub struct Setup<'a, R, G: Gate> {
     pub rt: &'a R,
     pub alloc: Global,
     pub how: &'a How,
     pub parts: &'a [Vec<u8>],
+    pub asked: Option<Request<'a>>,
     pub gate: &'a G,
 }
 
@@ -76,7 +79,7 @@ fn execute_first<H: KeyHash<Cell>, G: Gate, R>(
     let alloc = setup.alloc;
     match read_first(alloc, line.bytes) {
         Ok(None) => Ok((None, Vec::new(alloc))),
-        Ok(Some(schema)) => match Keeper::new(alloc, schema, setup.how.rows(), 1) {
+        Ok(Some(schema)) => match Keeper::new(alloc, schema, setup.how.rows(), VIEWERS.most) {
             Ok(keeper) => Ok((Some(keeper), Vec::new(alloc))),
             Err(_) => Err(Ended::OutOfMemory),
         },
@@ -166,7 +169,7 @@ fn delete<H: KeyHash<Cell>>(
     Ok(Vec::new(alloc))
 }
 
-/// Publishes the draft, and tells the gate. What the keeper tells of it is dropped: here is no viewer to learn it.
+/// Publishes the draft, and tells the gate. What the keeper tells of it is dropped: viewers look without being told.
 pub fn publish<H: KeyHash<Cell>, G: Gate, R: Wait>(
     setup: &Setup<'_, R, G>,
     keeper: &mut Keeper<H>,

@@ -7,6 +7,8 @@ mod beside;
 #[cfg(test)]
 mod gates;
 #[cfg(test)]
+mod live;
+#[cfg(test)]
 mod runs;
 #[cfg(test)]
 mod settings;

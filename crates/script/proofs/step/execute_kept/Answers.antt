@@ -1,6 +1,6 @@
 use Rattle.std.proofs.Common.{◌≤◌, ◌∙◌, Ok, Some, ap, arith, length, rules, sym}
 use Rattle.std.proofs.lemmas.Result.{IfOk-weaker}
-use Rattle.script.specs.Deeds.{Loads, deed}
+use Rattle.script.specs.Deeds.{Loads, Reports, deed}
 use Rattle.script.specs.Endings.{loads}
 use Rattle.script.specs.Givens.{givens}
 use Rattle.script.specs.Limits.{script_limit}
@@ -8,7 +8,7 @@ use Rattle.script.specs.Statements.{deed_of_statement}
 use Rattle.script.specs.declared.block.Block.TheVariants.{Text}
 use Rattle.script.proofs.CommandsLemmas.{listing_short}
 use Rattle.script.proofs.EndingsLemmas.{ends_as_text, ends_for_memory, ends_for_worker}
-use Rattle.script.proofs.StepsLemmas.{both_ok, executes_delete, executes_loads, executes_publish, executes_put, executes_refused_text, executes_shape, steps_as_text}
+use Rattle.script.proofs.StepsLemmas.{both_ok, executes_delete, executes_loads, executes_publish, executes_put, executes_refused_text, executes_shape, steps_as_text, steps_report}
 use Rattle.script.proofs.step.execute_kept.Goals as goal
 
 pub returns-in-Ok-Load-clause-step : goal.returns-in-Ok-Load-clause-step
@@ -75,6 +75,14 @@ returns-in-Ok-Publish-clause-step g c =
 pub returns-in-Ok-Publish-clause-ended : goal.returns-in-Ok-Publish-clause-ended
 returns-in-Ok-Publish-clause-ended g c =
     ends_as_text _ Text c.publish.result c.text_block-in-Ok-Publish.result c.text_block-in-Ok-Publish.ensures.found c.text_block-in-Ok-Publish.ensures.ended (ends_for_memory _ c.publish.result c.publish.ensures.ended)
+
+pub returns-in-Ok-Report-clause-step : goal.returns-in-Ok-Report-clause-step
+returns-in-Ok-Report-clause-step g c =
+    let given = givens c.args.setup.now.how.now.rows c.args.setup.now.parts.now in
+    let does =
+    ap (λ t. deed (Some t) c.args.line.bytes.now) (sym c.schema.ensures) ∙ c.in-Ok-Report.ensures.exact
+    ∙ ap (λ s. Ok (deed_of_statement c.schema.result.now s)) c.in-Ok-Report.field-0-is ∙ ap (λ t. Ok (Reports t c.in-Ok-Report.query.now)) c.schema.ensures in
+    IfOk-weaker c.execute_report.result _ _ (λ block answers. steps_report g.H.KeyHash.hash_of given c.args.line.bytes.now c.args.line.number c.args.keeper.now c.in-Ok-Report.query.now block does answers) c.execute_report.ensures.block
 
 pub returns-in-Ok-Report-clause-ended : goal.returns-in-Ok-Report-clause-ended
 returns-in-Ok-Report-clause-ended g c = ends_for_memory _ c.execute_report.result c.execute_report.ensures.ended

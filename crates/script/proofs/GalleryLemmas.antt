@@ -1,0 +1,158 @@
+-- How viewers are started, and how the blocks of each are written.
+use Rattle.std.proofs.Common.{◌≡◌, ◌∙◌, ℕ, suc, ◌+◌, Option, Some, None, Result, Ok, Err, List, [], length, inl, inr, sym, ap, subst, arith}
+use Rattle.std.proofs.lemmas.Result.{IfOk-weaker}
+use Rattle.std.specs.List.{AllByRecursion, flat_map}
+use Rattle.std.specs.Prelude.{IfErr, IfOk, OnOk}
+use Rattle.board.specs.Editions.{Editions}
+use Rattle.board.specs.Editions as keeper
+use Rattle.cells.specs.declared.refused.Refused.{Refused}
+use Rattle.cells.specs.declared.refused.Refused.TheVariants as refused
+use Rattle.query.specs.Plans.{PlanTree}
+use Rattle.report.specs.Laws.{takes_nothing}
+use Rattle.report.specs.Waiting.{IsUnmade}
+use Rattle.report.specs.Watching.{ComesBack, GoUpTo, IsOf, Sight, Watch, Watching}
+use Rattle.script.specs.Desks.{Keeps}
+use Rattle.script.specs.Endings.{BeginsToWrite, Delivers, EndsBy}
+use Rattle.script.specs.Givens.{Givens}
+use Rattle.script.specs.Output.{edition, editions}
+use Rattle.script.specs.Says.{IsRefused, MeansPlan}
+use Rattle.script.specs.Tails.{AreViewers, AreViews, Viewing}
+use Rattle.script.specs.Viewers.{Attend, HasAttended, HasViewers, IsStarted, IsUnstarted, begun, turned, view_block}
+use Rattle.script.specs.declared.ended.Ended.{Ended}
+use Rattle.script.specs.declared.ended.Ended.TheVariants.{OutOfMemory, WriteFailed}
+use Rattle.script.specs.declared.stage.Stage.{Stage}
+use Rattle.script.specs.declared.stage.Stage.TheVariants.{Begun, Expected, Turned}
+use Rattle.script.proofs.ProgressLemmas.{delivers_refused}
+use Rattle.script.proofs.TailsLemmas.{SoFar, begins_more, some_view, some_viewers, views_of}
+
+abbrev Lines : Type 0
+Lines = List (List ℕ)
+
+-- ---- how they are started
+
+-- all viewers were started
+pub begun_all : (viewing : Viewing) (k : Editions) (watches : List Watch) (plans : List PlanTree) → length watches ≡ length plans → length plans ≡ viewing.viewers → AllByRecursion (IsStarted viewing k) watches →
+    Attend viewing (Some k) Begun watches
+begun_all viewing k watches plans many all started = begun (many ∙ all) started
+
+-- their query is refused
+pub turned_all : (viewing : Viewing) (k : Editions) (fault : Refused) (watches : List Watch) → watches ≡ [] → (fault ≡ refused.OutOfMemory → ⊥) → IsRefused (keeper.schema k) viewing.query fault →
+    Attend viewing (Some k) (Turned fault) watches
+turned_all viewing k fault watches none memory (inl late) = absurd (memory late)
+turned_all viewing k fault watches none memory (inr says) = subst (Attend viewing (Some k) (Turned fault)) (sym none) (turned (says []))
+
+-- what was met where viewers are started
+pub unstarted : (late : Refused) (e : Ended) → IsUnmade late → EndsBy late e → IsUnstarted e
+unstarted late e (inl worker) ends = inr (inl (ends.worker worker))
+unstarted late e (inr memory) ends = inl (ends.memory memory)
+
+-- they attend once they were started or turned away
+pub attended_begun : {T : Type 0} (asked : Option Viewing) (viewing : Viewing) (desk : Option Editions) (k : Editions) (stage : Stage) (watches : List Watch) (result : Result T Ended) →
+    asked ≡ Some viewing → desk ≡ Some k → OnOk result (Attend viewing (Some k) stage watches) → OnOk result (stage ≡ Expected → ⊥) → OnOk result (HasAttended asked desk stage watches)
+attended_begun None viewing desk k stage watches result same there attend late = absurd cc
+attended_begun (Some other) viewing None k stage watches result same there attend late = absurd cc
+attended_begun (Some other) viewing (Some l) k stage watches (Err e) same there attend late = tt
+attended_begun (Some other) viewing (Some l) k stage watches (Ok x) same there attend late =
+    let one : viewing ≡ other = cc in
+    let kept : k ≡ l = cc in
+    record {
+      attend = subst (λ v. Attend v (Some l) stage watches) one (subst (λ n. Attend viewing (Some n) stage watches) kept attend);
+      declared = λ has is. absurd (late is);
+    }
+
+pub has_viewers : (asked : Option Viewing) (viewing : Viewing) → asked ≡ Some viewing → HasViewers asked
+has_viewers None viewing same = absurd cc
+has_viewers (Some other) viewing same = tt
+
+-- ---- how one is written
+
+unmade_writer : (late : Refused) → IsUnmade late → late ≡ refused.WriteFailed → ⊥
+unmade_writer late (inl worker) is = absurd cc
+unmade_writer late (inr memory) is = absurd cc
+
+-- memory or a worker was wanting behind a beginning
+pub delivers_unmade : {W T : Type 0} (taken : W → Option (List ℕ)) (faults : W → ℕ) (old new : W) (IsWhole : List ℕ → Type 0) (late : Refused) (e : Ended) (result : Result T Ended) →
+    BeginsToWrite IsWhole (taken old) (taken new) → IsUnmade late → EndsBy late e → result ≡ Err e → Delivers taken faults old new IsWhole result
+delivers_unmade taken faults old new IsWhole late e result beginning why ends is =
+    delivers_refused taken faults old new IsWhole late e result beginning (inl why) ends (λ writer. absurd (unmade_writer late why writer)) is
+
+-- the blocks of the reports up to the last edition
+pub blocks_of : (givens : Givens) (before : Lines) (k : Editions) (query : List ℕ) (plan : PlanTree) (viewer count n : ℕ) (shots : List Sight) (text : List ℕ) → MeansPlan (keeper.schema k) query plan → Keeps givens before k →
+    n ≡ count → GoUpTo (keeper.history k) plan (keeper.edition k) 0 n shots → text ≡ flat_map (view_block viewer) shots →
+    AreViews (keeper.schema k) (editions givens before) query (keeper.edition k) viewer 0 count text
+blocks_of givens before k query plan viewer count n shots text means keeps many up is =
+    subst (AreViews (keeper.schema k) (editions givens before) query (keeper.edition k) viewer 0 count) (sym is)
+    (subst (λ m. AreViews (keeper.schema k) (editions givens before) query (keeper.edition k) viewer 0 m (flat_map (view_block viewer) shots)) many
+    (views_of givens before k query plan means keeps.history viewer up))
+
+-- ---- how they come back
+
+-- a viewer of the keeper, which answers the query and made all its reports
+pub record CameBack (viewing : Viewing) (k : Editions) (watcher : Watching) : Type 0 where
+  pub own : IsOf k watcher.viewer
+  pub plan : MeansPlan (keeper.schema k) viewing.query watcher.plan
+  pub many : length watcher.shots ≡ viewing.shots
+
+pub came_back : (viewing : Viewing) (k : Editions) (old new : List Watch) (result : Result Watching Refused) → ComesBack old new result → AllByRecursion (IsStarted viewing k) old →
+    IfOk result (CameBack viewing k)
+came_back viewing k old new result back all =
+    let started = (subst (AllByRecursion (IsStarted viewing k)) back.first all).0 in
+    IfOk-weaker result _ _ (λ watcher has. record {
+      own = record { board = has.board ∙ started.board; schema = has.schema ∙ started.schema };
+      plan = subst (MeansPlan (keeper.schema k) viewing.query) (sym has.plan) started.plan;
+      many = omega (arith, has.many, ap length started.none, started.count);
+    }) back.watched
+
+-- one fewer is left, and each of them was started
+pub left_back : (viewing : Viewing) (k : Editions) (old new : List Watch) (result : Result Watching Refused) → ComesBack old new result → AllByRecursion (IsStarted viewing k) old →
+    AllByRecursion (IsStarted viewing k) new × (length old ≡ suc (length new))
+left_back viewing k old new result back all = ((subst (AllByRecursion (IsStarted viewing k)) back.first all).1, ap length back.first)
+
+-- blocks that any of them might have
+pub some_back : (givens : Givens) (before : Lines) (viewing : Viewing) (k : Editions) (old new : List Watch) (result : Result Watching Refused) → Keeps givens before k → ComesBack old new result → AllByRecursion (IsStarted viewing k) old →
+    (viewer count : ℕ) → (bytes : List ℕ) × AreViewers (keeper.schema k) (editions givens before) (keeper.edition k) viewing viewer count bytes
+some_back givens before viewing k old new result keeps back all =
+    let plan = back.watch.before.plan in
+    let means = (subst (AllByRecursion (IsStarted viewing k)) back.first all).0.plan in
+    subst (λ last. (viewer count : ℕ) → (bytes : List ℕ) × AreViewers (keeper.schema k) (editions givens before) last viewing viewer count bytes) (sym keeps.edition)
+    (some_viewers (keeper.schema k) (editions givens before) (edition givens before) viewing (some_view givens before (keeper.schema k) viewing plan means))
+
+-- one of them ended the run behind a beginning of its blocks
+pub delivers_more : {W S T : Type 0} (taken : W → Option (List ℕ)) (faults : W → ℕ) (old middle new : W) (givens : Givens) (before : Lines) (viewing : Viewing) (k : Editions) (number many left : ℕ) (e : Ended) (one : Result S Ended) (result : Result T Ended) →
+    SoFar (taken old) (taken middle) (keeper.schema k) (editions givens before) (keeper.edition k) viewing number left many → (fewer : ℕ) → left ≡ suc fewer →
+    ((viewer count : ℕ) → (bytes : List ℕ) × AreViewers (keeper.schema k) (editions givens before) (keeper.edition k) viewing viewer count bytes) → faults middle ≡ faults old →
+    one ≡ Err e → Delivers taken faults middle new (AreViews (keeper.schema k) (editions givens before) viewing.query (keeper.edition k) (number + 1) 0 viewing.shots) one → result ≡ Err e →
+    Delivers taken faults old new (AreViewers (keeper.schema k) (editions givens before) (keeper.edition k) viewing 1 many) result
+delivers_more {S = S} taken faults old middle new givens before viewing k number many left e one result so_far fewer is some sound met one_is ended =
+    let d : Delivers {T = S} taken faults middle new (AreViews (keeper.schema k) (editions givens before) viewing.query (keeper.edition k) (number + 1) 0 viewing.shots) (Err e) =
+    subst (Delivers taken faults middle new (AreViews (keeper.schema k) (editions givens before) viewing.query (keeper.edition k) (number + 1) 0 viewing.shots)) met one_is in
+    subst (Delivers taken faults old new (AreViewers (keeper.schema k) (editions givens before) (keeper.edition k) viewing 1 many)) (sym ended) (record {
+      output = tt;
+      beginning = begins_more (taken old) (taken middle) (keeper.schema k) (editions givens before) (keeper.edition k) viewing number many (taken new) fewer
+          (subst (λ n. SoFar (taken old) (taken middle) (keeper.schema k) (editions givens before) (keeper.edition k) viewing number n many) is so_far) some d.beginning;
+      fault = λ late. let writer : e ≡ WriteFailed = cc in let failed = d.fault (ap Err writer) in omega (arith, failed, sound);
+      sound = tt;
+    })
+
+-- nothing was written yet of what might be
+pub nothing_yet : (IsWhole : List ℕ → Type 0) (told : Option (List ℕ)) (whole : List ℕ) → IsWhole whole → BeginsToWrite IsWhole told told
+nothing_yet IsWhole told whole is = record { whole = whole; is_whole = is; beginning = takes_nothing told whole }
+
+-- memory was wanting behind a beginning
+pub for_memory : {W T : Type 0} (taken : W → Option (List ℕ)) (faults : W → ℕ) (old new : W) (IsWhole : List ℕ → Type 0) (e : Ended) (result : Result T Ended) →
+    BeginsToWrite IsWhole (taken old) (taken new) → e ≡ OutOfMemory → result ≡ Err e → Delivers taken faults old new IsWhole result
+for_memory taken faults old new IsWhole e result beginning memory is = rw (is, memory) (record { output = tt; beginning = beginning; fault = λ late. absurd cc; sound = tt })
+
+-- what is so of the error that came
+pub err_so : {T E : Type 0} (r : Result T E) (e : E) (P : E → Type 0) → IfErr r P → r ≡ Err e → P e
+err_so (Ok x) e P p is = absurd cc
+err_so (Err f) e P p is = let same : f ≡ e = cc in subst P same p
+
+-- what is so is so of any error
+pub if_err_any : {T E : Type 0} (r : Result T E) (P : Type 0) → P → IfErr r (λ _. P)
+if_err_any (Ok x) P p = tt
+if_err_any (Err e) P p = p
+
+pub ok_so : {T E : Type 0} (r : Result T E) (x : T) (P : T → Type 0) → IfOk r P → r ≡ Ok x → P x
+ok_so (Ok y) x P p is = let same : y ≡ x = cc in subst P same p
+ok_so (Err f) x P p is = absurd cc

@@ -1,0 +1,98 @@
+-- A run that may have viewers beside it.
+use Rattle.std.specs.Prelude.{◌≡◌, ◌⊎◌, ℕ, List, [], ◌++◌, Option, Some, None, Result, Err, ⊤, length, reverse}
+use Rattle.std.specs.List.{AllByRecursion}
+use Rattle.cells.specs.Values.{Table}
+use Rattle.cells.specs.declared.cell.Cell.{Cell}
+use Rattle.cells.specs.declared.refused.Refused.{Refused}
+use Rattle.cells.specs.declared.refused.Refused.TheVariants.{Limit, NoTable}
+use Rattle.script.specs.declared.fault.Fault.TheVariants.{Line}
+use Rattle.board.specs.Editions.{Editions}
+use Rattle.board.specs.Editions as keeper
+use Rattle.query.specs.Plans.{IsPlanOf, PlanTree}
+use Rattle.report.specs.Watching.{Sight, Watch}
+use Rattle.script.specs.Endings.{AsksForWorkers, Ends}
+use Rattle.script.specs.Givens.{Givens}
+use Rattle.script.specs.Output.{AreBlocks, InTwo, IsOutput, refusal}
+use Rattle.script.specs.Says.{MeansPlan, Says}
+use Rattle.script.specs.Tails.{IsLive, IsTailBehind, Viewing, view_heading, viewers_refused}
+use Rattle.script.specs.declared.ended.Ended.{Ended}
+use Rattle.script.specs.declared.ended.Ended.TheVariants.{NoWorker, NotShown, OutOfMemory}
+use Rattle.script.specs.declared.request.Request.{Request}
+use Rattle.script.specs.declared.stage.Stage.{Stage}
+use Rattle.script.specs.declared.stage.Stage.TheVariants.{Begun, Expected, Turned}
+
+-- what is asked, as contracts see it
+abbrev pub viewing_of : Request → Viewing
+viewing_of r = record { query = r.query.now; viewers = r.viewers; shots = r.shots }
+
+abbrev pub asked_of : Option Request → Option Viewing
+asked_of None = None
+asked_of (Some r) = Some (viewing_of r)
+
+-- a run has viewers
+abbrev pub HasViewers : Option Viewing → Type 0
+HasViewers None = ⊥
+HasViewers (Some viewing) = ⊤
+
+-- what comes behind the blocks of the lines
+abbrev pub IsTailOf : Givens → Option Viewing → List (List ℕ) → List ℕ → Type 0
+IsTailOf givens None before bytes = bytes ≡ []
+IsTailOf givens (Some viewing) before bytes = IsTailBehind givens viewing before bytes
+
+-- what such a run writes as a whole
+abbrev pub IsWritten : (Cell → ℕ) → Givens → Option Viewing → List ℕ → List ℕ → Type 0
+IsWritten hash givens None script bytes = IsOutput hash givens script bytes
+IsWritten hash givens (Some viewing) script bytes = IsLive hash givens viewing script bytes
+
+-- a viewer was started on the keeper's board, and answers the query
+pub record IsStarted (viewing : Viewing) (k : Editions) (watch : Watch) : Type 0 where
+  pub board : watch.before.viewer.board ≡ keeper.board k
+  pub schema : watch.before.viewer.schema ≡ keeper.schema k
+  pub plan : MeansPlan (keeper.schema k) viewing.query watch.before.plan
+  pub none : watch.before.shots ≡ []
+  pub count : watch.count ≡ viewing.shots
+
+-- a report of a viewer under its heading
+abbrev pub view_block : ℕ → Sight → List ℕ
+view_block viewer shot = view_heading viewer shot.edition ++ shot.text
+
+-- plans of the query
+abbrev pub ArePlans : Table → List ℕ → List PlanTree → Type 0
+ArePlans t query plans = AllByRecursion (λ plan. MeansPlan t query plan × IsPlanOf t plan) plans
+
+-- why viewers may not be started: want of memory, of a thread, or of a place
+abbrev pub IsUnstarted : Ended → Type 0
+IsUnstarted e = (e ≡ OutOfMemory) ⊎ ((e ≡ NoWorker) ⊎ (e ≡ NotShown))
+
+-- how far the viewers of a run are at its desk: they are expected, or turned away since the query is refused, or they were
+-- all started
+pub data Attend (viewing : Viewing) : Option Editions → Stage → List Watch → Type 0 where
+  expected : {desk : Option Editions} → Attend viewing desk Expected []
+  turned : {k : Editions} {fault : Refused} → Says (keeper.schema k) [] viewing.query (Err fault) → Attend viewing (Some k) (Turned fault) []
+  begun : {k : Editions} {watches : List Watch} → length watches ≡ viewing.viewers → AllByRecursion (IsStarted viewing k) watches →
+      Attend viewing (Some k) Begun watches
+
+-- the same of a run that may have none
+abbrev pub MayAttend : Option Viewing → Option Editions → Stage → List Watch → Type 0
+MayAttend None desk stage watches = ⊤
+MayAttend (Some viewing) desk stage watches = Attend viewing desk stage watches
+
+-- and they are expected only where there is no table
+pub record HasAttended (asked : Option Viewing) (desk : Option Editions) (stage : Stage) (watches : List Watch) : Type 0 where
+  pub attend : MayAttend asked desk stage watches
+  pub declared : HasViewers asked → stage ≡ Expected → desk ≡ None
+
+-- a run may want a worker: it has viewers, or a line of the script has workers
+abbrev pub MayWant : Givens → Option Viewing → List (List ℕ) → Type 0
+MayWant givens None script = AsksForWorkers givens script
+MayWant givens (Some viewing) script = ⊤
+
+-- how a run of these lines ends: with their blocks, and what comes behind them
+abbrev pub EndsLines : {W T : Type 0} → (Cell → ℕ) → (W → Option (List ℕ)) → (W → ℕ) → W → W → Givens → Option Viewing → List (List ℕ) → Result T Ended → Type 0
+EndsLines hash taken faults old new givens asked script result =
+    Ends taken faults old new (InTwo (AreBlocks hash givens [] script) (IsTailOf givens asked (reverse script))) (MayWant givens asked script) (HasViewers asked) result
+
+-- what is written for a script beyond a limit
+abbrev pub too_much_text : Option Viewing → List ℕ
+too_much_text None = refusal 0 (Line Limit)
+too_much_text (Some viewing) = refusal 0 (Line Limit) ++ viewers_refused NoTable

@@ -1,0 +1,108 @@
+"""Runs with viewers beside them: what `olap live` writes behind the output of `olap run`."""
+
+import pathlib
+
+from cases.table import Case, OneOf, SCRIPT, as_bytes, of_lines
+
+SALES = ["ID,REGION,ITEM,UNITS", "1,north,pen,10", "2,north,ink,", "3,,pen,5", "4,south,pen,-2"]
+PART = "".join(f"{line}\n" for line in SALES)
+TABLE = "table T (K INT KEY)"
+LOADED = ["table SALES (ID INT KEY, REGION TEXT, ITEM TEXT, UNITS INT)", "load 1", "publish"]
+COUNT = "SELECT COUNT(*) FROM T"
+# 512 sets.
+MANY_SETS = f"CUBE({', '.join(['K'] * 9)})"
+
+
+def view(viewer, edition, *rows):
+    """A viewer's block."""
+    return "".join(f"{line}\n" for line in (f"viewer {viewer} edition {edition}", *rows))
+
+
+def counts(viewer, *pairs):
+    """The blocks of a viewer that counts rows: an edition and its number of rows each."""
+    return "".join(view(viewer, edition, "COUNT(*)", str(count)) for edition, count in pairs)
+
+
+def live(title, rows, query, *tails, options=("--viewers", "1"), parts=()):
+    """A script of these lines, as `of_lines` takes them, and the tails that are right behind its output."""
+    text, output = of_lines(rows)
+    names = [f"part{number}.csv" for number in range(1, len(parts) + 1)]
+    files = {SCRIPT: text, **dict(zip(names, parts))}
+    words = ["live", "--query", query, *options, SCRIPT, *names]
+    return Case(title, words, files, output=OneOf([output + tail for tail in tails]))
+
+
+ROWS = [
+    live(
+        "two viewers of a table without rows",
+        [TABLE],
+        COUNT,
+        counts(1, (0, 0), (0, 0)) + counts(2, (0, 0), (0, 0)),
+        options=(),
+    ),
+    live("viewers whose query names no column", [TABLE], "SELECT COUNT(X) FROM T", "viewers refused 11\n"),
+    live("viewers whose query is none", [TABLE], "SELECT COUNT(* FROM T", "viewers refused 10\n"),
+    live("viewers whose query has a wrong type", ["table T (K INT KEY, S TEXT)"], "SELECT SUM(S) FROM T", "viewers refused 13\n"),
+    live("viewers whose query is not grouped", [TABLE], "SELECT K, COUNT(*) FROM T", "viewers refused 12\n"),
+    live("viewers whose query is empty", [TABLE], "", "viewers refused 10\n"),
+    live("viewers whose query has too many sets", [TABLE], f"SELECT COUNT(*) FROM T GROUP BY {MANY_SETS}", "viewers refused 14\n"),
+    live("viewers whose query has too many items", [TABLE], f"SELECT {', '.join(['K'] * 33)} FROM T", "viewers refused 15\n"),
+    live("viewers whose query has a GROUPING of too many names", [TABLE], f"SELECT GROUPING({', '.join(['K'] * 17)}) FROM T", "viewers refused 15\n"),
+    live("viewers of a table that is declared twice", [TABLE, ("table U (K INT KEY)", 2)], COUNT, counts(1, (0, 0), (0, 0))),
+    live("viewers of the empty script", [], COUNT, "viewers refused 1\n"),
+    live("viewers of a script without a table", [("publish", 1)], "SELECT", "viewers refused 1\n"),
+    live("viewers whose table is refused", [("table T (K INT)", 4)], COUNT, "viewers refused 1\n"),
+    live("viewers of a table that is declared late", [("publish", 1), "", TABLE], COUNT, counts(1, (0, 0), (0, 0))),
+    live(
+        "a viewer of loaded sales",
+        LOADED,
+        "SELECT COUNT(*) FROM SALES",
+        counts(1, (0, 0), (1, 4)),
+        counts(1, (1, 4), (1, 4)),
+        parts=[PART],
+    ),
+    live(
+        "a report of the script stands before the viewers",
+        [TABLE, "put 1", ("report SELECT COUNT(*) FROM T", "edition 0\nCOUNT(*)\n0"), ("put x", 7)],
+        "SELECT COUNT(*), K FROM T GROUP BY K",
+        view(1, 0, "COUNT(*) | K") * 2,
+    ),
+    live(
+        "three shots of a draft that is never published",
+        [TABLE, "put 1", "delete 1", "put 2"],
+        COUNT,
+        counts(1, *[(0, 0)] * 4) + counts(2, *[(0, 0)] * 4),
+        options=("--viewers", "2", "--shots", "3"),
+    ),
+]
+
+LIMITS = [
+    Case(
+        "viewers of a script of one byte too many",
+        ["live", "--query", COUNT, SCRIPT],
+        {SCRIPT: b"#" * 1_048_577},
+        output="line 0 refused 15\nviewers refused 1\n",
+    ),
+    Case(
+        "viewers of 65 parts",
+        ["live", "--query", COUNT, SCRIPT, *["part.csv"] * 65],
+        {SCRIPT: as_bytes(TABLE), "part.csv": "K\n"},
+        output="line 0 refused 15\nviewers refused 1\n",
+    ),
+    live("16 viewers", [TABLE], COUNT, "".join(counts(v, (0, 0), (0, 0)) for v in range(1, 17)), options=("--viewers", "16")),
+    live("1,000 shots", [TABLE], COUNT, counts(1, *[(0, 0)] * 1_001), options=("--viewers", "1", "--shots", "1000")),
+]
+
+EXAMPLES = pathlib.Path(__file__).resolve().parent.parent.parent / "examples"
+
+EXAMPLE = [
+    Case(
+        f"the example with viewers, {' '.join(options)}",
+        ["live", "--query", "SELECT COUNT(*) FROM SALES", *options, SCRIPT, "part.csv"],
+        {SCRIPT: (EXAMPLES / "live.olap").read_bytes(), "part.csv": (EXAMPLES / "live.1.csv").read_bytes()},
+        output=(EXAMPLES / "live.viewed").read_bytes(),
+    )
+    for options in [("--workers", "1"), ("--workers", "7", "--hash", "plain")]
+]
+
+CASES = ROWS + LIMITS + EXAMPLE
