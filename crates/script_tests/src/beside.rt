@@ -18,7 +18,7 @@ use trie::Cutting;
 const TURNS: u64 = 10_000_000;
 
 /// Whether the number is reached within the turns.
-fn reaches(count: &AtomicU64, number: u64) -> bool {
+pub(crate) fn reaches(count: &AtomicU64, number: u64) -> bool {
     for _ in 0..TURNS {
         if count.load(SeqCst) >= number {
             return true;

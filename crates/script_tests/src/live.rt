@@ -2,13 +2,13 @@
 
 ghost use Rattle.std.specs.Prelude.{◌≤◌};
 
+use crate::beside::reaches;
 use crate::runs::CUTTING;
 use cells::Fnv;
 use crew::{Gate, Open};
 use report::Pour;
 use script::{Ended, How, live};
 use std::alloc::Global;
-use std::hint::spin_loop;
 use std::sync::Wait;
 use std::sync::atomic::AtomicU64;
 use std::sync::atomic::Ordering::SeqCst;
@@ -78,5 +78,69 @@ fn viewers_are_turned_away(rt: HostRuntime) -> Result<(), Fail> {
     assert_eq!(rt; refused.as_slice(), b"viewers refused 11\n".as_slice());
     let empty = written(&rt, rt.alloc(), b"", 2, 1, "x", &Open)?;
     assert_eq!(rt; empty.as_slice(), b"viewers refused 1\n".as_slice());
+    Ok(())
+}
+
+/// The keeper goes on behind a publish when a viewer has its edition. A viewer goes on from the edition before the first
+/// when that is published, and reports on the first when the second is published.
+#[derive(Drop)]
+struct Turns {
+    published: AtomicU64,
+    seen: AtomicU64,
+    late: AtomicU64,
+}
+
+impl Turns {
+    fn new() -> Turns {
+        Turns {
+            published: AtomicU64::new(0),
+            seen: AtomicU64::new(0),
+            late: AtomicU64::new(0),
+        }
+    }
+
+    fn wait(&self, count: &AtomicU64, number: u64) {
+        if !reaches(count, number) {
+            self.late.fetch_add(1, SeqCst);
+        }
+    }
+}
+
+impl Gate for Turns {
+    fn published(&self, edition: u64) {
+        self.published.store(edition, SeqCst);
+        self.wait(&self.seen, edition);
+    }
+
+    fn viewing(&self, _viewer: u64, edition: u64) {
+        self.seen.store(edition, SeqCst);
+        if edition == 0 {
+            self.wait(&self.published, 1);
+        }
+    }
+
+    fn entered(&self, _piece: u64) {
+        self.wait(&self.published, 2);
+    }
+}
+
+const CORRECTED: &[u8] = b"table T (K INT KEY)\nput 1\npublish\nput 2\npublish\n";
+
+const FROM_THE_FIRST: &str =
+    "viewer 1 edition 0\nCOUNT(*)\n0\nviewer 1 edition 1\nCOUNT(*)\n1\nviewer 1 edition 2\nCOUNT(*)\n2\nviewer 1 edition 2\nCOUNT(*)\n2\n";
+
+const FROM_THE_SECOND: &str =
+    "viewer 1 edition 1\nCOUNT(*)\n1\nviewer 1 edition 2\nCOUNT(*)\n2\nviewer 1 edition 2\nCOUNT(*)\n2\nviewer 1 edition 2\nCOUNT(*)\n2\n";
+
+/// The viewer runs beside the keeper, who tells it nothing before the end: its report on edition 1 is of that edition though
+/// edition 2 is published meanwhile, and it meets edition 2 by itself. It may begin before edition 1 is published.
+#[test]
+fn a_viewer_sees_each_edition_beside_its_keeper(rt: HostRuntime) -> Result<(), Fail> {
+    let gate = Turns::new();
+    let query = "SELECT COUNT(*) FROM T";
+    let text = written(&rt, rt.alloc(), CORRECTED, 1, 3, query, &gate)?;
+    let text = text.as_slice();
+    assert!(rt; text == FROM_THE_FIRST.as_bytes() || text == FROM_THE_SECOND.as_bytes());
+    assert_eq!(rt; gate.late.load(SeqCst), 0);
     Ok(())
 }
