@@ -11,8 +11,13 @@ MANY = FIRST + TABLE + "".join(f"put {key},row {key}\n" for key in range(50_000)
 REPORT = FIRST + TABLE + "report SELECT COUNT(*) FROM T\n"
 
 
-def ends(title, text, kilobytes, streams="2> errors", output=FIRST_WRITES, errors=""):
-    case = Case(title, ["run", SCRIPT], {SCRIPT: text, "errors": ""}, output=output, errors=errors, status=3)
+# The threads of viewers, too; that of one alone takes less than 14,000.
+VIEWED = FIRST + TABLE + "put x\n"
+LIVE = ("live", "--query", "SELECT COUNT(*) FROM T")
+
+
+def ends(title, text, kilobytes, streams="2> errors", output=FIRST_WRITES, errors="", command=("run",)):
+    case = Case(title, [*command, SCRIPT], {SCRIPT: text, "errors": ""}, output=output, errors=errors, status=3)
     return case, f'(ulimit -v {kilobytes}; "$@" {streams}); echo $? > status'
 
 
@@ -22,6 +27,10 @@ WRITTEN_TO = [
     # Where the flush fails, too, the line tells why the run ended.
     ends("no memory, and a full disk", MANY, 10_000, "> /dev/full 2> errors", "", "olap: ended 90\n"),
     ends("no thread, and a full disk", REPORT, 6_000, "> /dev/full 2> errors", "", "olap: ended 91\n"),
+    ends("no viewer's thread", VIEWED, 6_000, errors="olap: ended 91\n", command=LIVE),
+    ends("one viewer's thread of two", VIEWED, 14_000, errors="olap: ended 91\n", command=LIVE),
+    ends("no viewer's thread, and a full disk", VIEWED, 6_000, "> /dev/full 2> errors", "", "olap: ended 91\n", LIVE),
+    ends("viewers, and a full disk", VIEWED, "unlimited", "> /dev/full 2> errors", "", "olap: ended 92\n", LIVE),
     # A line that nobody can read changes no status.
     ends("no memory, and nobody reads why", MANY, 10_000, "2> /dev/full"),
     ends("a full disk, and nobody reads why", FIRST, "unlimited", "> /dev/full 2> /dev/full", ""),
