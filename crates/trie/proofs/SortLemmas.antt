@@ -2,7 +2,7 @@
 use Rattle.std.proofs.Common.{◌≡◌, ℕ, ◌+◌, ◌*◌, ◌<◌, ◌≤◌, ◌^◌, Bool, true, false, cond, Some, List, [], ◌∷◌, length, take, add-one, refl, sym, ap, ◌∙◌, arith, inl, inr}
 use Rattle.std.specs.Prelude.{⊤}
 use Rattle.std.specs.Cmp.{IsTotalOrder}
-use Rattle.std.specs.List.{AllByRecursion, filter, fold}
+use Rattle.std.specs.List.{AllByRecursion, filter}
 use Rattle.std.specs.List.Sorted.{IsStableByKey, ties}
 use Rattle.std.specs.Ordering.{eq_by_cmp, is_lt, nat_cmp}
 use Rattle.std.specs.declared.cmp.Ordering.{Ordering}
@@ -10,7 +10,7 @@ use Rattle.std.proofs.Math.Nat.{pow-le-pow_right, pow-suc}
 use Rattle.std.proofs.lemmas.Bool.{cases_Bool}
 use Rattle.std.proofs.lemmas.Cmp.{nat_cmp_total, tied_itself}
 use Rattle.std.proofs.lemmas.List.Sums.{fold-append}
-use Rattle.trie.specs.Digits.{digit, digit_count, digit_order, digits, digits_number, place_count}
+use Rattle.trie.specs.Digits.{digit, digit_count, digit_order, digits, digits_number, first_number, last, place_count}
 use Rattle.trie.specs.Entries.{entry_at, with_pair, with_pairs}
 use Rattle.trie.proofs.DigitsLemmas.{take-digits}
 use Rattle.trie.proofs.FoundLemmas.{entry-with_pair}
@@ -19,8 +19,8 @@ use Rattle.trie.proofs.OrderLemmas.{order_agrees}
 use Rattle.trie.proofs.PairsLemmas.{same_by_entries, with_pairs-sorted}
 
 -- the digits so far as a number, with one digit more
-pub number_more : (hash place number : ℕ) → place < digit_count → number ≡ fold (λ n d. n * place_count + d) 0 (take place (digits hash)) →
-    number * place_count + digit hash place ≡ fold (λ n d. n * place_count + d) 0 (take (place + 1) (digits hash))
+pub number_more : (hash place number : ℕ) → place < digit_count → number ≡ first_number hash place →
+    number * place_count + digit hash place ≡ first_number hash (place + 1)
 number_more hash place number low is =
     rw (take-digits hash place low, fold-append (λ n d. n * place_count + d) 0 (take place (digits hash)) (digit hash place ∷ []), ← is) refl
 
@@ -30,10 +30,10 @@ number_fits number d place small low =
     let step : place_count ^ (place + 1) ≡ place_count ^ place * place_count = rw (add-one, pow-suc place_count place) refl in
     omega (arith, step, small, low)
 
-pub number_bound : (number d place : ℕ) → number < place_count ^ place → d < place_count → place < digit_count → number * place_count + d < 2 ^ 64
+pub number_bound : (number d place : ℕ) → number < place_count ^ place → d < place_count → place < last → number * place_count + d < 2 ^ 64
 number_bound number d place small low within =
     let fits = number_fits number d place small low in
-    let most : place_count ^ (place + 1) ≤ 2 ^ 64 = pow-le-pow_right {n = place_count} (omega arith) {i = place + 1} {j = digit_count} (omega (arith, within)) in
+    let most : place_count ^ (place + 1) ≤ place_count ^ last = pow-le-pow_right {n = place_count} (omega arith) {i = place + 1} {j = last} (omega (arith, within)) in
     omega (arith, fits, most)
 
 all_true : {X : Type 0} (xs : List X) → AllByRecursion (λ x. ⊤) xs

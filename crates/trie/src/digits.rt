@@ -3,17 +3,23 @@ ghost use Rattle.std.specs.Prelude.{◌≡◌, ◌+◌, ◌<◌, ◌≤◌, ◌�
 ghost use Rattle.trie.specs.Digits.{digit, digit_count, digits_number, place_count};
 ghost use Rattle.trie.specs.Shapes.{digit_text};
 
-/// How many bits a digit has.
-const BITS: u32 = 4;
+/// How many bits a digit has, but the last one, which has those that are left.
+const BITS: u32 = 5;
 
 /// How many digits a hash has: enough for its 64 bits.
-pub const DIGITS: u32 = 16;
+pub const DIGITS: u32 = 13;
 
 /// How many places a branch has: one for each digit.
 pub const PLACES: usize = 1 << BITS;
 
+/// The place of the last digit.
+const LAST: u32 = DIGITS - 1;
+
+/// How many values the last digit may have.
+const LAST_VALUES: u64 = 1 << (u64::BITS - BITS * LAST);
+
 /// A bit for each place of a branch.
-pub type Bitmap = u16;
+pub type Bitmap = u32;
 
 /// The first digits of a hash, the low digit first.
 #[derive(Clone, Copy)]
@@ -88,18 +94,19 @@ fn digit_at(hash: u64, place: u32) -> usize
     (hash >> (BITS * place)) as usize % PLACES
 }
 
-/// All digits as one number, the first of them in front: such numbers rise as digits do.
+/// All digits as one number, the first of them in front: such numbers rise as digits do. The last digit has no
+/// more room than its bits, so the number has as many bits as the hash.
 pub fn digits_number(hash: u64) -> u64
     ensures { result ≡ digits_number hash }
 {
     let mut number = 0;
-    for place in 0..DIGITS {
+    for place in 0..LAST {
         number = number * PLACES as u64 + digit_at(hash, place) as u64;
     }
-    number
+    number * LAST_VALUES + digit_at(hash, LAST) as u64
 }
 
-/// A digit as a character: `0` to `9`, then `a` to `v`, which serve for up to 32 places.
+/// A digit as a character: `0` to `9`, then `a` to `v`.
 pub fn digit_text(digit: u8) -> char
     requires { digit < place_count }
     ensures { result ≡ digit_text digit }

@@ -1,7 +1,10 @@
 use Rattle.std.proofs.Common.{◌≡◌, ◌∙◌, refl, rules}
 use Rattle.trie.specs.Digits.{digit}
-use Rattle.trie.proofs.SpreadLemmas.{spread_pushed}
+use Rattle.trie.proofs.SpreadLemmas.{spread_none, spread_pushed}
 use Rattle.trie.proofs.build.spread.Goals as goal
+
+pub loop-pair-init : goal.loop-pair-init
+loop-pair-init g c = spread_none c.args.depth c.args.pairs.now _ c.in_ok-parts.ensures
 
 pub loop-pair-preserved : goal.loop-pair-preserved
 loop-pair-preserved g c =

@@ -1,7 +1,5 @@
-use Rattle.std.proofs.Common.{arith, rules}
-use Rattle.std.proofs.lemmas.List.{take_all}
-use Rattle.trie.specs.Digits.{digits}
-use Rattle.trie.proofs.DigitsLemmas.{length-digits}
+use Rattle.std.proofs.Common.{◌<◌, arith, rules}
+use Rattle.trie.specs.Digits.{digit_count}
 use Rattle.trie.proofs.SortLemmas.{number_bound, number_fits, number_more}
 use Rattle.trie.proofs.digits.digits_number.Goals as goal
 
@@ -17,13 +15,9 @@ overflow_add-number c =
 
 pub loop-place-preserved : goal.loop-place-preserved
 loop-place-preserved c =
-    let more = number_more c.args.hash c.loop-place.place c.loop-place.number (search rules) c.loop-place.invariant.is in
+    let low : c.loop-place.place < digit_count = omega arith in
+    let more = number_more c.args.hash c.loop-place.place c.loop-place.number low c.loop-place.invariant.is in
     record {
       is = rw c.digit_at.ensures.value more;
       small = number_fits c.loop-place.number c.digit_at.result c.loop-place.place c.loop-place.invariant.small c.digit_at.ensures.bound;
     }
-
-pub returns : goal.returns
-returns c =
-    let all = take_all c.loop-place.place (digits c.args.hash) (omega (arith, length-digits c.args.hash)) in
-    rw all at c.loop-place.invariant.is

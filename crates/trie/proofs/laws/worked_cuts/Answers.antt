@@ -19,6 +19,10 @@ pub returns-clause-all_digits : goal.returns-clause-all_digits
 unfolding digits cut_below
 returns-clause-all_digits c = refl
 
+pub returns-clause-more_than_one : goal.returns-clause-more_than_one
+unfolding digits cut_below
+returns-clause-more_than_one c = refl
+
 pub returns-clause-more_than_two : goal.returns-clause-more_than_two
 unfolding digits cut_below
 returns-clause-more_than_two c = refl
@@ -26,3 +30,7 @@ returns-clause-more_than_two c = refl
 pub returns-clause-more_than_three : goal.returns-clause-more_than_three
 unfolding digits cut_below
 returns-clause-more_than_three c = refl
+
+pub returns-clause-more_than_four : goal.returns-clause-more_than_four
+unfolding digits cut_below
+returns-clause-more_than_four c = refl
