@@ -1,5 +1,5 @@
 //! The shape of a map: the prefixes of digits that its keys share.
-ghost use Rattle.std.specs.Prelude.{◌≡◌, ◌-◌, ◌<◌, ◌++◌, ◌∷◌, [], IfOk, Some, length, nat_eq};
+ghost use Rattle.std.specs.Prelude.{◌≡◌, ◌-◌, ◌<◌, ◌++◌, ◌∷◌, [], IfOk, None, Some, false, get_or, length, nat_eq};
 ghost use Rattle.std.specs.Cmp;
 ghost use Rattle.std.specs.Cmp.Lexicographic.{nat_list_eq_equiv, pointwise};
 ghost use Rattle.std.specs.List.{flat_map};
@@ -11,7 +11,7 @@ ghost use Rattle.trie.specs.Shapes.{prefix_text, shape_below, shape_of};
 ghost use Rattle.trie.specs.Tree.{entries_in, IsPlace};
 
 use crate::digits::{Bitmap, PLACES, digit_text};
-use crate::node::{Node, Seen, child_at, has};
+use crate::node::{Node, Seen, child_at};
 use cells::KeyHash;
 use std::alloc::{AllocError, Global};
 use std::fmt;
@@ -143,7 +143,7 @@ fn with_shape<K: Ord, V, H: KeyHash<K>>(
         } => {
             let mut shape = with_number(alloc, list, prefix, *len)?;
             for digit in 0..PLACES {
-                if !has(*bitmap, digit) {
+                if !is_shared(*bitmap, children, digit) {
                     continue;
                 }
                 let (place, longer) = step::<K, V, H>(alloc, *bitmap, children, prefix, digit)?;
@@ -152,6 +152,19 @@ fn with_shape<K: Ord, V, H: KeyHash<K>>(
             Ok(shape)
         }
     }
+}
+
+/// Whether two keys or more share the prefix that ends in this digit. Below an empty place there is none and below a leaf
+/// one, so no prefix is made for them.
+fn is_shared<K, V>(bitmap: Bitmap, children: &Vec<Arc<Node<K, V>>>, digit: usize) -> bool
+    requires digit { digit < place_count }
+    requires dense { IsDense bitmap (length children.now.items) }
+    ensures { result ≡ false → length (entries_in (get_or (places_in bitmap children.now.items) digit None)) < 2 }
+{
+    let Some(node) = child_at(bitmap, children, digit) else {
+        return false;
+    };
+    !matches!(&**node, Node::Leaf(_))
 }
 
 /// The list with a prefix and its number behind it.

@@ -114,7 +114,8 @@ impl<K: Ord, V, H: KeyHash<K>> Trie<K, V, H> {
         let _ = &self.root;
     }
 
-    /// The shape, which depends on the keys alone.
+    /// The shape, which depends on the keys alone. It goes over the nodes once, and asks for memory for the prefixes that
+    /// keys share alone.
     pub fn shape(&self, alloc: Global) -> Result<Shape, AllocError>
         ensures { IfOk result (λ v. v.items ≡ shape_of H.hash_of (keys_of self.now)) }
     {
