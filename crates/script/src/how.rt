@@ -42,7 +42,7 @@ impl Default for How {
 }
 
 impl How {
-    /// A run of so many workers (1 to 64), with this cutting (a depth of 0 to 16), whose draft may have
+    /// A run of so many workers (1 to 64), with this cutting (a depth of 0 to 13), whose draft may have
     /// so many rows (1 to 4,294,967,296). None exactly where a number lies outside its range.
     pub fn new(workers: u64, cutting: Cutting, rows: u64) -> Option<How>
         ensures range { IsSome result ↔ AreInRange workers cutting rows }
