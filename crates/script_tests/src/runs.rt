@@ -26,7 +26,7 @@ publish now
 const BY_PLAIN: &str = "line 6 edition 1
 K | COUNT(*)
 2 | 1
-18 | 1
+34 | 1
 NULL | 2
 line 7 edition 1
 - 2
@@ -37,7 +37,7 @@ line 8 refused 3
 const BY_FNV: &str = "line 6 edition 1
 K | COUNT(*)
 2 | 1
-18 | 1
+34 | 1
 NULL | 2
 line 7 edition 1
 - 2
@@ -45,7 +45,7 @@ e 2
 line 8 refused 3
 ";
 
-const PART: &[u8] = b"K\n2\n18\n";
+const PART: &[u8] = b"K\n2\n34\n";
 
 #[test]
 fn a_script_is_run(rt: HostRuntime) -> Result<(), Fail> {

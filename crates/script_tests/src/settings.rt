@@ -8,10 +8,10 @@ type Numbers = (u64, u8, u64, bool);
 
 const NUMBERS: [Numbers; 7] = [
     (1, 0, 1, true),
-    (64, 16, 4_294_967_296, true),
+    (64, 13, 4_294_967_296, true),
     (0, 0, 1, false),
     (65, 0, 1, false),
-    (1, 17, 1, false),
+    (1, 14, 1, false),
     (1, 0, 0, false),
     (1, 0, 4_294_967_297, false),
 ];

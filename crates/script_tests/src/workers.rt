@@ -84,8 +84,8 @@ impl Gate for Hold {
     }
 }
 
-/// A table of keys with two first digits, and so of two pieces at depth 1.
-const TWO_PIECES: &[u8] =
+/// A table of keys with three first digits, and so of three pieces at depth 1.
+const THREE_PIECES: &[u8] =
     b"table T (K INT KEY)\nput 1\nput 17\nput 33\nput 2\npublish\nreport SELECT COUNT(*) FROM T";
 
 const COUNTED: &str = "line 7 edition 1\nCOUNT(*)\n4\n";
@@ -111,7 +111,7 @@ const ROLLED_UP: &str =
 
 /// A table is cut as deep as can be.
 const DEEP: Cutting = Cutting {
-    depth: 16,
+    depth: 13,
     small: 0,
 };
 
@@ -134,7 +134,7 @@ fn writes<R: Threads + Wait + Sync>(
 fn two_workers_answer_a_report_at_the_same_time(rt: HostRuntime) -> Result<(), Fail> {
     let how = How::of(2, CUTTING, 100);
     let hold = Hold::new();
-    assert!(rt; writes(&rt, rt.alloc(), &hold, &how, TWO_PIECES, COUNTED)?);
+    assert!(rt; writes(&rt, rt.alloc(), &hold, &how, THREE_PIECES, COUNTED)?);
     assert!(rt; hold.pieces.is_met());
     let hold = Hold::new();
     assert!(rt; writes(&rt, rt.alloc(), &hold, &how, SALES, ROLLED_UP)?);
@@ -152,12 +152,12 @@ fn two_workers_read_parts_at_the_same_time(rt: HostRuntime) -> Result<(), Fail> 
     Ok(())
 }
 
-/// The table is cut as the run is told: each of its four keys is a piece of its own at depth 16.
+/// The table is cut as the run is told: each of its four keys is a piece of its own at depth 13.
 #[test]
 fn a_report_is_of_the_pieces_of_the_cutting(rt: HostRuntime) -> Result<(), Fail> {
     let how = How::of(2, DEEP, 100);
     let hold = Hold::new();
-    assert!(rt; writes(&rt, rt.alloc(), &hold, &how, TWO_PIECES, COUNTED)?);
+    assert!(rt; writes(&rt, rt.alloc(), &hold, &how, THREE_PIECES, COUNTED)?);
     assert_eq!(rt; hold.entered.load(SeqCst), 4);
     Ok(())
 }

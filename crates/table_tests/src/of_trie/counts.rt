@@ -56,12 +56,12 @@ fn check_steps<H: KeyHash<Cell>>(
 /// 0 and 2 ^ 60 differ in the last digit alone.
 const FAR: i64 = 1_152_921_504_606_846_976;
 
-/// 1 is a leaf. 17 shares its first digit: the root, a branch below it and a leaf. A put of a key
+/// 1 is a leaf. 33 shares its first digit: the root, a branch below it and a leaf. A put of a key
 /// that is there makes the nodes on its path anew.
 #[test]
 fn near_keys(rt: HostRuntime) -> Result<(), Fail> {
-    let steps = [(1, 1), (17, 3), (2, 2), (17, 3)];
-    let back = [(3, 0), (33, 0), (17, 1), (2, 0), (1, 0)];
+    let steps = [(1, 1), (33, 3), (2, 2), (33, 3)];
+    let back = [(3, 0), (65, 0), (33, 1), (2, 0), (1, 0)];
     check_steps::<Plain>(&rt, rt.alloc(), &steps, &back)
 }
 
@@ -69,14 +69,14 @@ fn near_keys(rt: HostRuntime) -> Result<(), Fail> {
 /// the root, shared and not made anew.
 #[test]
 fn far_keys(rt: HostRuntime) -> Result<(), Fail> {
-    check_steps::<Plain>(&rt, rt.alloc(), &[(0, 1), (FAR, 17)], &[(FAR, 0), (0, 0)])
+    check_steps::<Plain>(&rt, rt.alloc(), &[(0, 1), (FAR, 14)], &[(FAR, 0), (0, 0)])
 }
 
 /// Keys of one hash: a branch for each digit and a bucket, and a leaf once one key is left.
 #[test]
 fn keys_of_one_hash(rt: HostRuntime) -> Result<(), Fail> {
-    let back = [(9, 0), (3, 17), (5, 1), (4, 0)];
-    check_steps::<One>(&rt, rt.alloc(), &[(5, 1), (3, 17), (4, 17)], &back)
+    let back = [(9, 0), (3, 14), (5, 1), (4, 0)];
+    check_steps::<One>(&rt, rt.alloc(), &[(5, 1), (3, 14), (4, 14)], &back)
 }
 
 /// The pairs, as cells.
@@ -104,12 +104,12 @@ fn is_made<H: KeyHash<Cell>>(
 }
 
 /// Pairs, and the map of them where each integer is its own hash: its entries and its nodes. Of pairs of one key the last
-/// makes one leaf; 1 and 17 share their first digit.
+/// makes one leaf; 1 and 33 share their first digit.
 const PAIRS: [(&[(i64, i64)], &str, u64); 4] = [
     (&[], "", 0),
     (&[(5, 1), (5, 2), (5, 3)], "5 3;", 1),
-    (&[(17, 1), (1, 2), (2, 3), (17, 4)], "1 2;17 4;2 3;", 5),
-    (&[(FAR, 1), (0, 2)], "0 2;1152921504606846976 1;", 18),
+    (&[(33, 1), (1, 2), (2, 3), (33, 4)], "1 2;33 4;2 3;", 5),
+    (&[(FAR, 1), (0, 2)], "0 2;1152921504606846976 1;", 15),
 ];
 
 const ONE_HASH: [(i64, i64); 4] = [(5, 1), (3, 2), (4, 3), (3, 4)];
@@ -119,6 +119,6 @@ fn maps_made_at_once(rt: HostRuntime) -> Result<(), Fail> {
     for (pairs, entries, nodes) in &PAIRS {
         assert!(rt; is_made::<Plain>(rt.alloc(), pairs, entries, *nodes)?);
     }
-    assert!(rt; is_made::<One>(rt.alloc(), &ONE_HASH, "3 4;4 3;5 1;", 17)?);
+    assert!(rt; is_made::<One>(rt.alloc(), &ONE_HASH, "3 4;4 3;5 1;", 14)?);
     Ok(())
 }

@@ -65,12 +65,12 @@ fn is_within<H: KeyHash<Cell>>(
 
 /// One key beside a thousand, and nothing beside a thousand.
 const RANGES: [Ranges; 2] = [
-    ((1, 1_001), (5_000, 5_001), 1_001, 17),
+    ((1, 1_001), (5_000, 5_001), 1_001, 14),
     ((1, 1_001), (0, 0), 1_000, 0),
 ];
 
 /// Two buckets of one hash: its branches and one bucket are made.
-const BUCKETS: Ranges = ((0, 500), (500, 1_000), 1_000, 17);
+const BUCKETS: Ranges = ((0, 500), (500, 1_000), 1_000, 14);
 
 #[test]
 fn maps_are_shared_when_they_are_merged(rt: HostRuntime) -> Result<(), Fail> {
@@ -128,9 +128,9 @@ fn shared<H: KeyHash<Cell>>(
 /// The second map's entries are shared: laid over a branch, under one, beside another branch, and in a bucket.
 #[test]
 fn later_entries_are_shared(rt: HostRuntime) -> Result<(), Fail> {
-    assert!(rt; shared::<Plain>(&rt, rt.alloc(), &[1, 17, 2], &[17])? == 3);
-    assert!(rt; shared::<Plain>(&rt, rt.alloc(), &[17], &[1, 17, 2])? == 3);
-    assert!(rt; shared::<Plain>(&rt, rt.alloc(), &[1, 17, 2], &[17, 2, 3])? == 4);
+    assert!(rt; shared::<Plain>(&rt, rt.alloc(), &[1, 33, 2], &[33])? == 3);
+    assert!(rt; shared::<Plain>(&rt, rt.alloc(), &[33], &[1, 33, 2])? == 3);
+    assert!(rt; shared::<Plain>(&rt, rt.alloc(), &[1, 33, 2], &[33, 2, 3])? == 4);
     assert!(rt; shared::<One>(&rt, rt.alloc(), &[1, 2], &[2, 3])? == 3);
     Ok(())
 }
@@ -172,20 +172,20 @@ fn stay_when_merged(
     if pieces_at_last(alloc, &both)? != 3 {
         return Ok(false);
     }
-    if !is_shown(alloc, one, "1 1;17 2;")? {
+    if !is_shown(alloc, one, "1 1;33 2;")? {
         return Ok(false);
     }
-    if !is_shown(alloc, other, "17 20;33 40;")? {
+    if !is_shown(alloc, other, "33 20;65 40;")? {
         return Ok(false);
     }
-    is_shown(alloc, &both, "1 1;17 20;33 40;")
+    is_shown(alloc, &both, "1 1;33 20;65 40;")
 }
 
 /// Whatever a merge and a split answer, both maps stay; made again, the calls succeed. The later value stands.
 #[test]
 fn both_stay_after_a_refusal(rt: HostRuntime) -> Result<(), Fail> {
-    let one = filled::<Plain>(&rt, rt.alloc(), &[(1, 1), (17, 2)])?;
-    let other = filled::<Plain>(&rt, rt.alloc(), &[(17, 20), (33, 40)])?;
+    let one = filled::<Plain>(&rt, rt.alloc(), &[(1, 1), (33, 2)])?;
+    let other = filled::<Plain>(&rt, rt.alloc(), &[(33, 20), (65, 40)])?;
     assert!(rt; stay_when_merged(&rt, rt.alloc(), &one, &other)?);
     Ok(())
 }

@@ -48,12 +48,13 @@ fn lent(
 
 /// How the keys 1, 17, 33 and 2 are cut, by depth and by the number that is small: how many entries each piece lends, and
 /// its first key, in digit order.
-const CUTS: [(u8, u64, &[(u64, i64)]); 5] = [
+const CUTS: [(u8, u64, &[(u64, i64)]); 6] = [
     (0, 0, &[(4, 1)]),
-    (1, 0, &[(3, 1), (1, 2)]),
-    (2, 0, &[(1, 1), (1, 17), (1, 33), (1, 2)]),
-    (MAX_DEPTH, 0, &[(1, 1), (1, 17), (1, 33), (1, 2)]),
-    (MAX_DEPTH, 3, &[(3, 1), (1, 2)]),
+    (1, 0, &[(2, 1), (1, 2), (1, 17)]),
+    (2, 0, &[(1, 1), (1, 33), (1, 2), (1, 17)]),
+    (MAX_DEPTH, 0, &[(1, 1), (1, 33), (1, 2), (1, 17)]),
+    (MAX_DEPTH, 2, &[(2, 1), (1, 2), (1, 17)]),
+    (MAX_DEPTH, 3, &[(2, 1), (1, 2), (1, 17)]),
 ];
 
 /// Whether the pieces lend so much.

@@ -56,14 +56,14 @@ fn shape_of(alloc: Global, map: &Map) -> Result<String, AllocError> {
 
 /// Changes, one after another, and what is seen of each version: its entries, by the low digit first, and its shape.
 const VERSIONS: [(Change, &str, &str); 8] = [
-    (Put(17, 5), "17 5;", ""),
-    (Put(2, 20), "17 5;2 20;", "- 2;"),
-    (Share, "17 5;2 20;", "- 2;"),
-    (Put(1, 10), "1 10;17 5;2 20;", "- 3;1 2;"),
-    (Put(16, 7), "16 7;1 10;17 5;2 20;", "- 4;1 2;"),
-    (Put(1, 11), "16 7;1 11;17 5;2 20;", "- 4;1 2;"),
-    (Remove(17), "16 7;1 11;2 20;", "- 3;"),
-    (Remove(33), "16 7;1 11;2 20;", "- 3;"),
+    (Put(33, 5), "33 5;", ""),
+    (Put(2, 20), "33 5;2 20;", "- 2;"),
+    (Share, "33 5;2 20;", "- 2;"),
+    (Put(1, 10), "1 10;33 5;2 20;", "- 3;1 2;"),
+    (Put(32, 7), "32 7;1 10;33 5;2 20;", "- 4;1 2;"),
+    (Put(1, 11), "32 7;1 11;33 5;2 20;", "- 4;1 2;"),
+    (Remove(33), "32 7;1 11;2 20;", "- 3;"),
+    (Remove(65), "32 7;1 11;2 20;", "- 3;"),
 ];
 
 /// The version after each change.
@@ -107,10 +107,10 @@ fn ends_in(alloc: Global, map: &Map, digits: &[u8]) -> Result<(usize, bool), All
 /// What each map is known for may be named of it, and a prefix has the digits that it shows.
 #[test]
 fn shapes_have_prefixes(rt: HostRuntime) -> Result<(), Fail> {
-    let two = filled::<Plain>(&rt, rt.alloc(), &[(0xab, 0), (0x1ab, 0)])?;
+    let two = filled::<Plain>(&rt, rt.alloc(), &[(331, 0), (1_355, 0)])?;
     two.keys_rise();
     assert!(rt; !two.is_empty());
-    assert_eq!(rt; ends_in(rt.alloc(), &two, &[0xb, 0xa])?, (3, true));
+    assert_eq!(rt; ends_in(rt.alloc(), &two, &[11, 10])?, (3, true));
     Ok(())
 }
 
@@ -118,6 +118,6 @@ fn shapes_have_prefixes(rt: HostRuntime) -> Result<(), Fail> {
 #[test]
 fn shape_of_one_hash(rt: HostRuntime) -> Result<(), Fail> {
     let map = filled::<One>(&rt, rt.alloc(), &[(3, 0), (1, 0)])?;
-    assert_eq!(rt; map.shape(rt.alloc())?.len(), 17);
+    assert_eq!(rt; map.shape(rt.alloc())?.len(), 14);
     Ok(())
 }
