@@ -7,7 +7,7 @@ from cases.table import scripts
 EXAMPLES = pathlib.Path(__file__).resolve().parent.parent.parent / "examples"
 
 OPTIONS = [
-    ("--workers", workers, "--depth", "16", "--rows", "100", "--hash", hash)
+    ("--workers", workers, "--depth", "13", "--rows", "100", "--hash", hash)
     for workers in ("1", "2", "7", "64")
     for hash in ("fnv", "plain")
 ]

@@ -6,8 +6,8 @@ from cases.table import lines, script, scripts
 WAYS = [
     (),
     ("--depth", "0"),
-    ("--depth", "16", "--workers", "2"),
-    ("--depth", "16", "--workers", "7", "--hash", "plain"),
+    ("--depth", "13", "--workers", "2"),
+    ("--depth", "13", "--workers", "7", "--hash", "plain"),
     ("--depth", "2", "--small", "3", "--workers", "64", "--hash", "plain"),
 ]
 

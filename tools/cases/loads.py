@@ -13,7 +13,7 @@ HASHES = ("fnv", "plain")
 
 
 def options(workers, hash, rows):
-    return "--workers", str(workers), "--depth", "16", "--rows", str(rows), "--hash", hash
+    return "--workers", str(workers), "--depth", "13", "--rows", str(rows), "--hash", hash
 
 
 # The parts, the most rows of the draft, and the lines.

@@ -6,7 +6,7 @@ TABLE = "table T (K INT KEY)\n"
 COUNT = "report SELECT COUNT(*) FROM T\n"
 TWO = TABLE + "put 1\nput 2\npublish\n" + COUNT
 TWO_WRITES = "line 5 edition 1\nCOUNT(*)\n2\n"
-SHAPE = TABLE + "put 2\nput 18\npublish\nshape\n"
+SHAPE = TABLE + "put 2\nput 34\npublish\nshape\n"
 LOAD = TABLE + "load 1 2\nload 3\npublish\n" + COUNT
 ONE_CSV = "k\n1\n"
 TWO_CSV = b'\xef\xbb\xbfK\r\n"1"\r\n2\r\n'
@@ -59,7 +59,7 @@ RUNS = [
     ),
     run(
         "all options at their greatest",
-        ["--workers", "64", "--depth=16", "--small", "18446744073709551615", "--rows", "2", "two.olap"],
+        ["--workers", "64", "--depth=13", "--small", "18446744073709551615", "--rows", "2", "two.olap"],
         {"two.olap": TWO},
         TWO_WRITES,
     ),
@@ -92,7 +92,7 @@ REFUSED = [
         ["run", "--workers", "65", "two.olap"],
         f"error: '--workers' takes a number from 1 to 64{MORE}",
     ),
-    refused("depth 17", ["run", "--depth", "17", "two.olap"], f"error: '--depth' takes a number from 0 to 16{MORE}"),
+    refused("depth 14", ["run", "--depth", "14", "two.olap"], f"error: '--depth' takes a number from 0 to 13{MORE}"),
     refused(
         "a number with a sign",
         ["run", "--small=-1", "two.olap"],

@@ -112,10 +112,10 @@ SHAPES = [
             "put 17",
             "put 33",
             "publish",
-            ("shape", block(1, "- 3", "1 3")),
+            ("shape", block(1, "- 3", "1 2")),
             "delete 33",
             "publish",
-            ("shape", block(2, "- 2", "1 2")),
+            ("shape", block(2, "- 2")),
             "delete 17",
             "publish",
             ("shape", block(3)),
@@ -148,14 +148,14 @@ SHAPES = [
         [
             "table T (K INT KEY)",
             "put 10",
-            "put 26",
+            "put 42",
             "put 171",
-            "put 4283",
+            "put 203",
             "publish",
             ("shape", block(1, "- 4", "a 2", "b 2")),
         ],
     ),
-    # The hash of both keys is their length, 2, so they share all 16 digits.
+    # The hash of both keys is their length, 2, so they share all 13 digits.
     (
         "keys of one hash",
         [
@@ -163,7 +163,7 @@ SHAPES = [
             "put ab",
             "put cd",
             "publish",
-            ("shape", block(1, "- 2", *("2" + "0" * digits + " 2" for digits in range(16)))),
+            ("shape", block(1, "- 2", *("2" + "0" * digits + " 2" for digits in range(13)))),
         ],
     ),
     # These share all but the last digit.
@@ -174,7 +174,7 @@ SHAPES = [
             "put 0",
             "put 1152921504606846976",
             "publish",
-            ("shape", block(1, "- 2", *("0" * digits + " 2" for digits in range(1, 16)))),
+            ("shape", block(1, "- 2", *("0" * digits + " 2" for digits in range(1, 13)))),
         ],
     ),
 ]

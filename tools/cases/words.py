@@ -5,7 +5,7 @@ from cases.table import Case, Text
 MORE = "\n\nFor more information, try '--help'.\n"
 RANGES = {
     "workers": "a number from 1 to 64",
-    "depth": "a number from 0 to 16",
+    "depth": "a number from 0 to 13",
     "small": "a number from 0 to 18446744073709551615",
     "rows": "a number from 1 to 4294967296",
     "hash": "fnv or plain",
@@ -41,7 +41,7 @@ def help(line, has):
 
 OPTIONS = [
     job("run S P"),
-    job("run --workers 7 --depth=16 S --small 5 --hash plain --rows 9 P P"),
+    job("run --workers 7 --depth=13 S --small 5 --hash plain --rows 9 P P"),
     job("run S --workers 1"),
     job("run S --workers 64"),
     beyond("run S --workers 0", "workers"),
@@ -52,8 +52,8 @@ OPTIONS = [
     beyond("run S --workers one", "workers"),
     job("run S --workers 007"),
     job("run S --depth 0"),
-    job("run S --depth 16"),
-    beyond("run S --depth 17", "depth"),
+    job("run S --depth 13"),
+    beyond("run S --depth 14", "depth"),
     beyond("run S --depth 256", "depth"),
     job("run S --small 0"),
     job("run S --small 18446744073709551615"),
@@ -68,7 +68,7 @@ OPTIONS = [
     beyond("run S --hash FNV", "hash"),
     # Of two values out of range the first is told, in the order workers, depth, small, rows, hash.
     beyond("run S --hash md5 --rows 0", "rows"),
-    beyond("run S --rows 0 --depth 17", "depth"),
+    beyond("run S --rows 0 --depth 14", "depth"),
     job("run -- --workers"),
     viewed("live S --query Q"),
     viewed("live S --query="),
@@ -117,7 +117,7 @@ HELP = [
     help("help run", RUN),
     help("run --help", "\nExample:\n"),
     help("run --help", ", 1 to 64 [default: 1]\n"),
-    help("run --help", ", 0 to 16 [default: 1]\n"),
+    help("run --help", ", 0 to 13 [default: 1]\n"),
     help("run --help", ", 1 to 4294967296 [default: 4294967296]\n"),
     help("run --help", " are cut [default: 0]\n"),
     help("live --help", LIVE),

@@ -188,7 +188,7 @@ REPORTS = [
     ),
 ]
 
-OPTIONS = [("--depth", depth, "--hash", hash) for depth in ("0", "1", "16") for hash in ("fnv", "plain")]
+OPTIONS = [("--depth", depth, "--hash", hash) for depth in ("0", "1", "13") for hash in ("fnv", "plain")]
 
 CASES = [
     case

@@ -21,7 +21,7 @@ SALES = [
     ),
 ]
 
-# As many pieces at depth 16.
+# As many pieces at depth 13.
 SEVENTY = [
     "table T (K INT KEY, V INT)",
     *(f"put {key},{key % 3}" for key in range(70)),
@@ -71,7 +71,7 @@ DIFFERENT = [
     ),
 ]
 
-# Four keys, of which three share their first digit where a key is its own hash.
+# Four keys, of which two share their first digit where a key is its own hash.
 FOUR = [
     "table T (K INT KEY)",
     *(f"put {key}" for key in (1, 17, 33, 2)),
@@ -89,9 +89,9 @@ def options(rows, depths):
     ]
 
 
-CASES = lines_by("four sales", SALES, [SALES_PART], options("100", ("0", "1", "16")))
-CASES += lines_by("seventy rows", SEVENTY, options=options("100", ("0", "1", "16")))
+CASES = lines_by("four sales", SALES, [SALES_PART], options("100", ("0", "1", "13")))
+CASES += lines_by("seventy rows", SEVENTY, options=options("100", ("0", "1", "13")))
 CASES += lines_by("ten editions", TEN, options=options("20", ("1",)))
 CASES += lines_by("a corrected row", CORRECTED, options=options("20", ("1",)))
-CASES += lines_by("different cells", DIFFERENT, PARTS, options("200", ("0", "16")))
-CASES += lines_by("every depth", FOUR, options=options("9", [str(depth) for depth in range(17)]))
+CASES += lines_by("different cells", DIFFERENT, PARTS, options("200", ("0", "13")))
+CASES += lines_by("every depth", FOUR, options=options("9", [str(depth) for depth in range(14)]))
