@@ -11,11 +11,12 @@ use Rattle.aggs.specs.Extremes.{greatest_any_order, greatest_joins, greatest_kep
 use Rattle.aggs.specs.Reducing.{merged}
 use Rattle.aggs.specs.Room.{MayJoin}
 use Rattle.aggs.specs.Sums.{sum_any_order, sum_joins, sum_or_zero, sum_room, sum_unit, summed, sums}
-use Rattle.aggs.specs.Values.{IsNoText, cell_total, count, different_count, greater, greatest, greatest_of, least, least_of, lesser, present, row_count, sum, sum_of, total_or_null}
+use Rattle.aggs.specs.Values.{IsNoText, count, different_count, greater, greatest, greatest_of, least, least_of, lesser, present, row_count, sum, sum_of, total_or_null}
 use Rattle.aggs.specs.declared.acc.Acc.{Acc}
 use Rattle.aggs.specs.declared.acc.Acc.TheVariants as acc
 use Rattle.aggs.specs.declared.acc.Kind.{Kind}
 use Rattle.aggs.specs.declared.acc.Kind.TheVariants as kind
+use Rattle.cells.specs.TotalOrder.{cell_total}
 use Rattle.cells.specs.declared.cell.Cell.{Cell}
 use Rattle.cells.specs.declared.total.Total.{Total}
 use Rattle.cells.specs.declared.total.Total.TheVariants as total

@@ -4,6 +4,7 @@ use Rattle.std.specs.List.{reduce}
 use Rattle.std.specs.Ordering.{is_lt}
 use Rattle.std.specs.Set.{distinct_count}
 use Rattle.cells.specs.CellOrder.{cell_cmp, cell_eq}
+use Rattle.cells.specs.TotalOrder.{cell_total}
 use Rattle.cells.specs.declared.cell.Cell.{Cell}
 use Rattle.cells.specs.declared.cell.Cell.TheVariants.{Null, Int, Text}
 use Rattle.cells.specs.declared.total.Total.{Total}
@@ -32,12 +33,7 @@ lesser a b = if is_lt (cell_cmp b a) then b else a
 abbrev pub greater : Cell → Cell → Cell
 greater a b = if is_lt (cell_cmp a b) then b else a
 
--- a cell, and what there may be, as a value: where there is nothing, NULL
-abbrev pub cell_total : Cell → Total
-cell_total Null = total.Null
-cell_total (Int n) = total.Int n
-cell_total (Text t) = total.Text t
-
+-- what there may be, as a value: where there is nothing, NULL
 abbrev pub total_or_null : {A : Type 0} → (A → Total) → Option A → Total
 total_or_null as_total None = total.Null
 total_or_null as_total (Some x) = as_total x

@@ -1,7 +1,8 @@
 //! What MIN and MAX share: a cell that may be there.
 ghost use Rattle.std.specs.Prelude.{◌≡◌, IfOk};
 ghost use Rattle.std.specs.Option.{option_copied};
-ghost use Rattle.aggs.specs.Values.{cell_total, total_or_null};
+ghost use Rattle.aggs.specs.Values.{total_or_null};
+ghost use Rattle.cells.specs.TotalOrder.{cell_total};
 
 use cells::{Cell, Total};
 use std::alloc::AllocError;

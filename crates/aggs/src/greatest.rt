@@ -3,7 +3,8 @@ ghost use Rattle.std.specs.Prelude.{◌≡◌, ⊤, refl};
 ghost use Rattle.std.specs.Option.{option_copied};
 ghost use Rattle.aggs.specs.Extremes;
 ghost use Rattle.aggs.specs.Reducing.{merged};
-ghost use Rattle.aggs.specs.Values.{cell_total, greater, greatest, greatest_of, total_or_null};
+ghost use Rattle.aggs.specs.Values.{greater, greatest, greatest_of, total_or_null};
+ghost use Rattle.cells.specs.TotalOrder.{cell_total};
 
 use crate::aggregate::Aggregate;
 use crate::extreme::{copied, total_of};

@@ -19,6 +19,7 @@ pub mod Spelling
 pub mod Tables
 pub mod TextOrder
 pub mod Texts
+pub mod TotalOrder
 pub mod TupleOrder
 pub mod Updates
 pub mod Values
