@@ -2,25 +2,27 @@
 -- do, but in the logic, where memory is never wanting.
 use Rattle.std.proofs.Common.{◌≡◌, ◌≢◌, ℕ, zero, suc, ◌<◌, ◌≤◌, Bool, true, false, List, [], ◌∷◌, length, Option, Some, None, ◌⊎◌, inl, inr, refl, sym, ap, ◌∙◌, arith}
 use Rattle.std.specs.Prelude.{codes}
+use Rattle.std.proofs.lemmas.Bool.{cases_Bool}
 use Rattle.cells.specs.declared.token.Token.{Token}
 use Rattle.cells.specs.declared.token.Token.TheVariants.{Word}
-use Rattle.query.specs.Ends.{SpellsEnd, SpellsFrom, SpellsLast, SpellsTail, Whole}
-use Rattle.query.specs.Grammar.{Separated, SpellsElement, SpellsFactor, SpellsItem, SpellsLiteral, SpellsName, SpellsOperand, SpellsPredicate, SpellsPrimary, SpellsQuery, SpellsTerm, SpellsTest, SpellsUnit, AND, BETWEEN, BY, CUBE, FROM, GROUP, GROUPING, IN, IS, NOT, NULL, OR, ROLLUP, SELECT, SETS, WHERE, comma, lparen, rparen}
-use Rattle.query.specs.Phrases.{NullAfter, RangeAfter, TestAfter, comparison_at, item_at, literal_at, name_at, operand_at}
+use Rattle.query.specs.Ends.{SpellsBy, SpellsEnd, SpellsFrom, SpellsGrouped, SpellsLast, SpellsTail, Whole}
+use Rattle.query.specs.Grammar.{Separated, SpellsElement, SpellsFactor, SpellsItem, SpellsLiteral, SpellsName, SpellsOperand, SpellsPredicate, SpellsPrimary, SpellsQuery, SpellsTerm, SpellsTest, SpellsUnit, AND, BETWEEN, BY, CUBE, FROM, GROUP, GROUPING, HAVING, IN, IS, NOT, NULL, OR, ROLLUP, SELECT, SETS, WHERE, comma, lparen, rparen}
+use Rattle.query.specs.Leaves.{begins_leaf, item_begins, name_begins}
+use Rattle.query.specs.Phrases.{NullAfter, RangeAfter, TestAfter, begins_literal, comparison_at, item_at, literal_at, name_at}
 use Rattle.query.specs.Reading.{AfterAnd, AfterOr, Any, BeginsNot, BeginsNotCall, Ends, Marked, Starts}
 use Rattle.query.specs.Trees.{Empty}
-use Rattle.query.specs.Values.{all_rows}
+use Rattle.query.specs.Values.{no_having}
 use Rattle.query.specs.declared.test.Comparison.{Comparison}
 use Rattle.query.specs.declared.test.Operand.{Operand}
 use Rattle.query.specs.declared.test.Test.TheVariants as test
 use Rattle.query.proofs.Decisions.{Begins, BeginsBoth, Decided, begins_both, begins_call, begins_close, begins_comma, begins_open, begins_word, computed_phrase, ended, list_decided, no_phrase, one_phrase, tail_same, turned}
 use Rattle.query.proofs.Elements.{element_cube, element_empty, element_rollup, element_sets, element_unit}
-use Rattle.query.proofs.Ends.{elements_end, elements_no_end, elements_none, from_name, from_no_name, groups_by, groups_none, groups_other, query_items, query_no_items, query_none, tail_no_where, tail_none, tail_where}
+use Rattle.query.proofs.Ends.{by_mark, from_name, from_no_name, grouped_by, grouped_no_by, grouped_none, having_by, having_none, having_other, predicate_end, predicate_no_end, predicate_none, query_items, query_no_items, query_none, tail_no_where, tail_none, tail_where}
 use Rattle.query.proofs.ItemsLemmas.{item_grouping}
-use Rattle.query.proofs.PhrasesLemmas.{item_computes, literal_computes, name_computes, operand_computes}
+use Rattle.query.proofs.PhrasesLemmas.{item_computes, literal_computes, name_computes}
 use Rattle.query.proofs.Predicates.{factor_not, factor_plain, or_ends_and, paren_ends, predicate_terms, primary_parens, primary_test, term_factors}
 use Rattle.query.proofs.Shorter.{shorter_element, shorter_factor, shorter_item, shorter_literal, shorter_name, shorter_term, shorter_unit}
-use Rattle.query.proofs.TestsLemmas.{marked, null_found, null_nothing, range_list, range_low, range_no_low, range_nothing, test_compare, test_is, test_no_operand, test_operand, test_range, unmarked}
+use Rattle.query.proofs.TestsLemmas.{marked, null_found, null_nothing, operand_leaf, operand_literal, range_list, range_low, range_no_low, range_nothing, test_compare, test_is, test_no_operand, test_operand, test_range, unmarked}
 use Rattle.query.proofs.Units.{unit_one, unit_several}
 
 comma_may : (r : List Token) → Ends comma Any (rparen ∷ r)
@@ -98,103 +100,126 @@ elements_decided ts = elements_within (length ts) (element_within (length ts)) t
 literal_decided : (ts : List Token) → Decided (Starts SpellsLiteral Any ts)
 literal_decided ts = computed_phrase SpellsLiteral ts (literal_at ts) (literal_computes ts)
 
-operand_decided : (ts : List Token) → Decided (Starts SpellsOperand Any ts)
-operand_decided ts = computed_phrase SpellsOperand ts (operand_at ts) (operand_computes ts)
-
 marked_of : (w : List ℕ) (us : List Token) → (stands : Bool) × (vs : List Token) × Marked (Word w) us stands vs
 marked_of w us = after (begins_word w us) where
   after : Begins (Word w) us → (stands : Bool) × (vs : List Token) × Marked (Word w) us stands vs
   after (inl h) = (true, h.0, marked (Word w) us h.0 h.1)
   after (inr other) = (false, us, unmarked (Word w) us other)
 
-module _ (a : Operand (List ℕ)) (us : List Token) where
-  null_by : (not : Bool) (vs : List Token) → Marked NOT us not vs → Begins NULL vs → Decided (NullAfter a us)
-  null_by not vs m (inl h) = one_phrase (test.IsNull a not) h.0 (null_found a us not vs m h.0 h.1)
-  null_by not vs m (inr other) = no_phrase (null_nothing a us not vs m other)
+-- ---- operands, by their leaves
+module _ {C : Type 0} {Leaf : List Token → C → List Token → Type 0} (begins : (ts : List Token) (c : C) (rest : List Token) → Leaf ts c rest → begins_leaf ts ≡ true)
+    (shorter_leaf : (ts : List Token) (c : C) (rest : List Token) → Leaf ts c rest → length rest < length ts) (leaf_decided : (ts : List Token) → Decided (Starts Leaf Any ts)) where
+  operand_decided : (ts : List Token) → Decided (Starts (SpellsOperand Leaf) Any ts)
+  operand_decided ts = elim (cases_Bool (begins_literal ts)) [
+    | inl is ↦ turned (operand_literal begins ts is) (literal_decided ts)
+    | inr other ↦ turned (operand_leaf ts other) (leaf_decided ts)
+  ]
 
-  null_decided : Decided (NullAfter a us)
-  null_decided = let m = marked_of (codes "NOT") us in null_by m.0 m.1 m.2 (begins_word (codes "NULL") m.1)
+  module _ (a : Operand C) (us : List Token) where
+    null_by : (not : Bool) (vs : List Token) → Marked NOT us not vs → Begins NULL vs → Decided (NullAfter a us)
+    null_by not vs m (inl h) = one_phrase (test.IsNull a not) h.0 (null_found a us not vs m h.0 h.1)
+    null_by not vs m (inr other) = no_phrase (null_nothing a us not vs m other)
 
-  module _ (not : Bool) where
-    low_by : (more : List Token) → us ≡ BETWEEN ∷ more → Decided (λ l r. SpellsOperand more l (AND ∷ r)) → Decided (RangeAfter a not us)
-    low_by more e (one_phrase low vs h) = turned (range_low a us not more e low vs h) (operand_decided vs)
-    low_by more e (no_phrase h) = no_phrase (range_no_low a us not more e h)
+    null_decided : Decided (NullAfter a us)
+    null_decided = let m = marked_of (codes "NOT") us in null_by m.0 m.1 m.2 (begins_word (codes "NULL") m.1)
 
-    list_by : BeginsNot BETWEEN us → BeginsBoth IN lparen us → Decided (RangeAfter a not us)
-    list_by b (inl h) = turned (range_list a us not h.0 h.1) (list_in SpellsLiteral shorter_literal literal_decided h.0)
-    list_by b (inr i) = no_phrase (range_nothing a us not b i)
+    module _ (not : Bool) where
+      low_by : (more : List Token) → us ≡ BETWEEN ∷ more → Decided (λ l r. SpellsOperand Leaf more l (AND ∷ r)) → Decided (RangeAfter Leaf a not us)
+      low_by more e (one_phrase low vs h) = turned (range_low a us not more e low vs h) (operand_decided vs)
+      low_by more e (no_phrase h) = no_phrase (range_no_low a us not more e h)
 
-    range_by : Begins BETWEEN us → Decided (RangeAfter a not us)
-    range_by (inl h) = low_by h.0 h.1 (ended SpellsOperand Any AND (begins_word (codes "AND")) h.0 (λ r. tt) (operand_decided h.0))
-    range_by (inr b) = list_by b (begins_call (codes "IN") us)
+      list_by : BeginsNot BETWEEN us → BeginsBoth IN lparen us → Decided (RangeAfter Leaf a not us)
+      list_by b (inl h) = turned (range_list a us not h.0 h.1) (list_in SpellsLiteral shorter_literal literal_decided h.0)
+      list_by b (inr i) = no_phrase (range_nothing a us not b i)
 
-    range_decided : Decided (RangeAfter a not us)
-    range_decided = range_by (begins_word (codes "BETWEEN") us)
+      range_by : Begins BETWEEN us → Decided (RangeAfter Leaf a not us)
+      range_by (inl h) = low_by h.0 h.1 (ended (SpellsOperand Leaf) Any AND (begins_word (codes "AND")) h.0 (λ r. tt) (operand_decided h.0))
+      range_by (inr b) = list_by b (begins_call (codes "IN") us)
 
-module _ (a : Operand (List ℕ)) (us : List Token) where
-  is_by : comparison_at us ≡ None → Begins IS us → Decided (TestAfter a us)
-  is_by e (inl h) = turned (test_is a us h.0 h.1) (null_decided a h.0)
-  is_by e (inr other) = let m = marked_of (codes "NOT") us in turned (test_range a us e other m.0 m.1 m.2) (range_decided a m.1 m.0)
+      range_decided : Decided (RangeAfter Leaf a not us)
+      range_decided = range_by (begins_word (codes "BETWEEN") us)
 
-  compare_by : (o : Option (Comparison × List Token)) → comparison_at us ≡ o → Decided (TestAfter a us)
-  compare_by None e = is_by e (begins_word (codes "IS") us)
-  compare_by (Some x) e = turned (test_compare a us x.0 x.1 e) (operand_decided x.1)
+  module _ (a : Operand C) (us : List Token) where
+    is_by : comparison_at us ≡ None → Begins IS us → Decided (TestAfter Leaf a us)
+    is_by e (inl h) = turned (test_is a us h.0 h.1) (null_decided a h.0)
+    is_by e (inr other) = let m = marked_of (codes "NOT") us in turned (test_range a us e other m.0 m.1 m.2) (range_decided a m.1 m.0)
 
-test_by : (ts : List Token) → Decided (Starts SpellsOperand Any ts) → Decided (Starts SpellsTest Any ts)
-test_by ts (one_phrase a us h) = turned (test_operand ts a us h) (compare_by a us (comparison_at us) refl)
-test_by ts (no_phrase h) = no_phrase (test_no_operand ts h)
+    compare_by : (o : Option (Comparison × List Token)) → comparison_at us ≡ o → Decided (TestAfter Leaf a us)
+    compare_by None e = is_by e (begins_word (codes "IS") us)
+    compare_by (Some x) e = turned (test_compare a us x.0 x.1 e) (operand_decided x.1)
 
-test_decided : (ts : List Token) → Decided (Starts SpellsTest Any ts)
-test_decided ts = test_by ts (operand_decided ts)
+  test_by : (ts : List Token) → Decided (Starts (SpellsOperand Leaf) Any ts) → Decided (Starts (SpellsTest Leaf) Any ts)
+  test_by ts (one_phrase a us h) = turned (test_operand ts a us h) (compare_by a us (comparison_at us) refl)
+  test_by ts (no_phrase h) = no_phrase (test_no_operand ts h)
 
--- ---- predicates, by their primaries
-module _ (most : ℕ) (primary : (us : List Token) → length us ≤ most → Decided (Starts SpellsPrimary Any us)) where
-  factor_by : (ts : List Token) → length ts ≤ most → Begins NOT ts → Decided (Starts SpellsFactor Any ts)
-  factor_by ts le (inl h) = turned (factor_not ts h.0 h.1) (primary h.0 (omega (arith, ap length h.1)))
-  factor_by ts le (inr other) = turned (factor_plain ts other) (primary ts le)
+  test_decided : (ts : List Token) → Decided (Starts (SpellsTest Leaf) Any ts)
+  test_decided ts = test_by ts (operand_decided ts)
 
-  factor : (ts : List Token) → length ts ≤ most → Decided (Starts SpellsFactor Any ts)
-  factor ts le = factor_by ts le (begins_word (codes "NOT") ts)
+  -- ---- predicates, by their primaries
+  module _ (most : ℕ) (primary : (us : List Token) → length us ≤ most → Decided (Starts (SpellsPrimary Leaf) Any us)) where
+    factor_by : (ts : List Token) → length ts ≤ most → Begins NOT ts → Decided (Starts (SpellsFactor Leaf) Any ts)
+    factor_by ts le (inl h) = turned (factor_not begins ts h.0 h.1) (primary h.0 (omega (arith, ap length h.1)))
+    factor_by ts le (inr other) = turned (factor_plain ts other) (primary ts le)
 
-  term : (ts : List Token) → length ts ≤ most → Decided (Starts SpellsTerm AfterAnd ts)
-  term ts le = turned (term_factors ts) (list_decided AND (begins_word (codes "AND")) SpellsFactor Any (λ us. tt) shorter_factor most factor ts le)
+    factor : (ts : List Token) → length ts ≤ most → Decided (Starts (SpellsFactor Leaf) Any ts)
+    factor ts le = factor_by ts le (begins_word (codes "NOT") ts)
 
-  predicate_within : (ts : List Token) → length ts ≤ most → Decided (Starts SpellsPredicate AfterOr ts)
-  predicate_within ts le = turned (predicate_terms ts) (list_decided OR (begins_word (codes "OR")) SpellsTerm AfterAnd or_ends_and shorter_term most term ts le)
+    term : (ts : List Token) → length ts ≤ most → Decided (Starts (SpellsTerm Leaf) AfterAnd ts)
+    term ts le = turned (term_factors ts) (list_decided AND (begins_word (codes "AND")) (SpellsFactor Leaf) Any (λ us. tt) (shorter_factor shorter_leaf) most factor ts le)
 
-primary_by : (ts : List Token) → ((more : List Token) → length more < length ts → Decided (λ p r. SpellsPredicate more p (rparen ∷ r))) → Begins lparen ts → Decided (Starts SpellsPrimary Any ts)
-primary_by ts inner (inl h) = turned (primary_parens ts h.0 h.1) (inner h.0 (omega (arith, ap length h.1)))
-primary_by ts inner (inr other) = turned (primary_test ts other) (test_decided ts)
+    predicate_within : (ts : List Token) → length ts ≤ most → Decided (Starts (SpellsPredicate Leaf) AfterOr ts)
+    predicate_within ts le = turned (predicate_terms ts) (list_decided OR (begins_word (codes "OR")) (SpellsTerm Leaf) AfterAnd or_ends_and (shorter_term shorter_leaf) most term ts le)
 
-primary_within : (n : ℕ) (ts : List Token) → length ts ≤ n → Decided (Starts SpellsPrimary Any ts)
-primary_within zero ts le = primary_by ts (λ more lt. absurd (omega arith)) (begins_open ts)
-primary_within (suc n) ts le = primary_by ts (λ more lt. ended SpellsPredicate AfterOr rparen begins_close more paren_ends (predicate_within n (primary_within n) more (omega arith))) (begins_open ts)
+  primary_by : (ts : List Token) → ((more : List Token) → length more < length ts → Decided (λ p r. SpellsPredicate Leaf more p (rparen ∷ r))) → Begins lparen ts → Decided (Starts (SpellsPrimary Leaf) Any ts)
+  primary_by ts inner (inl h) = turned (primary_parens begins ts h.0 h.1) (inner h.0 (omega (arith, ap length h.1)))
+  primary_by ts inner (inr other) = turned (primary_test ts other) (test_decided ts)
 
-predicate_decided : (ts : List Token) → Decided (Starts SpellsPredicate AfterOr ts)
-predicate_decided ts = predicate_within (length ts) (primary_within (length ts)) ts (omega arith)
+  primary_within : (n : ℕ) (ts : List Token) → length ts ≤ n → Decided (Starts (SpellsPrimary Leaf) Any ts)
+  primary_within zero ts le = primary_by ts (λ more lt. absurd (omega arith)) (begins_open ts)
+  primary_within (suc n) ts le = primary_by ts (λ more lt. ended (SpellsPredicate Leaf) AfterOr rparen begins_close more paren_ends (predicate_within n (primary_within n) more (omega arith))) (begins_open ts)
+
+  predicate_decided : (ts : List Token) → Decided (Starts (SpellsPredicate Leaf) AfterOr ts)
+  predicate_decided ts = predicate_within (length ts) (primary_within (length ts)) ts (omega arith)
 
 -- ---- the parts that end the tokens
-whole_by : (ts : List Token) → Decided (Starts (Separated comma SpellsElement) (Ends comma Any) ts) → Decided (Whole SpellsLast ts)
-whole_by ts (one_phrase es [] h) = one_phrase es [] (elements_end ts es [] h refl)
-whole_by ts (one_phrase es (u ∷ us) h) = no_phrase (elements_no_end ts es (u ∷ us) h (λ e. let bad : u ∷ us ≡ [] = e in cc))
-whole_by ts (no_phrase h) = no_phrase (elements_none ts h)
+last_by : (ts : List Token) → Decided (Starts (SpellsPredicate SpellsItem) AfterOr ts) → Decided (Whole SpellsLast ts)
+last_by ts (one_phrase p [] h) = one_phrase p [] (predicate_end ts p [] h refl)
+last_by ts (one_phrase p (u ∷ us) h) = no_phrase (predicate_no_end ts p (u ∷ us) h (λ e. let bad : u ∷ us ≡ [] = e in cc))
+last_by ts (no_phrase h) = no_phrase (predicate_none ts h)
 
-groups_by_words : (ts : List Token) → ts ≢ [] → BeginsBoth GROUP BY ts → Decided (Whole SpellsEnd ts)
-groups_by_words ts any (inl h) = let m = marked_of (codes "DISTINCT") h.0 in turned (groups_by ts h.0 h.1 m.0 m.1 m.2) (whole_by m.1 (elements_decided m.1))
-groups_by_words ts any (inr other) = no_phrase (groups_other ts any other)
+last_decided : (ts : List Token) → Decided (Whole SpellsLast ts)
+last_decided ts = last_by ts (predicate_decided item_begins shorter_item item_decided ts)
 
-groups_decided : (ts : List Token) → Decided (Whole SpellsEnd ts)
-groups_decided [] = one_phrase all_rows [] (groups_none [] refl)
-groups_decided (t ∷ ts) = groups_by_words (t ∷ ts) (λ e. let bad : t ∷ ts ≡ [] = e in cc) (begins_both GROUP BY (begins_word (codes "GROUP")) (begins_word (codes "BY")) (t ∷ ts))
+having_by_word : (ts : List Token) → ts ≢ [] → Begins HAVING ts → Decided (Whole SpellsEnd ts)
+having_by_word ts some (inl h) = turned (having_by ts h.0 h.1) (last_decided h.0)
+having_by_word ts some (inr other) = no_phrase (having_other ts some other)
+
+having_decided : (ts : List Token) → Decided (Whole SpellsEnd ts)
+having_decided [] = one_phrase no_having [] (having_none [] refl)
+having_decided (t ∷ ts) = having_by_word (t ∷ ts) (λ e. let bad : t ∷ ts ≡ [] = e in cc) (begins_word (codes "HAVING") (t ∷ ts))
+
+by_decided : (ts : List Token) → Decided (Starts SpellsBy (Ends comma Any) ts)
+by_decided ts = let m = marked_of (codes "DISTINCT") ts in turned (by_mark ts m.0 m.1 m.2) (elements_decided m.1)
+
+grouped_by_elements : (ts more : List Token) → ts ≡ GROUP ∷ BY ∷ more → Decided (Starts SpellsBy (Ends comma Any) more) → Decided (Whole SpellsGrouped ts)
+grouped_by_elements ts more e (one_phrase groups rest h) = turned (grouped_by ts more e groups rest h) (having_decided rest)
+grouped_by_elements ts more e (no_phrase h) = no_phrase (grouped_no_by ts more e h)
+
+grouped_by_words : (ts : List Token) → BeginsBoth GROUP BY ts → Decided (Whole SpellsGrouped ts)
+grouped_by_words ts (inl h) = grouped_by_elements ts h.0 h.1 (by_decided h.0)
+grouped_by_words ts (inr other) = turned (grouped_none ts other) (having_decided ts)
+
+grouped_decided : (ts : List Token) → Decided (Whole SpellsGrouped ts)
+grouped_decided ts = grouped_by_words ts (begins_both GROUP BY (begins_word (codes "GROUP")) (begins_word (codes "BY")) ts)
 
 module _ (ts : List Token) where
-  where_by : (more : List Token) → ts ≡ WHERE ∷ more → Decided (Starts SpellsPredicate AfterOr more) → Decided (Whole SpellsTail ts)
-  where_by more e (one_phrase p behind h) = turned (tail_where ts more e p behind h) (groups_decided behind)
+  where_by : (more : List Token) → ts ≡ WHERE ∷ more → Decided (Starts (SpellsPredicate SpellsName) AfterOr more) → Decided (Whole SpellsTail ts)
+  where_by more e (one_phrase p behind h) = turned (tail_where ts more e p behind h) (grouped_decided behind)
   where_by more e (no_phrase h) = no_phrase (tail_no_where ts more e h)
 
   tail_by : Begins WHERE ts → Decided (Whole SpellsTail ts)
-  tail_by (inl h) = where_by h.0 h.1 (predicate_decided h.0)
-  tail_by (inr other) = turned (tail_none ts other) (groups_decided ts)
+  tail_by (inl h) = where_by h.0 h.1 (predicate_decided name_begins shorter_name name_decided h.0)
+  tail_by (inr other) = turned (tail_none ts other) (grouped_decided ts)
 
   tail_decided : Decided (Whole SpellsTail ts)
   tail_decided = tail_by (begins_word (codes "WHERE") ts)

@@ -1,104 +1,188 @@
 -- The parts of a query that end its tokens: what each rule turns into.
-use Rattle.std.proofs.Common.{◌≡◌, ◌≢◌, ℕ, Bool, List, [], ◌∷◌, Option, Some, None, refl, sym, ap, ◌∙◌, subst}
-use Rattle.std.specs.Prelude.{codes}
+use Rattle.std.proofs.Common.{◌≡◌, ◌≢◌, ℕ, Bool, false, List, [], ◌∷◌, Option, Some, None, refl, sym, ap, ◌∙◌, subst}
+use Rattle.std.specs.Prelude.{bytes_eq, codes}
 use Rattle.cells.specs.declared.token.Token.{Token}
+use Rattle.cells.specs.declared.token.Token.TheVariants.{Word}
 use Rattle.query.specs.Trees.{ElementTree, PredicateTree}
-use Rattle.query.specs.Values.{FromTree, GroupsTree, QueryTree, all_rows, from_tree, query_tree}
-use Rattle.query.specs.Grammar.{Separated, SpellsItem, SpellsName, SpellsElement, SpellsPredicate, SpellsWhere, no_where, where_predicate, SpellsGroups, no_groups, group_by, SpellsMark, SpellsQuery, query, comma, AND, OR, BY, DISTINCT, FROM, GROUP, SELECT, WHERE}
+use Rattle.query.specs.Values.{FromTree, GroupedTree, GroupsTree, HavingTree, QueryTree, all_rows, from_tree, no_having, query_tree}
+use Rattle.query.specs.Grammar.{Separated, SpellsItem, SpellsName, SpellsElement, SpellsPredicate, SpellsWhere, no_where, where_predicate, SpellsGroups, no_groups, group_by, SpellsHaving, without_having, having, SpellsMark, SpellsQuery, query, comma, BY, DISTINCT, FROM, GROUP, HAVING, SELECT, WHERE}
+use Rattle.query.specs.Having.{having_of}
 use Rattle.query.specs.Reading.{AfterOr, Any, BeginsNot, Ends, Marked, Starts, Found, Nothing}
-use Rattle.query.specs.Ends.{SpellsEnd, SpellsFrom, SpellsLast, SpellsTail, Whole}
+use Rattle.query.specs.Ends.{SpellsBy, SpellsEnd, SpellsFrom, SpellsGrouped, SpellsLast, SpellsTail, Whole}
 use Rattle.query.specs.declared.item.Item.{Item}
 use Rattle.query.specs.declared.test.Test.{Test}
 use Rattle.query.proofs.Elements.{elements_head}
 use Rattle.query.proofs.Lists.{Turns}
 use Rattle.query.proofs.TestsLemmas.{words_differ}
 
+-- the predicates of WHERE, and those of HAVING
 abbrev P : Type 0
 P = PredicateTree (Test (List ℕ))
 
--- ---- GROUP BY at the end
-pub groups_none : (ts : List Token) → ts ≡ [] → Found (Whole SpellsEnd ts) all_rows []
-groups_none ts e = record {
-  is = record { spells = subst (λ v. SpellsGroups v all_rows []) (sym e) no_groups; ended = refl };
-  only = λ g r s. (inside s.spells e, s.ended);
-} where
-  inside : {us r : List Token} {g : GroupsTree} → SpellsGroups us g r → us ≡ [] → g ≡ all_rows
-  inside no_groups f = refl
-  inside (group_by m h) f = absurd cc
+abbrev H : Type 0
+H = PredicateTree (Test (Item (List ℕ)))
 
+-- ---- with what the end begins
+-- the tokens are none, or begin with HAVING or GROUP
+data BeginsEnd : List Token → Type 0 where
+  at_end : BeginsEnd []
+  at_having : {more : List Token} → BeginsEnd (HAVING ∷ more)
+  at_group : {more : List Token} → BeginsEnd (GROUP ∷ more)
+
+-- hence with no other word
+no_word : {ts : List Token} (w : List ℕ) → bytes_eq (codes "HAVING") w ≡ false → bytes_eq (codes "GROUP") w ≡ false → BeginsEnd ts → BeginsNot (Word w) ts
+no_word w h g at_end = λ r e. let bad : [] ≡ Word w ∷ r = e in cc
+no_word w h g (at_having {more = more}) = λ r e. words_differ (codes "HAVING") w more r h e
+no_word w h g (at_group {more = more}) = λ r e. words_differ (codes "GROUP") w more r g e
+
+no_comma : {ts : List Token} → BeginsEnd ts → Ends comma Any ts
+no_comma at_end = record { no_more = λ r e. let bad : [] ≡ comma ∷ r = e in cc; apart = tt }
+no_comma at_having = record { no_more = λ r e. let bad : HAVING ≡ comma = cc in cc; apart = tt }
+no_comma at_group = record { no_more = λ r e. let bad : GROUP ≡ comma = cc in cc; apart = tt }
+
+after_or : {ts : List Token} → BeginsEnd ts → AfterOr ts
+after_or b = record { no_more = no_word (codes "OR") refl refl b; apart = record { no_more = no_word (codes "AND") refl refl b; apart = tt } }
+
+having_begins : {ts r : List Token} {h : HavingTree} → SpellsHaving ts h r → r ≡ [] → BeginsEnd ts
+having_begins without_having z = subst BeginsEnd (sym z) at_end
+having_begins (having h) z = at_having
+
+having_not_group : {ts r : List Token} {h : HavingTree} → SpellsHaving ts h r → r ≡ [] → BeginsNot GROUP ts
+having_not_group without_having z = λ more e. let bad : [] ≡ GROUP ∷ more = sym z ∙ e in cc
+having_not_group (having {ts = us} h) z = λ more e. words_differ (codes "HAVING") (codes "GROUP") us more refl e
+
+grouped_begins : {ts us : List Token} {g : GroupsTree} {h : HavingTree} → SpellsGroups ts g us → SpellsEnd us h → BeginsEnd ts
+grouped_begins no_groups h = having_begins h refl
+grouped_begins (group_by m e) h = at_group
+
+-- ---- the predicate of HAVING
+module _ (ts : List Token) where
+  pub predicate_end : (p : H) (rest : List Token) → Found (Starts (SpellsPredicate SpellsItem) AfterOr ts) p rest → rest ≡ [] → Found (Whole SpellsLast ts) p []
+  predicate_end p rest found e = record {
+    is = record { spells = subst (λ v. SpellsPredicate SpellsItem ts p v) e (found.is).spells; ended = refl };
+    only = λ q r s. ((found.only q [] (record { spells = s.spells; apart = after_or at_end })).0, s.ended);
+  }
+
+  pub predicate_no_end : (p : H) (rest : List Token) → Found (Starts (SpellsPredicate SpellsItem) AfterOr ts) p rest → rest ≢ [] → Nothing (Whole SpellsLast ts)
+  predicate_no_end p rest found other = record { none = λ q r s. other (sym (found.only q [] (record { spells = s.spells; apart = after_or at_end })).1) }
+
+  pub predicate_none : Nothing (Starts (SpellsPredicate SpellsItem) AfterOr ts) → Nothing (Whole SpellsLast ts)
+  predicate_none nothing = record { none = λ q r s. nothing.none q [] (record { spells = s.spells; apart = after_or at_end }) }
+
+-- ---- HAVING at the end
+pub having_none : (ts : List Token) → ts ≡ [] → Found (Whole SpellsEnd ts) no_having []
+having_none ts e = record {
+  is = record { spells = subst (λ v. SpellsHaving v no_having []) (sym e) without_having; ended = refl };
+  only = λ h r s. (inside s.spells e, s.ended);
+} where
+  inside : {us r : List Token} {h : HavingTree} → SpellsHaving us h r → us ≡ [] → h ≡ no_having
+  inside without_having f = refl
+  inside (having h) f = absurd cc
+
+pub having_by : (ts more : List Token) → ts ≡ HAVING ∷ more → Turns (Whole SpellsEnd ts) (Whole SpellsLast more) having_of
+having_by ts more e = record {
+  to = λ p r h. record { spells = subst (λ v. SpellsHaving v (having_of p) []) (sym e) (having h.spells); ended = h.ended };
+  from = λ x r s. let p = inside s.spells refl e in (p.0, p.1, record { spells = p.2; ended = s.ended });
+} where
+  inside : {us r : List Token} {x : HavingTree} → SpellsHaving us x r → r ≡ [] → us ≡ HAVING ∷ more → (p : H) × (x ≡ having_of p) × SpellsLast more p
+  inside without_having z f = absurd (let bad : [] ≡ HAVING ∷ more = sym z ∙ f in cc)
+  inside {r = r} (having {ts = us} {p = p} h) z f =
+      let same : us ≡ more = cc in
+      (p, refl, subst (λ v. SpellsPredicate SpellsItem v p []) same (subst (λ v. SpellsPredicate SpellsItem us p v) z h))
+
+pub having_other : (ts : List Token) → ts ≢ [] → BeginsNot HAVING ts → Nothing (Whole SpellsEnd ts)
+having_other ts some other = record { none = λ h r s. inside s.spells refl some other } where
+  inside : {us r : List Token} {h : HavingTree} → SpellsHaving us h r → r ≡ [] → us ≢ [] → BeginsNot HAVING us → ⊥
+  inside without_having z f g = f z
+  inside (having {ts = us} h) z f g = g us refl
+
+-- ---- GROUP BY
 -- GROUP BY of these elements, with or without DISTINCT
 abbrev pub by_elements : Bool → List ElementTree → GroupsTree
 by_elements distinct elements = record { distinct = distinct; elements = elements }
 
-module _ (ts more : List Token) (e : ts ≡ GROUP ∷ BY ∷ more) (distinct : Bool) (vs : List Token) (m : Marked DISTINCT more distinct vs) where
-  groups_from : {us r : List Token} {g : GroupsTree} → SpellsGroups us g r → r ≡ [] → us ≡ GROUP ∷ BY ∷ more → (es : List ElementTree) × (g ≡ by_elements distinct es) × SpellsLast vs es
-  groups_from no_groups z f = absurd (let bad : [] ≡ GROUP ∷ BY ∷ more = sym z ∙ f in cc)
-  groups_from {r = r} (group_by {ts = us} {us = ws} {d = d} {es = es} k h) z f =
-      let same : us ≡ more = cc in
-      let parts = m.only d ws (subst (λ v. SpellsMark DISTINCT v d ws) same k) (elements_head h) in
-      (es, ap (λ x. by_elements x es) parts.0, subst (λ v. Separated comma SpellsElement v es []) parts.1 (subst (λ v. Separated comma SpellsElement ws es v) z h))
-
-  pub groups_by : Turns (Whole SpellsEnd ts) (Whole SpellsLast vs) (by_elements distinct)
-  groups_by = record {
-    to = λ es r h. record { spells = subst (λ v. SpellsGroups v (by_elements distinct es) []) (sym e) (group_by m.spells h.spells); ended = h.ended };
-    from = λ g r s. let p = groups_from s.spells refl e in (p.0, p.1, record { spells = p.2; ended = s.ended });
-  }
-
-pub groups_other : (ts : List Token) → ts ≢ [] → ((more : List Token) → ts ≢ GROUP ∷ BY ∷ more) → Nothing (Whole SpellsEnd ts)
-groups_other ts some other = record { none = λ g r s. inside s.spells refl some other } where
-  inside : {us r : List Token} {g : GroupsTree} → SpellsGroups us g r → r ≡ [] → us ≢ [] → ((more : List Token) → us ≢ GROUP ∷ BY ∷ more) → ⊥
-  inside no_groups z f g = f z
-  inside (group_by {ts = us} m h) z f g = g us refl
-
-ends_nothing : Ends comma Any []
-ends_nothing = record { no_more = λ r e. let bad : [] ≡ comma ∷ r = e in cc; apart = tt }
-
-pub elements_end : (ts : List Token) (es : List ElementTree) (rest : List Token) → Found (Starts (Separated comma SpellsElement) (Ends comma Any) ts) es rest → rest ≡ [] → Found (Whole SpellsLast ts) es []
-elements_end ts es rest found e = record {
-  is = record { spells = subst (λ v. Separated comma SpellsElement ts es v) e (found.is).spells; ended = refl };
-  only = λ xs r s. ((found.only xs [] (record { spells = s.spells; apart = ends_nothing })).0, s.ended);
+pub by_mark : (ts : List Token) (distinct : Bool) (vs : List Token) → Marked DISTINCT ts distinct vs → Turns (Starts SpellsBy (Ends comma Any) ts) (Starts (Separated comma SpellsElement) (Ends comma Any) vs) (by_elements distinct)
+by_mark ts distinct vs m = record {
+  to = λ es r h. record { spells = (vs, m.spells, h.spells); apart = h.apart };
+  from = λ g r s.
+      let t = s.spells in
+      let same = m.only g.distinct t.0 t.1 (elements_head t.2) in (
+        g.elements,
+        ap (λ d. by_elements d g.elements) same.0,
+        record { spells = subst (λ v. Separated comma SpellsElement v g.elements r) same.1 t.2; apart = s.apart },
+      );
 }
 
-pub elements_no_end : (ts : List Token) (es : List ElementTree) (rest : List Token) → Found (Starts (Separated comma SpellsElement) (Ends comma Any) ts) es rest → rest ≢ [] → Nothing (Whole SpellsLast ts)
-elements_no_end ts es rest found other = record { none = λ xs r s. other (sym (found.only xs [] (record { spells = s.spells; apart = ends_nothing })).1) }
+-- these groups, and this HAVING
+abbrev pub with_having : GroupsTree → HavingTree → GroupedTree
+with_having groups h = record { groups = groups; having = h }
 
-pub elements_none : (ts : List Token) → Nothing (Starts (Separated comma SpellsElement) (Ends comma Any) ts) → Nothing (Whole SpellsLast ts)
-elements_none ts nothing = record { none = λ xs r s. nothing.none xs [] (record { spells = s.spells; apart = ends_nothing }) }
+by_of : {us r : List Token} {g : GroupsTree} → SpellsGroups us g r → (more : List Token) → us ≡ GROUP ∷ BY ∷ more → BeginsNot GROUP r → SpellsBy more g r
+by_of no_groups more f other = absurd (other (BY ∷ more) f)
+by_of {r = r} (group_by {ts = us} {us = ws} {d = d} {es = es} m h) more f other =
+    let same : us ≡ more = cc in
+    (ws, subst (λ v. SpellsMark DISTINCT v d ws) same m, h)
 
--- what GROUP BY at the end begins with
-groups_head : {ws r : List Token} {g : GroupsTree} → SpellsGroups ws g r → r ≡ [] → AfterOr ws × BeginsNot WHERE ws
-groups_head {r = r} no_groups z = (
-  record { no_more = λ us e. let bad : [] ≡ OR ∷ us = sym z ∙ e in cc; apart = record { no_more = λ us e. let bad : [] ≡ AND ∷ us = sym z ∙ e in cc; apart = tt } },
-  λ us e. let bad : [] ≡ WHERE ∷ us = sym z ∙ e in cc,
-)
-groups_head (group_by {ts = us} m h) z = (
-  record { no_more = λ vs e. words_differ (codes "GROUP") (codes "OR") (BY ∷ us) vs refl e; apart = record { no_more = λ vs e. words_differ (codes "GROUP") (codes "AND") (BY ∷ us) vs refl e; apart = tt } },
-  λ vs e. words_differ (codes "GROUP") (codes "WHERE") (BY ∷ us) vs refl e,
-)
+module _ (ts more : List Token) (e : ts ≡ GROUP ∷ BY ∷ more) where
+  -- GROUP BY, and then HAVING
+  behind_by : (x : GroupedTree) → SpellsGrouped ts x → (us : List Token) × Starts SpellsBy (Ends comma Any) more x.groups us × SpellsEnd us x.having
+  behind_by x s = (s.0, record { spells = by_of s.1 more e (having_not_group s.2 refl); apart = no_comma (having_begins s.2 refl) }, s.2)
 
--- ---- WHERE and GROUP BY at the end
+  pub grouped_by : (groups : GroupsTree) (rest : List Token) → Found (Starts SpellsBy (Ends comma Any) more) groups rest → Turns (Whole SpellsGrouped ts) (Whole SpellsEnd rest) (with_having groups)
+  grouped_by groups rest found = record {
+    to = λ h r s.
+        let b = (found.is).spells in
+        record { spells = (rest, subst (λ v. SpellsGroups v groups rest) (sym e) (group_by b.1 b.2), s.spells); ended = s.ended };
+    from = λ x r s.
+        let b = behind_by x s.spells in
+        let same = found.only x.groups b.0 b.1 in (
+          x.having,
+          ap (λ g. with_having g x.having) same.0,
+          record { spells = subst (λ v. SpellsEnd v x.having) same.1 b.2; ended = s.ended },
+        );
+  }
+
+  pub grouped_no_by : Nothing (Starts SpellsBy (Ends comma Any) more) → Nothing (Whole SpellsGrouped ts)
+  grouped_no_by nothing = record { none = λ x r s. let b = behind_by x s.spells in nothing.none x.groups b.0 b.1 }
+
+pub grouped_none : (ts : List Token) → ((more : List Token) → ts ≢ GROUP ∷ BY ∷ more) → Turns (Whole SpellsGrouped ts) (Whole SpellsEnd ts) (with_having all_rows)
+grouped_none ts other = record {
+  to = λ h r s. record { spells = (ts, no_groups, s.spells); ended = s.ended };
+  from = λ x r s.
+      let t = s.spells in
+      let w = inside t.1 other in (
+        x.having,
+        ap (λ g. with_having g x.having) w.0,
+        record { spells = subst (λ v. SpellsEnd v x.having) w.1 t.2; ended = s.ended },
+      );
+} where
+  inside : {us r : List Token} {g : GroupsTree} → SpellsGroups us g r → ((more : List Token) → us ≢ GROUP ∷ BY ∷ more) → (g ≡ all_rows) × (r ≡ us)
+  inside no_groups f = (refl, refl)
+  inside (group_by {ts = us} m h) f = absurd (f us refl)
+
+-- ---- WHERE at the end, and what follows it
 module _ (ts : List Token) where
-  where_from : (more : List Token) (c : Option P) (g : GroupsTree) (vs ws : List Token) → vs ≡ WHERE ∷ more → SpellsWhere vs c ws → SpellsGroups ws g []
-      → (p : P) × (c ≡ Some p) × Starts SpellsPredicate AfterOr more p ws
-  where_from more c g vs ws e w h = inside w e (groups_head h refl) where
-    inside : {us xs : List Token} {d : Option P} → SpellsWhere us d xs → us ≡ WHERE ∷ more → AfterOr xs × BeginsNot WHERE xs → (p : P) × (d ≡ Some p) × Starts SpellsPredicate AfterOr more p xs
-    inside no_where f h = absurd (h.1 more f)
-    inside {xs = xs} (where_predicate {ts = us} {p = p} k) f h =
+  where_from : (more : List Token) (c : Option P) (g : GroupedTree) (vs ws : List Token) → vs ≡ WHERE ∷ more → SpellsWhere vs c ws → SpellsGrouped ws g
+      → (p : P) × (c ≡ Some p) × Starts (SpellsPredicate SpellsName) AfterOr more p ws
+  where_from more c g vs ws e w h = inside w e (grouped_begins h.1 h.2) where
+    inside : {us xs : List Token} {d : Option P} → SpellsWhere us d xs → us ≡ WHERE ∷ more → BeginsEnd xs → (p : P) × (d ≡ Some p) × Starts (SpellsPredicate SpellsName) AfterOr more p xs
+    inside no_where f b = absurd (no_word (codes "WHERE") refl refl b more f)
+    inside {xs = xs} (where_predicate {ts = us} {p = p} k) f b =
         let same : us ≡ more = cc in
-        (p, refl, record { spells = subst (λ v. SpellsPredicate v p xs) same k; apart = h.0 })
+        (p, refl, record { spells = subst (λ v. SpellsPredicate SpellsName v p xs) same k; apart = after_or b })
 
-  pub tail_where : (more : List Token) → ts ≡ WHERE ∷ more → (p : P) (behind : List Token) → Found (Starts SpellsPredicate AfterOr more) p behind
-      → Turns (Whole SpellsTail ts) (Whole SpellsEnd behind) (λ g. (Some p, g))
+  pub tail_where : (more : List Token) → ts ≡ WHERE ∷ more → (p : P) (behind : List Token) → Found (Starts (SpellsPredicate SpellsName) AfterOr more) p behind
+      → Turns (Whole SpellsTail ts) (Whole SpellsGrouped behind) (λ g. (Some p, g))
   tail_where more e p behind found = record {
     to = λ g r h. record { spells = (behind, subst (λ v. SpellsWhere v (Some p) behind) (sym e) (where_predicate (found.is).spells), h.spells); ended = h.ended };
     from = λ x r s.
         let t = s.spells in
         let w = where_from more x.0 x.1 ts t.0 e t.1 t.2 in
         let same = found.only w.0 t.0 w.2 in
-        (x.1, ap (λ c. (c, x.1)) (w.1 ∙ ap Some same.0), record { spells = subst (λ v. SpellsGroups v x.1 []) same.1 t.2; ended = s.ended });
+        (x.1, ap (λ c. (c, x.1)) (w.1 ∙ ap Some same.0), record { spells = subst (λ v. SpellsGrouped v x.1) same.1 t.2; ended = s.ended });
   }
 
-  pub tail_no_where : (more : List Token) → ts ≡ WHERE ∷ more → Nothing (Starts SpellsPredicate AfterOr more) → Nothing (Whole SpellsTail ts)
+  pub tail_no_where : (more : List Token) → ts ≡ WHERE ∷ more → Nothing (Starts (SpellsPredicate SpellsName) AfterOr more) → Nothing (Whole SpellsTail ts)
   tail_no_where more e nothing = record {
     none = λ x r s.
         let t = s.spells in
@@ -106,13 +190,13 @@ module _ (ts : List Token) where
         nothing.none w.0 t.0 w.2;
   }
 
-  pub tail_none : BeginsNot WHERE ts → Turns (Whole SpellsTail ts) (Whole SpellsEnd ts) (λ g. (None, g))
+  pub tail_none : BeginsNot WHERE ts → Turns (Whole SpellsTail ts) (Whole SpellsGrouped ts) (λ g. (None, g))
   tail_none other = record {
     to = λ g r h. record { spells = (ts, no_where, h.spells); ended = h.ended };
     from = λ x r s.
         let t = s.spells in
         let w = inside t.1 other in
-        (x.1, ap (λ c. (c, x.1)) w.0, record { spells = subst (λ v. SpellsGroups v x.1 []) w.1 t.2; ended = s.ended });
+        (x.1, ap (λ c. (c, x.1)) w.0, record { spells = subst (λ v. SpellsGrouped v x.1) w.1 t.2; ended = s.ended });
   } where
     inside : {us xs : List Token} {d : Option P} → SpellsWhere us d xs → BeginsNot WHERE us → (d ≡ None) × (xs ≡ us)
     inside no_where f = (refl, refl)
@@ -125,9 +209,9 @@ module _ (ts : List Token) where
     from = λ f r s.
         let t = s.spells in
         let same = found.only f.table t.0 (record { spells = t.1; apart = tt }) in (
-          (f.condition, f.groups),
-          ap (λ n. from_tree n (f.condition, f.groups)) same.0,
-          record { spells = subst (λ v. SpellsTail v (f.condition, f.groups)) same.1 t.2; ended = s.ended },
+          (f.condition, f.grouped),
+          ap (λ n. from_tree n (f.condition, f.grouped)) same.0,
+          record { spells = subst (λ v. SpellsTail v (f.condition, f.grouped)) same.1 t.2; ended = s.ended },
         );
   }
 
@@ -137,7 +221,7 @@ module _ (ts : List Token) where
   -- ---- the query
   -- what a query has behind FROM
   abbrev from_of : QueryTree → FromTree
-  from_of q = from_tree q.table (q.condition, q.groups)
+  from_of q = from_tree q.table (q.condition, with_having q.groups q.having)
 
   -- what a query is made of, behind SELECT
   pub record Parts (more : List Token) (q : QueryTree) : Type 0 where
@@ -146,9 +230,9 @@ module _ (ts : List Token) where
     pub others : SpellsFrom behind (from_of q)
 
   parts_of : {us : List Token} {q : QueryTree} → SpellsQuery us q → (more : List Token) → us ≡ SELECT ∷ more → Parts more q
-  parts_of (query {ts = us} {us = vs} {vs = ws} {ws = xs} {items = items} i n w g) more e =
+  parts_of (query {ts = us} {us = vs} {vs = ws} {ws = xs} {xs = ys} {items = items} i n w g h) more e =
       let same : us ≡ more = cc in
-      record { behind = vs; items = subst (λ v. Separated comma SpellsItem v items (FROM ∷ vs)) same i; others = (ws, n, (xs, w, g)) }
+      record { behind = vs; items = subst (λ v. Separated comma SpellsItem v items (FROM ∷ vs)) same i; others = (ws, n, (xs, w, (ys, g, h))) }
 
   pub query_items : (more : List Token) → ts ≡ SELECT ∷ more → (items : List (Item (List ℕ))) (behind : List Token) → Found (λ is r. Separated comma SpellsItem more is (FROM ∷ r)) items behind
       → Turns (Whole SpellsQuery ts) (Whole SpellsFrom behind) (query_tree items)
@@ -156,7 +240,8 @@ module _ (ts : List Token) where
     to = λ x r h.
         let t = h.spells in
         let u = t.2 in
-        record { spells = subst (λ v. SpellsQuery v (query_tree items x)) (sym e) (query found.is t.1 u.1 u.2); ended = h.ended };
+        let g = u.2 in
+        record { spells = subst (λ v. SpellsQuery v (query_tree items x)) (sym e) (query found.is t.1 u.1 g.1 g.2); ended = h.ended };
     from = λ q r s.
         let p = parts_of s.spells more e in
         let same = found.only q.items p.behind p.items in (
@@ -172,4 +257,4 @@ module _ (ts : List Token) where
   pub query_none : BeginsNot SELECT ts → Nothing (Whole SpellsQuery ts)
   query_none other = record { none = λ q r s. inside s.spells other } where
     inside : {us : List Token} {q : QueryTree} → SpellsQuery us q → BeginsNot SELECT us → ⊥
-    inside (query {ts = us} i n w g) f = f us refl
+    inside (query {ts = us} i n w g h) f = f us refl

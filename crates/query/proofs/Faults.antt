@@ -1,7 +1,7 @@
 -- The first fault of a text, where each test of `read` ends it.
 use Rattle.std.proofs.Common.{◌≡◌, ℕ, ◌≤◌, Bool, true, false, ◌||◌, List, [], length, Option, None, Some, ◌⊎◌, inl, inr, refl, sym, ◌∙◌, subst, Result, Ok, Err}
 use Rattle.std.specs.List.{list_any}
-use Rattle.std.specs.Prelude.{MatchOption, MatchResult, nat_lt}
+use Rattle.std.specs.Prelude.{MatchOption, MatchResult, filter, nat_lt}
 use Rattle.std.proofs.lemmas.Option.{none-some, same_Some}
 use Rattle.cells.specs.Reading.{tokens_of}
 use Rattle.cells.specs.declared.refused.Refused.{Refused}
@@ -12,7 +12,7 @@ use Rattle.query.specs.Grammar.{SpellsQuery}
 use Rattle.query.specs.Limits.{item_limit, query_limit}
 use Rattle.query.specs.Queries.{FirstFault, HasTokens, IsQuery, no_query, no_tokens, too_many}
 use Rattle.query.specs.Reading.{Found, Nothing}
-use Rattle.query.specs.Values.{IsKept, QueryTree, has_too_many, is_long}
+use Rattle.query.specs.Values.{IsKept, QueryTree, has_too_many, is_aggregate, is_long, items_of}
 use Rattle.cells.specs.declared.refused.Refused.TheVariants.{Limit}
 use Rattle.query.proofs.Filled.{query_filled}
 
@@ -32,7 +32,7 @@ neither false b e = e
 pub kept_by : (ts : List Token) (q p : QueryTree) → Found (Whole SpellsQuery ts) q [] → (p ≡ q) × (has_too_many p ≡ false) → IsKept p
 kept_by ts q p found few = record {
   filled = query_filled (subst (SpellsQuery ts) (sym few.0) (found.is).spells);
-  short = neither (nat_lt item_limit (length p.items)) (list_any is_long p.items) few.1;
+  short = neither (nat_lt item_limit (length p.items) || nat_lt item_limit (length (filter is_aggregate p.having.items))) (list_any is_long (items_of p)) few.1;
 }
 
 module _ (text : List ℕ) where

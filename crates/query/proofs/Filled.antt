@@ -26,4 +26,4 @@ groups_filled no_groups = (tt, tt)
 groups_filled (group_by m h) = list_filled h
 
 pub query_filled : {ts : List Token} {q : QueryTree} → SpellsQuery ts q → AreFilled q.groups.elements
-query_filled (query i n w g) = groups_filled g
+query_filled (query i n w g h) = groups_filled g

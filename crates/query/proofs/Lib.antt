@@ -2,10 +2,14 @@ pub mod CountsLemmas
 pub mod MarksLemmas
 pub mod GroupedLemmas
 pub mod DifferentLemmas
+pub mod FallsLemmas
+pub mod HavingLemmas
 pub mod HeadingsLemmas
 pub mod PlacesLemmas
 pub mod PlansLemmas
+pub mod ShortLemmas
 pub mod PlanLawsLemmas
+pub mod TypesLemmas
 pub mod Trees
 pub mod Lists
 pub mod PhrasesLemmas

@@ -7,6 +7,11 @@ use Rattle.cells.specs.declared.refused.Refused.TheVariants.{OutOfMemory, QueryS
 use Rattle.query.specs.Grammar.{Separated, last, next}
 use Rattle.query.specs.Reading.{BeginsNot, Ends, ReadsPhrase, Starts, Found, Nothing}
 
+-- a fault of the part is one of the whole, where there is no whole without the part
+pub part_err : {X Y : Type 0} {S : X → List Token → Type 0} {T : Y → List Token → Type 0} {e : Refused} → (Nothing T → Nothing S) → (e ≡ OutOfMemory) ⊎ ((e ≡ QuerySyntax) × Nothing T) → (e ≡ OutOfMemory) ⊎ ((e ≡ QuerySyntax) × Nothing S)
+part_err none (inl memory) = inl memory
+part_err none (inr fault) = inr (fault.0, none fault.1)
+
 -- S is T through f, with the same rest
 pub record Turns {X Y : Type 0} (S : X → List Token → Type 0) (T : Y → List Token → Type 0) (f : Y → X) : Type 0 where
   pub to : (y : Y) (r : List Token) → T y r → S (f y) r
@@ -26,23 +31,22 @@ module _ {X Y : Type 0} {S : X → List Token → Type 0} {T : Y → List Token 
   turn_nothing turns nothing = record { none = λ x r s. let z = turns.from x r s in nothing.none z.0 r z.2 }
 
   pub turn_err : {e : Refused} → Turns S T f → (e ≡ OutOfMemory) ⊎ ((e ≡ QuerySyntax) × Nothing T) → (e ≡ OutOfMemory) ⊎ ((e ≡ QuerySyntax) × Nothing S)
-  turn_err turns (inl memory) = inl memory
-  turn_err turns (inr fault) = inr (fault.0, turn_nothing turns fault.1)
+  turn_err turns = part_err (turn_nothing turns)
 
 -- what the reader of the part answers is what the reader of the whole answers, where it hands it on
 pub turn_reads : {X Y : Type 0} {S T : X → List Token → Type 0} (view : Y → X × List Token) (r : Result Y Refused) → Turns S T (λ x. x) → ReadsPhrase view T r → ReadsPhrase view S r
 turn_reads view (Ok y) turns found = turn_found turns found
 turn_reads view (Err e) turns fault = turn_err turns fault
 
--- what was made beside a value
-pub beside_reads : {A B V : Type 0} {S : A × B → List Token → Type 0} {T : B → List Token → Type 0} (view : V → B) (value : A) (made : Result V Refused) (r : Result (A × V) Refused)
-    → Turns S T (λ y. (value, y)) → ReadsPhrase (λ v. (view v, [])) T made → MatchResult r (λ x. (made ≡ Ok x.1) × (x.0 ≡ value)) (λ e. made ≡ Err e) → ReadsPhrase (λ x. ((x.0, view x.1), [])) S r
-beside_reads {S = S} view value (Ok v) (Ok x) turns found h =
+-- what was made beside a value, and joined to it
+pub beside_reads : {A B X V : Type 0} {S : X → List Token → Type 0} {T : B → List Token → Type 0} (join : A → B → X) (view : V → B) (value : A) (made : Result V Refused) (r : Result (A × V) Refused)
+    → Turns S T (join value) → ReadsPhrase (λ v. (view v, [])) T made → MatchResult r (λ x. (made ≡ Ok x.1) × (x.0 ≡ value)) (λ e. made ≡ Err e) → ReadsPhrase (λ x. (join x.0 (view x.1), [])) S r
+beside_reads {S = S} join view value (Ok v) (Ok x) turns found h =
     let same : v ≡ x.1 = cc in
-    subst (λ a. Found S (a, view x.1) []) (sym h.1) (subst (λ w. Found S (value, view w) []) same (turn_found turns found))
-beside_reads view value (Ok v) (Err e) turns found h = absurd cc
-beside_reads view value (Err f) (Ok x) turns fault h = absurd (let bad : Err f ≡ Ok x.1 = h.0 in cc)
-beside_reads {S = S} view value (Err f) (Err e) turns fault h =
+    subst (λ a. Found S (join a (view x.1)) []) (sym h.1) (subst (λ w. Found S (join value (view w)) []) same (turn_found turns found))
+beside_reads join view value (Ok v) (Err e) turns found h = absurd cc
+beside_reads join view value (Err f) (Ok x) turns fault h = absurd (let bad : Err f ≡ Ok x.1 = h.0 in cc)
+beside_reads {S = S} join view value (Err f) (Err e) turns fault h =
     let same : f ≡ e = cc in
     subst (λ g. (g ≡ OutOfMemory) ⊎ ((g ≡ QuerySyntax) × Nothing S)) same (turn_err turns fault)
 
@@ -71,8 +75,7 @@ module _ {X : Type 0} {Sp : List Token → X → List Token → Type 0} {Apart :
   reads_closed view x behind (Err e) found h = inr (h.0, not_closed found h.1)
 
   pub err_closed : {e : Refused} → (e ≡ OutOfMemory) ⊎ ((e ≡ QuerySyntax) × Nothing (Starts Sp Apart ts)) → (e ≡ OutOfMemory) ⊎ ((e ≡ QuerySyntax) × Nothing (λ y r. Sp ts y (t ∷ r)))
-  err_closed (inl memory) = inl memory
-  err_closed (inr fault) = inr (fault.0, none_closed fault.1)
+  err_closed = part_err none_closed
 
 module _ {X : Type 0} (sep : Token) (Sp : List Token → X → List Token → Type 0) (Apart : List Token → Type 0) (free : (us : List Token) → Apart (sep ∷ us)) where
   -- an element, and a list of them

@@ -11,14 +11,12 @@ use Rattle.cells.specs.declared.refused.Refused.TheVariants.{QuerySyntax}
 use Rattle.cells.specs.declared.token.Token.{Token}
 use Rattle.cells.specs.declared.token.Token.TheVariants.{Word, Number, Quoted, Mark}
 use Rattle.cells.specs.declared.token.Mark.TheVariants.{LeftParen, RightParen, Asterisk, Equals, NotEquals, LessThanOrEquals, GreaterThanOrEquals, LessThan, GreaterThan}
-use Rattle.query.specs.Grammar.{DISTINCT, GROUPING, SpellsName, name, SpellsItem, column, grouping, count_rows, count, count_distinct, sum, min, max, SpellsLiteral, number, text, SpellsOperand, name_operand, literal_operand, SpellsComparison, equal, not_equal, less, less_or_equal, greater, greater_or_equal}
+use Rattle.query.specs.Grammar.{DISTINCT, GROUPING, SpellsName, name, SpellsItem, column, grouping, count_rows, count, count_distinct, sum, min, max, SpellsLiteral, number, text, SpellsComparison, equal, not_equal, less, less_or_equal, greater, greater_or_equal}
 use Rattle.query.specs.declared.test.Literal.{Literal}
 use Rattle.query.specs.declared.test.Literal.TheVariants as literal
-use Rattle.query.specs.declared.test.Operand.{Operand}
-use Rattle.query.specs.declared.test.Operand.TheVariants as operand
 use Rattle.query.specs.declared.test.Comparison.{Comparison}
 use Rattle.query.specs.declared.test.Comparison.TheVariants as comparison
-use Rattle.query.specs.Phrases.{name_at, call_of, call_at, item_at, rows_at, distinct_at, named_at, with_rest, literal_at, operand_at, comparison_at}
+use Rattle.query.specs.Phrases.{name_at, call_of, call_at, item_at, rows_at, distinct_at, named_at, with_rest, literal_at, comparison_at}
 use Rattle.query.specs.Reading.{Any, BeginsNotCall, Starts, ReadsPhrase}
 use Rattle.query.specs.declared.item.Item.{Item}
 use Rattle.query.specs.declared.item.Item.TheVariants as item
@@ -152,7 +150,7 @@ item_sound ts i rest e = absurd (none-some (i, rest) e)
 pub item_computes : (ts : List Token) → BeginsNotCall GROUPING ts → Computes SpellsItem ts (item_at ts)
 item_computes ts other = record { sound = item_sound ts; complete = λ i rest s. item_complete s other }
 
--- ---- literals, operands, comparisons
+-- ---- literals, comparisons
 literal_sound : (ts : List Token) (l : Literal) (rest : List Token) → literal_at ts ≡ Some (l, rest) → SpellsLiteral ts l rest
 literal_sound (Number n ∷ us) l rest e = let parts = some_pair_parts (literal.Int n) l us rest e in rw (sym parts.0, sym parts.1) number
 literal_sound (Quoted t ∷ us) l rest e = let parts = some_pair_parts (literal.Text t) l us rest e in rw (sym parts.0, sym parts.1) text
@@ -164,23 +162,6 @@ literal_complete text = refl
 
 pub literal_computes : (ts : List Token) → Computes SpellsLiteral ts (literal_at ts)
 literal_computes ts = record { sound = literal_sound ts; complete = λ l rest s. literal_complete s }
-
-operand_sound : (ts : List Token) (a : Operand (List ℕ)) (rest : List Token) → operand_at ts ≡ Some (a, rest) → SpellsOperand ts a rest
-operand_sound (Word n ∷ us) a rest e = elim (cases_Bool (is_reserved n)) [
-  | inl reserved ↦ absurd (none-some (a, rest) (rw reserved at e))
-  | inr free ↦ let parts = some_pair_parts (operand.Column n) a us rest (rw free at e) in rw (sym parts.0, sym parts.1) (name_operand (name free))
-]
-operand_sound (Number n ∷ us) a rest e = let parts = some_pair_parts (operand.Literal (literal.Int n)) a us rest e in rw (sym parts.0, sym parts.1) (literal_operand number)
-operand_sound (Quoted t ∷ us) a rest e = let parts = some_pair_parts (operand.Literal (literal.Text t)) a us rest e in rw (sym parts.0, sym parts.1) (literal_operand text)
-operand_sound ts a rest e = absurd (none-some (a, rest) e)
-
-operand_complete : {ts : List Token} {a : Operand (List ℕ)} {rest : List Token} → SpellsOperand ts a rest → operand_at ts ≡ Some (a, rest)
-operand_complete (name_operand (name free)) = rw free refl
-operand_complete (literal_operand number) = refl
-operand_complete (literal_operand text) = refl
-
-pub operand_computes : (ts : List Token) → Computes SpellsOperand ts (operand_at ts)
-operand_computes ts = record { sound = operand_sound ts; complete = λ a rest s. operand_complete s }
 
 pub comparison_sound : (ts : List Token) (c : Comparison) (rest : List Token) → comparison_at ts ≡ Some (c, rest) → SpellsComparison ts c rest
 comparison_sound (Mark Equals ∷ us) c rest e = let parts = some_pair_parts comparison.Equal c us rest e in rw (sym parts.0, sym parts.1) equal

@@ -1,5 +1,5 @@
 -- What holds of the plan of a query without faults.
-use Rattle.std.proofs.Common.{◌≡◌, ℕ, suc, inl, inr, ◌+◌, ◌<◌, ◌≤◌, Bool, true, false, not, ◌||◌, cond, List, [], ◌∷◌, ◌++◌, length, map, refl, sym, ap, ap₂, subst, ◌∙◌, arith}
+use Rattle.std.proofs.Common.{◌≡◌, ℕ, suc, inl, inr, ◌+◌, ◌<◌, ◌≤◌, Bool, true, false, not, ◌||◌, cond, List, [], ◌∷◌, ◌++◌, length, map, refl, sym, ap, subst, ◌∙◌, arith, length-append}
 use Rattle.std.proofs.lemmas.Bool.{cases_Bool}
 use Rattle.std.proofs.lemmas.Bool.Decides.{nat_tests}
 use Rattle.std.proofs.lemmas.List.{length-map}
@@ -11,14 +11,14 @@ use Rattle.cells.specs.declared.refused.Refused.{Refused}
 use Rattle.cells.specs.declared.schema.Column.{Column}
 use Rattle.cells.specs.declared.schema.ColumnType.{ColumnType}
 use Rattle.cells.specs.declared.schema.ColumnType.TheVariants.{Int, Text}
-use Rattle.query.specs.Checks.{fault_of, has_too_many_sets, has_unknown, is_column, is_not_grouped, is_text_column, is_text_sum, is_text_type, is_unknown, is_wrong_type}
+use Rattle.query.specs.Checks.{fault_of, has_too_many_sets, has_unknown, is_column, is_mixed, is_not_grouped, is_text_column, is_text_sum, is_text_type, is_unknown, is_wrong_type}
 use Rattle.query.specs.Headings.{heading}
-use Rattle.query.specs.Names.{element_names, item_names, names_of, operand_names, test_names, tests_of, tests_of_each, tests_where}
+use Rattle.query.specs.Names.{element_names, item_names, names_of, operand_leaves, test_leaves, tests_of, tests_of_each, tests_where}
 use Rattle.query.specs.Plans.{IsConditionOf, IsItemOf, IsPlanOf, PlacesRise, IsSetOf, PlanTree, place_of, placed_each, placed_item, placed_operand, placed_predicate, placed_test, plan_of, type_at}
 use Rattle.query.specs.Sets.{Names, different_sets, grouping_sets, kept_sets, names_column, places, places_from}
 use Rattle.query.specs.Trees.{PredicateTree, Or, And, Not, Holds, PredicateTrees, NoPredicates, MorePredicates}
 use Rattle.query.specs.Truth.{AreOver, IsOver, IsTestWithin, IsWithin}
-use Rattle.query.specs.Values.{AreFilled, QueryTree, is_long}
+use Rattle.query.specs.Values.{AreFilled, QueryTree, items_of}
 use Rattle.query.specs.declared.item.Item.{Item}
 use Rattle.query.specs.declared.item.Item.TheVariants as item
 use Rattle.query.specs.declared.test.Operand.{Operand}
@@ -89,34 +89,34 @@ module _ (cs : List Column) where
   item_of (item.Min n) u t = place_within cs n (known cs n [] u)
   item_of (item.Max n) u t = place_within cs n (known cs n [] u)
 
-  items_of : (is : List (Item (List ℕ))) → has_unknown cs (flat_map item_names is) ≡ false → list_any (is_text_sum cs) is ≡ false → AllByRecursion (IsItemOf cs) (map (placed_item cs) is)
-  items_of [] u t = tt
-  items_of (i ∷ is) u t =
+  each_item : (is : List (Item (List ℕ))) → has_unknown cs (flat_map item_names is) ≡ false → list_any (is_text_sum cs) is ≡ false → AllByRecursion (IsItemOf cs) (map (placed_item cs) is)
+  each_item [] u t = tt
+  each_item (i ∷ is) u t =
       let us = both_known cs (item_names i) (flat_map item_names is) u in
       let ts = or_false (is_text_sum cs i) (list_any (is_text_sum cs) is) t in
-      (item_of i us.0 ts.0, items_of is us.1 ts.1)
+      (item_of i us.0 ts.0, each_item is us.1 ts.1)
 
   -- ---- predicates
-  operand_of : (a : Operand (List ℕ)) → has_unknown cs (operand_names a) ≡ false → IsWithin (length cs) (placed_operand cs a)
+  operand_of : (a : Operand (List ℕ)) → has_unknown cs (operand_leaves a) ≡ false → IsWithin (length cs) (placed_operand cs a)
   operand_of (operand.Column n) u = place_within cs n (known cs n [] u)
   operand_of (operand.Literal l) u = tt
 
-  test_of : (t : Test (List ℕ)) → has_unknown cs (test_names t) ≡ false → IsTestWithin (length cs) (placed_test cs t)
-  test_of (Compare a c b) u = let us = both_known cs (operand_names a) (operand_names b) u in (operand_of a us.0, operand_of b us.1)
+  test_of : (t : Test (List ℕ)) → has_unknown cs (test_leaves t) ≡ false → IsTestWithin (length cs) (placed_test cs t)
+  test_of (Compare a c b) u = let us = both_known cs (operand_leaves a) (operand_leaves b) u in (operand_of a us.0, operand_of b us.1)
   test_of (IsNull a n) u = operand_of a u
   test_of (Between a low high n) u =
-      let us = both_known cs (operand_names a ++ operand_names low) (operand_names high) u in
-      let vs = both_known cs (operand_names a) (operand_names low) us.0 in
+      let us = both_known cs (operand_leaves a ++ operand_leaves low) (operand_leaves high) u in
+      let vs = both_known cs (operand_leaves a) (operand_leaves low) us.0 in
       (operand_of a vs.0, operand_of low vs.1, operand_of high us.1)
   test_of (In a ls n) u = operand_of a u
 
   -- the names of some tests are known
   abbrev AreKnown : List (Test (List ℕ)) → Type 0
-  AreKnown ts = AllByRecursion (λ t. has_unknown cs (test_names t) ≡ false) ts
+  AreKnown ts = AllByRecursion (λ t. has_unknown cs (test_leaves t) ≡ false) ts
 
-  each_known : (ts : List (Test (List ℕ))) → has_unknown cs (flat_map test_names ts) ≡ false → AreKnown ts
+  each_known : (ts : List (Test (List ℕ))) → has_unknown cs (flat_map test_leaves ts) ≡ false → AreKnown ts
   each_known [] u = tt
-  each_known (t ∷ ts) u = let us = both_known cs (test_names t) (flat_map test_names ts) u in (us.0, each_known ts us.1)
+  each_known (t ∷ ts) u = let us = both_known cs (test_leaves t) (flat_map test_leaves ts) u in (us.0, each_known ts us.1)
 
   parts : (ts us : List (Test (List ℕ))) → AreKnown (ts ++ us) → AreKnown ts × AreKnown us
   parts [] us h = (tt, h)
@@ -133,7 +133,7 @@ module _ (cs : List Column) where
     each_of NoPredicates h = tt
     each_of (MorePredicates p ps) h = let both = parts (tests_of p) (tests_of_each ps) h in (predicate_of p both.0, each_of ps both.1)
 
-  condition_of : (p : Option (PredicateTree (Test (List ℕ)))) → has_unknown cs (flat_map test_names (tests_where p)) ≡ false → IsConditionOf cs (option_map (placed_predicate cs) p)
+  condition_of : (p : Option (PredicateTree (Test (List ℕ)))) → has_unknown cs (flat_map test_leaves (tests_where p)) ≡ false → IsConditionOf cs (option_map (placed_predicate cs) p)
   condition_of None u = tt
   condition_of (Some p) u = predicate_of p (each_known (tests_of p) u)
 
@@ -208,6 +208,14 @@ some_kept true [] h = h
 some_kept true (x ∷ xs) h = omega arith
 some_kept false xs h = h
 
+-- there are no more headings than items
+fewer : (cs : List Column) (is more : List (Item (List ℕ))) → length (map heading is) ≤ length (map (placed_item cs) (is ++ more))
+fewer cs is more =
+    let named = length-map is heading in
+    let placed = length-map (is ++ more) (placed_item cs) in
+    let both = length-append is more in
+    omega arith
+
 -- ---- the whole
 pub is_plan : (t : Table) (q : QueryTree) (p : PlanTree) → fault_of t q ≡ None → AreFilled q.groups.elements → p ≡ plan_of t q → IsPlanOf t p
 is_plan t q p none filled made =
@@ -216,9 +224,10 @@ is_plan t q p none filled made =
     let grouped = unless (is_not_grouped q) _ _ typed.1 in
     let few = unless (has_too_many_sets q) _ _ grouped.1 in
     let names = (or_false _ (has_unknown t.columns (names_of q)) known_all.0).1 in
-    let before = both_known t.columns (flat_map item_names q.items ++ flat_map test_names (tests_where q.condition)) (flat_map element_names q.groups.elements) names in
-    let within = both_known t.columns (flat_map item_names q.items) (flat_map test_names (tests_where q.condition)) before.0 in
-    let sums = (or_false (list_any (is_text_sum t.columns) q.items) _ typed.0).0 in
+    let before = both_known t.columns (flat_map item_names (items_of q) ++ flat_map test_leaves (tests_where q.condition)) (flat_map element_names q.groups.elements) names in
+    let within = both_known t.columns (flat_map item_names (items_of q)) (flat_map test_leaves (tests_where q.condition)) before.0 in
+    let types = or_false (list_any (is_text_sum t.columns) (items_of q) || list_any (is_mixed (is_text_column t.columns)) (tests_where q.condition)) _ typed.0 in
+    let sums = (or_false (list_any (is_text_sum t.columns) (items_of q)) _ types.0).0 in
     let sets = grouping_sets q.groups.elements in
     let all = map (places t.columns) sets in
     let least : 0 < length sets = some_grouping [] q.groups.elements filled in
@@ -226,28 +235,10 @@ is_plan t q p none filled made =
     let placed : length all ≡ length sets = length-map sets (places t.columns) in
     let kept = few_kept q.groups.distinct all in
     subst (IsPlanOf t) (sym made) (record {
-      items = items_of t.columns q.items within.0 sums;
-      headings = length-map q.items heading ∙ sym (length-map q.items (placed_item t.columns));
+      items = each_item t.columns (items_of q) within.0 sums;
+      headings = fewer t.columns q.items q.having.items;
       condition = condition_of t.columns q.condition within.1;
       sets = all_kept (IsSetOf t.columns) q.groups.distinct all (each_set t.columns sets);
       some = some_kept q.groups.distinct all (omega arith);
       few = omega arith;
     })
-
--- ---- places are as many as names
-long_placed : (cs : List Column) (i : Item (List ℕ)) → is_long (placed_item cs i) ≡ is_long i
-long_placed cs (item.Column n) = refl
-long_placed cs (item.Grouping ns) = ap (nat_lt 16) (length-map ns (place_of cs))
-long_placed cs item.CountRows = refl
-long_placed cs (item.Count n) = refl
-long_placed cs (item.CountDistinct n) = refl
-long_placed cs (item.Sum n) = refl
-long_placed cs (item.Min n) = refl
-long_placed cs (item.Max n) = refl
-
-any_placed : (cs : List Column) (is : List (Item (List ℕ))) → list_any is_long (map (placed_item cs) is) ≡ list_any is_long is
-any_placed cs [] = refl
-any_placed cs (i ∷ is) = ap₂ (λ a b. a || b) (long_placed cs i) (any_placed cs is)
-
-pub short_placed : (cs : List Column) (is : List (Item (List ℕ))) (placed : List (Item ℕ)) → placed ≡ map (placed_item cs) is → list_any is_long is ≡ false → list_any is_long placed ≡ false
-short_placed cs is placed made short = ap (list_any is_long) made ∙ any_placed cs is ∙ short

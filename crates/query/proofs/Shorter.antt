@@ -1,7 +1,7 @@
 -- What follows a phrase is shorter than the tokens that begin with it.
 use Rattle.std.proofs.Common.{◌<◌, ◌≤◌, List, ◌∷◌, length, arith}
 use Rattle.cells.specs.declared.token.Token.{Token}
-use Rattle.query.specs.Grammar.{Separated, last, next, SpellsComparison, equal, not_equal, less, less_or_equal, greater, greater_or_equal, SpellsElement, empty, unit, rollup, cube, sets, SpellsElements, last_element, next_element, SpellsFactor, plain, not, SpellsFactors, last_factor, next_factor, SpellsItem, column, grouping, count_rows, count, count_distinct, sum, min, max, SpellsLiteral, number, text, SpellsName, name, SpellsNot, without, with, SpellsOperand, name_operand, literal_operand, SpellsPredicate, one_term, or, SpellsPrimary, parens, tested, SpellsTerm, one_factor, and, SpellsTerms, last_term, next_term, SpellsTest, compare, is_null, between, among, SpellsUnit, one, several}
+use Rattle.query.specs.Grammar.{Separated, last, next, SpellsComparison, equal, not_equal, less, less_or_equal, greater, greater_or_equal, SpellsElement, empty, unit, rollup, cube, sets, SpellsElements, last_element, next_element, SpellsFactor, plain, not, SpellsFactors, last_factor, next_factor, SpellsItem, column, grouping, count_rows, count, count_distinct, sum, min, max, SpellsLiteral, number, text, SpellsName, name, SpellsNot, without, with, SpellsOperand, leaf_operand, literal_operand, SpellsPredicate, one_term, or, SpellsPrimary, parens, tested, SpellsTerm, one_factor, and, SpellsTerms, last_term, next_term, SpellsTest, compare, is_null, between, among, SpellsUnit, one, several}
 
 -- a list of phrases, each of which is shorter
 pub shorter_list : {X : Type 0} {sep : Token} {Sp : List Token → X → List Token → Type 0} → ((ts : List Token) (x : X) (rest : List Token) → Sp ts x rest → length rest < length ts)
@@ -42,10 +42,6 @@ pub shorter_literal : (ts : List Token) (l : _) (rest : List Token) → SpellsLi
 shorter_literal ts l rest number = omega arith
 shorter_literal ts l rest text = omega arith
 
-shorter_operand : {ts rest : List Token} {a : _} → SpellsOperand ts a rest → length rest < length ts
-shorter_operand {ts} {rest} (name_operand {n = n} h) = shorter_name ts n rest h
-shorter_operand {ts} {rest} (literal_operand {l = l} h) = shorter_literal ts l rest h
-
 shorter_comparison : {ts rest : List Token} {c : _} → SpellsComparison ts c rest → length rest < length ts
 shorter_comparison equal = omega arith
 shorter_comparison not_equal = omega arith
@@ -58,33 +54,38 @@ no_longer_not : {ts rest : List Token} {b : _} → SpellsNot ts b rest → lengt
 no_longer_not without = omega arith
 no_longer_not with = omega arith
 
-shorter_test : {ts rest : List Token} {t : _} → SpellsTest ts t rest → length rest < length ts
-shorter_test (compare o c p) = omega (arith, shorter_operand o, shorter_comparison c, shorter_operand p)
-shorter_test (is_null o n) = omega (arith, shorter_operand o, no_longer_not n)
-shorter_test (between o n p q) = omega (arith, shorter_operand o, no_longer_not n, shorter_operand p, shorter_operand q)
-shorter_test (among o n h) = omega (arith, shorter_operand o, no_longer_not n, shorter_list shorter_literal h)
+module _ {C : Type 0} {Leaf : List Token → C → List Token → Type 0} (shorter_leaf : (ts : List Token) (c : C) (rest : List Token) → Leaf ts c rest → length rest < length ts) where
+  shorter_operand : {ts rest : List Token} {a : _} → SpellsOperand Leaf ts a rest → length rest < length ts
+  shorter_operand {ts} {rest} (leaf_operand {c = c} h) = shorter_leaf ts c rest h
+  shorter_operand {ts} {rest} (literal_operand {l = l} h) = shorter_literal ts l rest h
 
-mutual
-  pub shorter_factor : (ts : List Token) (p : _) (rest : List Token) → SpellsFactor ts p rest → length rest < length ts
-  shorter_factor ts p rest (plain h) = shorter_primary h
-  shorter_factor ts p rest (not h) = omega (arith, shorter_primary h)
+  shorter_test : {ts rest : List Token} {t : _} → SpellsTest Leaf ts t rest → length rest < length ts
+  shorter_test (compare o c p) = omega (arith, shorter_operand o, shorter_comparison c, shorter_operand p)
+  shorter_test (is_null o n) = omega (arith, shorter_operand o, no_longer_not n)
+  shorter_test (between o n p q) = omega (arith, shorter_operand o, no_longer_not n, shorter_operand p, shorter_operand q)
+  shorter_test (among o n h) = omega (arith, shorter_operand o, no_longer_not n, shorter_list shorter_literal h)
 
-  shorter_primary : {ts rest : List Token} {p : _} → SpellsPrimary ts p rest → length rest < length ts
-  shorter_primary (parens h) = omega (arith, shorter_predicate h)
-  shorter_primary (tested h) = shorter_test h
+  mutual
+    pub shorter_factor : (ts : List Token) (p : _) (rest : List Token) → SpellsFactor Leaf ts p rest → length rest < length ts
+    shorter_factor ts p rest (plain h) = shorter_primary h
+    shorter_factor ts p rest (not h) = omega (arith, shorter_primary h)
 
-  shorter_predicate : {ts rest : List Token} {p : _} → SpellsPredicate ts p rest → length rest < length ts
-  shorter_predicate {ts} {rest} (one_term {p = p} h) = shorter_term ts p rest h
-  shorter_predicate {ts} (or {us = us} {p = p} h more) = let first = shorter_term ts p _ h in omega (arith, first, shorter_terms more)
+    shorter_primary : {ts rest : List Token} {p : _} → SpellsPrimary Leaf ts p rest → length rest < length ts
+    shorter_primary (parens h) = omega (arith, shorter_predicate h)
+    shorter_primary (tested h) = shorter_test h
 
-  pub shorter_term : (ts : List Token) (p : _) (rest : List Token) → SpellsTerm ts p rest → length rest < length ts
-  shorter_term ts p rest (one_factor h) = shorter_factor ts p rest h
-  shorter_term ts p rest (and {p = q} h more) = let first = shorter_factor ts q _ h in omega (arith, first, shorter_factors more)
+    shorter_predicate : {ts rest : List Token} {p : _} → SpellsPredicate Leaf ts p rest → length rest < length ts
+    shorter_predicate {ts} {rest} (one_term {p = p} h) = shorter_term ts p rest h
+    shorter_predicate {ts} (or {us = us} {p = p} h more) = let first = shorter_term ts p _ h in omega (arith, first, shorter_terms more)
 
-  shorter_terms : {ts rest : List Token} {ps : _} → SpellsTerms ts ps rest → length rest < length ts
-  shorter_terms {ts} {rest} (last_term {p = p} h) = shorter_term ts p rest h
-  shorter_terms {ts} (next_term {p = p} h more) = let first = shorter_term ts p _ h in omega (arith, first, shorter_terms more)
+    pub shorter_term : (ts : List Token) (p : _) (rest : List Token) → SpellsTerm Leaf ts p rest → length rest < length ts
+    shorter_term ts p rest (one_factor h) = shorter_factor ts p rest h
+    shorter_term ts p rest (and {p = q} h more) = let first = shorter_factor ts q _ h in omega (arith, first, shorter_factors more)
 
-  shorter_factors : {ts rest : List Token} {ps : _} → SpellsFactors ts ps rest → length rest < length ts
-  shorter_factors {ts} {rest} (last_factor {p = p} h) = shorter_factor ts p rest h
-  shorter_factors {ts} (next_factor {p = p} h more) = let first = shorter_factor ts p _ h in omega (arith, first, shorter_factors more)
+    shorter_terms : {ts rest : List Token} {ps : _} → SpellsTerms Leaf ts ps rest → length rest < length ts
+    shorter_terms {ts} {rest} (last_term {p = p} h) = shorter_term ts p rest h
+    shorter_terms {ts} (next_term {p = p} h more) = let first = shorter_term ts p _ h in omega (arith, first, shorter_terms more)
+
+    shorter_factors : {ts rest : List Token} {ps : _} → SpellsFactors Leaf ts ps rest → length rest < length ts
+    shorter_factors {ts} {rest} (last_factor {p = p} h) = shorter_factor ts p rest h
+    shorter_factors {ts} (next_factor {p = p} h more) = let first = shorter_factor ts p _ h in omega (arith, first, shorter_factors more)

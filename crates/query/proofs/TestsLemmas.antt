@@ -1,22 +1,22 @@
 -- Tests.
-use Rattle.std.proofs.Common.{◌≡◌, ℕ, Bool, true, false, List, ◌∷◌, Some, None, refl, sym, ap, ◌∙◌, subst}
+use Rattle.std.proofs.Common.{◌≡◌, ℕ, Bool, true, false, List, [], ◌∷◌, Some, None, refl, sym, ap, ◌∙◌, subst}
 use Rattle.std.specs.Prelude.{bytes_eq, codes}
 use Rattle.std.proofs.lemmas.Slice.Eq.{bytes_eq-Decides}
 use Rattle.std.proofs.lemmas.Option.{none-some, some_pair_parts}
-use Rattle.cells.specs.Schemas.{is_reserved}
 use Rattle.cells.specs.declared.token.Token.{Token}
-use Rattle.cells.specs.declared.token.Token.TheVariants.{Word, Number, Quoted}
-use Rattle.query.specs.Grammar.{Separated, name, SpellsLiteral, number, text, SpellsOperand, name_operand, literal_operand, SpellsMark, SpellsNot, without, with, SpellsTest, compare, is_null, between, among, lparen, rparen, comma, AND, BETWEEN, IN, IS, NOT, NULL}
-use Rattle.query.specs.Phrases.{comparison_at, BoundsAt, NullAfter, null, RangeAfter, range, list, TestAfter, after_compare, after_is, after_not}
+use Rattle.cells.specs.declared.token.Token.TheVariants.{Word, Number, Quoted, Mark}
+use Rattle.query.specs.Grammar.{Separated, SpellsLiteral, number, text, SpellsOperand, leaf_operand, literal_operand, SpellsMark, SpellsNot, without, with, SpellsTest, compare, is_null, between, among, lparen, rparen, comma, AND, BETWEEN, IN, IS, NOT, NULL}
+use Rattle.query.specs.Leaves.{begins_leaf}
+use Rattle.query.specs.Phrases.{begins_literal, comparison_at, BoundsAt, NullAfter, null, RangeAfter, range, list, TestAfter, after_compare, after_is, after_not}
 use Rattle.query.specs.Reading.{Any, BeginsNot, BeginsNotCall, Marked, Starts, Found, Nothing}
 use Rattle.query.specs.declared.test.Test.{Test}
 use Rattle.query.specs.declared.test.Test.TheVariants as test
 use Rattle.query.specs.declared.test.Literal.{Literal}
 use Rattle.query.specs.declared.test.Operand.{Operand}
+use Rattle.query.specs.declared.test.Operand.TheVariants as operand
 use Rattle.query.specs.declared.test.Comparison.{Comparison}
 use Rattle.query.proofs.Lists.{Turns}
 use Rattle.query.proofs.PhrasesLemmas.{comparison_sound, comparison_complete}
-use Rattle.query.proofs.Units.{reserved_name}
 
 -- two words that differ
 pub words_differ : (v w : List ℕ) (xs ys : List Token) → bytes_eq v w ≡ false → Word v ∷ xs ≡ Word w ∷ ys → ⊥
@@ -46,162 +46,196 @@ unmarked mark us absent = record {
 not_null : (r : List Token) → BeginsNot NOT (NULL ∷ r)
 not_null r rest e = let bad : NULL ≡ NOT = cc in cc
 
--- the bounds of BETWEEN
-module _ (us : List Token) where
-  pub bounds_low : (low : Operand (List ℕ)) (vs : List Token) → Found (λ l r. SpellsOperand us l (AND ∷ r)) low vs → Turns (BoundsAt us) (Starts SpellsOperand Any vs) (λ high. (low, high))
-  bounds_low low vs found = record {
-    to = λ high r h. (vs, found.is, h.spells);
-    from = λ b r s.
-        let same = found.only b.0 s.0 s.1 in
-        (b.1, ap (λ l. (l, b.1)) same.0, record { spells = subst (λ v. SpellsOperand v b.1 r) same.1 s.2; apart = tt });
-  }
+no_literal : (ts : List Token) → begins_leaf ts ≡ true → begins_literal ts ≡ true → ⊥
+no_literal (Word w ∷ ts) a b = let bad : false ≡ true = b in cc
+no_literal (Number n ∷ ts) a b = let bad : false ≡ true = a in cc
+no_literal (Quoted t ∷ ts) a b = let bad : false ≡ true = a in cc
+no_literal (Mark m ∷ ts) a b = let bad : false ≡ true = a in cc
+no_literal [] a b = let bad : false ≡ true = a in cc
 
-  pub no_bounds : Nothing (λ l r. SpellsOperand us l (AND ∷ r)) → Nothing (BoundsAt us)
-  no_bounds nothing = record { none = λ b r s. nothing.none b.0 s.0 s.1 }
+module _ {C : Type 0} where
+  module _ (a : Operand C) (us : List Token) where
+    -- IS, and what follows it
+    module _ (not : Bool) (vs : List Token) (m : Marked NOT us not vs) where
+      pub null_found : (rest : List Token) → vs ≡ NULL ∷ rest → Found (NullAfter a us) (test.IsNull a not) rest
+      null_found rest e = record {
+        is = null (subst (SpellsNot us not) e m.spells);
+        only = λ t r s. inside s;
+      } where
+        inside : {r : List Token} {t : Test C} → NullAfter a us t r → (t ≡ test.IsNull a not) × (r ≡ rest)
+        inside {r = r} (null {not = n} h) =
+            let same = m.only n (NULL ∷ r) h (not_null r) in
+            (ap (test.IsNull a) same.0, let both : NULL ∷ r ≡ NULL ∷ rest = same.1 ∙ e in cc)
 
-module _ (a : Operand (List ℕ)) (us : List Token) where
-  -- IS, and what follows it
-  module _ (not : Bool) (vs : List Token) (m : Marked NOT us not vs) where
-    pub null_found : (rest : List Token) → vs ≡ NULL ∷ rest → Found (NullAfter a us) (test.IsNull a not) rest
-    null_found rest e = record {
-      is = null (subst (SpellsNot us not) e m.spells);
-      only = λ t r s. inside s;
-    } where
-      inside : {r : List Token} {t : Test (List ℕ)} → NullAfter a us t r → (t ≡ test.IsNull a not) × (r ≡ rest)
-      inside {r = r} (null {not = n} h) =
-          let same = m.only n (NULL ∷ r) h (not_null r) in
-          (ap (test.IsNull a) same.0, let both : NULL ∷ r ≡ NULL ∷ rest = same.1 ∙ e in cc)
+      pub null_nothing : BeginsNot NULL vs → Nothing (NullAfter a us)
+      null_nothing other = record { none = λ t r s. inside s } where
+        inside : {r : List Token} {t : Test C} → NullAfter a us t r → ⊥
+        inside {r = r} (null {not = n} h) = other r (sym (m.only n (NULL ∷ r) h (not_null r)).1)
 
-    pub null_nothing : BeginsNot NULL vs → Nothing (NullAfter a us)
-    null_nothing other = record { none = λ t r s. inside s } where
-      inside : {r : List Token} {t : Test (List ℕ)} → NullAfter a us t r → ⊥
-      inside {r = r} (null {not = n} h) = other r (sym (m.only n (NULL ∷ r) h (not_null r)).1)
+module _ {C : Type 0} {Leaf : List Token → C → List Token → Type 0} where
+  -- the bounds of BETWEEN
+  module _ (us : List Token) where
+    pub bounds_low : (low : Operand C) (vs : List Token) → Found (λ l r. SpellsOperand Leaf us l (AND ∷ r)) low vs → Turns (BoundsAt Leaf us) (Starts (SpellsOperand Leaf) Any vs) (λ high. (low, high))
+    bounds_low low vs found = record {
+      to = λ high r h. (vs, found.is, h.spells);
+      from = λ b r s.
+          let same = found.only b.0 s.0 s.1 in
+          (b.1, ap (λ l. (l, b.1)) same.0, record { spells = subst (λ v. SpellsOperand Leaf v b.1 r) same.1 s.2; apart = tt });
+    }
 
-  -- BETWEEN and IN
-  module _ (not : Bool) where
-    pub range_low : (more : List Token) → us ≡ BETWEEN ∷ more → (low : Operand (List ℕ)) (vs : List Token) → Found (λ l r. SpellsOperand more l (AND ∷ r)) low vs
-        → Turns (RangeAfter a not us) (Starts SpellsOperand Any vs) (λ high. test.Between a low high not)
-    range_low more e low vs found = record {
-      to = λ high r h. subst (λ v. RangeAfter a not v (test.Between a low high not) r) (sym e) (range found.is h.spells);
+    pub no_bounds : Nothing (λ l r. SpellsOperand Leaf us l (AND ∷ r)) → Nothing (BoundsAt Leaf us)
+    no_bounds nothing = record { none = λ b r s. nothing.none b.0 s.0 s.1 }
+
+  module _ (a : Operand C) (us : List Token) where
+    -- BETWEEN and IN
+    module _ (not : Bool) where
+      pub range_low : (more : List Token) → us ≡ BETWEEN ∷ more → (low : Operand C) (vs : List Token) → Found (λ l r. SpellsOperand Leaf more l (AND ∷ r)) low vs
+          → Turns (RangeAfter Leaf a not us) (Starts (SpellsOperand Leaf) Any vs) (λ high. test.Between a low high not)
+      range_low more e low vs found = record {
+        to = λ high r h. subst (λ v. RangeAfter Leaf a not v (test.Between a low high not) r) (sym e) (range found.is h.spells);
+        from = λ t r s. inside s e;
+      } where
+        inside : {ws r : List Token} {t : Test C} → RangeAfter Leaf a not ws t r → ws ≡ BETWEEN ∷ more → (high : Operand C) × (t ≡ test.Between a low high not) × Starts (SpellsOperand Leaf) Any vs high r
+        inside {r = r} (range {us = ws} {vs = xs} {low = l} {high = high} h k) f =
+            let same : ws ≡ more = cc in
+            let parts = found.only l xs (subst (λ v. SpellsOperand Leaf v l (AND ∷ xs)) same h) in
+            (high, ap (λ x. test.Between a x high not) parts.0, record { spells = subst (λ v. SpellsOperand Leaf v high r) parts.1 k; apart = tt })
+        inside (list h) f = absurd (let bad : IN ≡ BETWEEN = cc in cc)
+
+      pub range_bounds : (more : List Token) → us ≡ BETWEEN ∷ more → Turns (RangeAfter Leaf a not us) (BoundsAt Leaf more) (λ b. test.Between a b.0 b.1 not)
+      range_bounds more e = record {
+        to = λ b r h. subst (λ v. RangeAfter Leaf a not v (test.Between a b.0 b.1 not) r) (sym e) (range h.1 h.2);
+        from = λ t r s. inside s e;
+      } where
+        inside : {ws r : List Token} {t : Test C} → RangeAfter Leaf a not ws t r → ws ≡ BETWEEN ∷ more → (b : Operand C × Operand C) × (t ≡ test.Between a b.0 b.1 not) × BoundsAt Leaf more b r
+        inside (range {us = ws} {vs = xs} {low = l} {high = high} h k) f =
+            let same : ws ≡ more = cc in
+            ((l, high), refl, (xs, subst (λ v. SpellsOperand Leaf v l (AND ∷ xs)) same h, k))
+        inside (list h) f = absurd (let bad : IN ≡ BETWEEN = cc in cc)
+
+      pub range_no_low : (more : List Token) → us ≡ BETWEEN ∷ more → Nothing (λ l r. SpellsOperand Leaf more l (AND ∷ r)) → Nothing (RangeAfter Leaf a not us)
+      range_no_low more e nothing = record { none = λ t r s. inside s e } where
+        inside : {ws r : List Token} {t : Test C} → RangeAfter Leaf a not ws t r → ws ≡ BETWEEN ∷ more → ⊥
+        inside (range {us = ws} {vs = xs} {low = l} h k) f = let same : ws ≡ more = cc in nothing.none l xs (subst (λ v. SpellsOperand Leaf v l (AND ∷ xs)) same h)
+        inside (list h) f = let bad : IN ≡ BETWEEN = cc in cc
+
+      pub range_list : (more : List Token) → us ≡ IN ∷ lparen ∷ more → Turns (RangeAfter Leaf a not us) (λ ls r. Separated comma SpellsLiteral more ls (rparen ∷ r)) (λ ls. test.In a ls not)
+      range_list more e = record {
+        to = λ ls r h. subst (λ v. RangeAfter Leaf a not v (test.In a ls not) r) (sym e) (list h);
+        from = λ t r s. inside s e;
+      } where
+        inside : {ws r : List Token} {t : Test C} → RangeAfter Leaf a not ws t r → ws ≡ IN ∷ lparen ∷ more → (ls : List Literal) × (t ≡ test.In a ls not) × Separated comma SpellsLiteral more ls (rparen ∷ r)
+        inside (range h k) f = absurd (let bad : BETWEEN ≡ IN = cc in cc)
+        inside {r = r} (list {us = ws} {ls = ls} h) f = let same : ws ≡ more = cc in (ls, refl, subst (λ v. Separated comma SpellsLiteral v ls (rparen ∷ r)) same h)
+
+      pub range_nothing : BeginsNot BETWEEN us → BeginsNotCall IN us → Nothing (RangeAfter Leaf a not us)
+      range_nothing b i = record { none = λ t r s. inside s b i } where
+        inside : {ws r : List Token} {t : Test C} → RangeAfter Leaf a not ws t r → BeginsNot BETWEEN ws → BeginsNotCall IN ws → ⊥
+        inside (range {us = ws} h k) f g = f ws refl
+        inside (list {us = ws} h) f g = g ws refl
+
+    -- what follows the first operand
+    range_word : {ws r : List Token} {t : Test C} {not : Bool} → RangeAfter Leaf a not ws t r → (comparison_at ws ≡ None) × BeginsNot IS ws × BeginsNot NOT ws
+    range_word (range {us = xs} h k) = (refl, (λ r e. words_differ (codes "BETWEEN") (codes "IS") xs r refl e), (λ r e. words_differ (codes "BETWEEN") (codes "NOT") xs r refl e))
+    range_word (list {us = xs} h) = (refl, (λ r e. words_differ (codes "IN") (codes "IS") (lparen ∷ xs) r refl e), (λ r e. words_differ (codes "IN") (codes "NOT") (lparen ∷ xs) r refl e))
+
+    pub test_compare : (c : Comparison) (vs : List Token) → comparison_at us ≡ Some (c, vs) → Turns (TestAfter Leaf a us) (Starts (SpellsOperand Leaf) Any vs) (λ b. test.Compare a c b)
+    test_compare c vs e = record {
+      to = λ b r h. after_compare (comparison_sound us c vs e) h.spells;
       from = λ t r s. inside s e;
     } where
-      inside : {ws r : List Token} {t : Test (List ℕ)} → RangeAfter a not ws t r → ws ≡ BETWEEN ∷ more → (high : Operand (List ℕ)) × (t ≡ test.Between a low high not) × Starts SpellsOperand Any vs high r
-      inside {r = r} (range {us = ws} {vs = xs} {low = l} {high = high} h k) f =
-          let same : ws ≡ more = cc in
-          let parts = found.only l xs (subst (λ v. SpellsOperand v l (AND ∷ xs)) same h) in
-          (high, ap (λ x. test.Between a x high not) parts.0, record { spells = subst (λ v. SpellsOperand v high r) parts.1 k; apart = tt })
-      inside (list h) f = absurd (let bad : IN ≡ BETWEEN = cc in cc)
+      inside : {ws r : List Token} {t : Test C} → TestAfter Leaf a ws t r → comparison_at ws ≡ Some (c, vs) → (b : Operand C) × (t ≡ test.Compare a c b) × Starts (SpellsOperand Leaf) Any vs b r
+      inside {r = r} (after_compare {vs = xs} {b = b} {c = d} k h) f =
+          let parts = some_pair_parts d c xs vs (sym (comparison_complete k) ∙ f) in
+          (b, ap (λ x. test.Compare a x b) parts.0, record { spells = subst (λ v. SpellsOperand Leaf v b r) parts.1 h; apart = tt })
+      inside (after_is h) f = absurd (none-some (c, vs) f)
+      inside (after_not without h) f = absurd (none-some (c, vs) (sym (range_word h).0 ∙ f))
+      inside (after_not with h) f = absurd (none-some (c, vs) f)
 
-    pub range_bounds : (more : List Token) → us ≡ BETWEEN ∷ more → Turns (RangeAfter a not us) (BoundsAt more) (λ b. test.Between a b.0 b.1 not)
-    range_bounds more e = record {
-      to = λ b r h. subst (λ v. RangeAfter a not v (test.Between a b.0 b.1 not) r) (sym e) (range h.1 h.2);
-      from = λ t r s. inside s e;
+    pub test_is : (more : List Token) → us ≡ IS ∷ more → Turns (TestAfter Leaf a us) (NullAfter a more) (λ t. t)
+    test_is more e = record {
+      to = λ t r h. subst (λ v. TestAfter Leaf a v t r) (sym e) (after_is h);
+      from = λ t r s. (t, refl, inside s e);
     } where
-      inside : {ws r : List Token} {t : Test (List ℕ)} → RangeAfter a not ws t r → ws ≡ BETWEEN ∷ more → (b : Operand (List ℕ) × Operand (List ℕ)) × (t ≡ test.Between a b.0 b.1 not) × BoundsAt more b r
-      inside (range {us = ws} {vs = xs} {low = l} {high = high} h k) f =
-          let same : ws ≡ more = cc in
-          ((l, high), refl, (xs, subst (λ v. SpellsOperand v l (AND ∷ xs)) same h, k))
-      inside (list h) f = absurd (let bad : IN ≡ BETWEEN = cc in cc)
+      inside : {ws r : List Token} {t : Test C} → TestAfter Leaf a ws t r → ws ≡ IS ∷ more → NullAfter a more t r
+      inside (after_compare {vs = xs} {c = c} k h) f = absurd (none-some (c, xs) (sym (ap comparison_at f) ∙ comparison_complete k))
+      inside {r = r} {t = t} (after_is {us = ws} h) f = let same : ws ≡ more = cc in subst (λ v. NullAfter a v t r) same h
+      inside (after_not without h) f = absurd ((range_word h).1 more f)
+      inside (after_not with h) f = absurd (let bad : NOT ≡ IS = cc in cc)
 
-    pub range_no_low : (more : List Token) → us ≡ BETWEEN ∷ more → Nothing (λ l r. SpellsOperand more l (AND ∷ r)) → Nothing (RangeAfter a not us)
-    range_no_low more e nothing = record { none = λ t r s. inside s e } where
-      inside : {ws r : List Token} {t : Test (List ℕ)} → RangeAfter a not ws t r → ws ≡ BETWEEN ∷ more → ⊥
-      inside (range {us = ws} {vs = xs} {low = l} h k) f = let same : ws ≡ more = cc in nothing.none l xs (subst (λ v. SpellsOperand v l (AND ∷ xs)) same h)
-      inside (list h) f = let bad : IN ≡ BETWEEN = cc in cc
-
-    pub range_list : (more : List Token) → us ≡ IN ∷ lparen ∷ more → Turns (RangeAfter a not us) (λ ls r. Separated comma SpellsLiteral more ls (rparen ∷ r)) (λ ls. test.In a ls not)
-    range_list more e = record {
-      to = λ ls r h. subst (λ v. RangeAfter a not v (test.In a ls not) r) (sym e) (list h);
-      from = λ t r s. inside s e;
+    pub test_range : comparison_at us ≡ None → BeginsNot IS us → (not : Bool) (vs : List Token) → Marked NOT us not vs → Turns (TestAfter Leaf a us) (RangeAfter Leaf a not vs) (λ t. t)
+    test_range e other not vs m = record {
+      to = λ t r h. after_not m.spells h;
+      from = λ t r s. (t, refl, inside s e other m);
     } where
-      inside : {ws r : List Token} {t : Test (List ℕ)} → RangeAfter a not ws t r → ws ≡ IN ∷ lparen ∷ more → (ls : List Literal) × (t ≡ test.In a ls not) × Separated comma SpellsLiteral more ls (rparen ∷ r)
-      inside (range h k) f = absurd (let bad : BETWEEN ≡ IN = cc in cc)
-      inside {r = r} (list {us = ws} {ls = ls} h) f = let same : ws ≡ more = cc in (ls, refl, subst (λ v. Separated comma SpellsLiteral v ls (rparen ∷ r)) same h)
+      inside : {ws r : List Token} {t : Test C} → TestAfter Leaf a ws t r → comparison_at ws ≡ None → BeginsNot IS ws → Marked NOT ws not vs → RangeAfter Leaf a not vs t r
+      inside (after_compare {vs = xs} {c = c} k h) f g m' = absurd (none-some (c, xs) (sym f ∙ comparison_complete k))
+      inside (after_is {us = ws} h) f g m' = absurd (g ws refl)
+      inside {r = r} {t = t} (after_not {vs = xs} {not = n} k h) f g m' =
+          let same = m'.only n xs k (range_word h).2 in
+          subst (λ v. RangeAfter Leaf a not v t r) same.1 (subst (λ x. RangeAfter Leaf a x xs t r) same.0 h)
 
-    pub range_nothing : BeginsNot BETWEEN us → BeginsNotCall IN us → Nothing (RangeAfter a not us)
-    range_nothing b i = record { none = λ t r s. inside s b i } where
-      inside : {ws r : List Token} {t : Test (List ℕ)} → RangeAfter a not ws t r → BeginsNot BETWEEN ws → BeginsNotCall IN ws → ⊥
-      inside (range {us = ws} h k) f g = f ws refl
-      inside (list {us = ws} h) f g = g ws refl
+  -- a test is its first operand, and what follows it
+  test_to : {ts us r : List Token} {a : Operand C} {t : Test C} → SpellsOperand Leaf ts a us → TestAfter Leaf a us t r → SpellsTest Leaf ts t r
+  test_to o (after_compare k h) = compare o k h
+  test_to o (after_is (null h)) = is_null o h
+  test_to o (after_not k (range h i)) = between o k h i
+  test_to o (after_not k (list h)) = among o k h
 
-  -- what follows the first operand
-  range_word : {ws r : List Token} {t : Test (List ℕ)} {not : Bool} → RangeAfter a not ws t r → (comparison_at ws ≡ None) × BeginsNot IS ws × BeginsNot NOT ws
-  range_word (range {us = xs} h k) = (refl, (λ r e. words_differ (codes "BETWEEN") (codes "IS") xs r refl e), (λ r e. words_differ (codes "BETWEEN") (codes "NOT") xs r refl e))
-  range_word (list {us = xs} h) = (refl, (λ r e. words_differ (codes "IN") (codes "IS") (lparen ∷ xs) r refl e), (λ r e. words_differ (codes "IN") (codes "NOT") (lparen ∷ xs) r refl e))
-
-  pub test_compare : (c : Comparison) (vs : List Token) → comparison_at us ≡ Some (c, vs) → Turns (TestAfter a us) (Starts SpellsOperand Any vs) (λ b. test.Compare a c b)
-  test_compare c vs e = record {
-    to = λ b r h. after_compare (comparison_sound us c vs e) h.spells;
-    from = λ t r s. inside s e;
+  pub test_operand : (ts : List Token) (a : Operand C) (us : List Token) → Found (Starts (SpellsOperand Leaf) Any ts) a us → Turns (Starts (SpellsTest Leaf) Any ts) (TestAfter Leaf a us) (λ t. t)
+  test_operand ts a us found = record {
+    to = λ t r h. record { spells = test_to (found.is).spells h; apart = tt };
+    from = λ t r s. (t, refl, inside s.spells);
   } where
-    inside : {ws r : List Token} {t : Test (List ℕ)} → TestAfter a ws t r → comparison_at ws ≡ Some (c, vs) → (b : Operand (List ℕ)) × (t ≡ test.Compare a c b) × Starts SpellsOperand Any vs b r
-    inside {r = r} (after_compare {vs = xs} {b = b} {c = d} k h) f =
-        let parts = some_pair_parts d c xs vs (sym (comparison_complete k) ∙ f) in
-        (b, ap (λ x. test.Compare a x b) parts.0, record { spells = subst (λ v. SpellsOperand v b r) parts.1 h; apart = tt })
-    inside (after_is h) f = absurd (none-some (c, vs) f)
-    inside (after_not without h) f = absurd (none-some (c, vs) (sym (range_word h).0 ∙ f))
-    inside (after_not with h) f = absurd (none-some (c, vs) f)
+    move : {b : Operand C} {vs r : List Token} {t : Test C} → SpellsOperand Leaf ts b vs → TestAfter Leaf b vs t r → TestAfter Leaf a us t r
+    move {b} {vs} {r} {t} o h =
+        let same = found.only b vs (record { spells = o; apart = tt }) in
+        subst (λ v. TestAfter Leaf a v t r) same.1 (subst (λ x. TestAfter Leaf x vs t r) same.0 h)
 
-  pub test_is : (more : List Token) → us ≡ IS ∷ more → Turns (TestAfter a us) (NullAfter a more) (λ t. t)
-  test_is more e = record {
-    to = λ t r h. subst (λ v. TestAfter a v t r) (sym e) (after_is h);
-    from = λ t r s. (t, refl, inside s e);
+    inside : {r : List Token} {t : Test C} → SpellsTest Leaf ts t r → TestAfter Leaf a us t r
+    inside (compare o k h) = move o (after_compare k h)
+    inside (is_null o h) = move o (after_is (null h))
+    inside (between o k h i) = move o (after_not k (range h i))
+    inside (among o k h) = move o (after_not k (list h))
+
+  operand_of_test : {ts r : List Token} {t : Test C} → SpellsTest Leaf ts t r → (a : Operand C) × (us : List Token) × SpellsOperand Leaf ts a us
+  operand_of_test (compare {us = us} {a = a} o k h) = (a, us, o)
+  operand_of_test (is_null {us = us} {a = a} o h) = (a, IS ∷ us, o)
+  operand_of_test (between {us = us} {a = a} o k h i) = (a, us, o)
+  operand_of_test (among {us = us} {a = a} o k h) = (a, us, o)
+
+  pub test_no_operand : (ts : List Token) → Nothing (Starts (SpellsOperand Leaf) Any ts) → Nothing (Starts (SpellsTest Leaf) Any ts)
+  test_no_operand ts nothing = record { none = λ t r s. let o = operand_of_test s.spells in nothing.none o.0 o.1 (record { spells = o.2; apart = tt }) }
+
+  -- no leaf begins so
+  module _ (begins : (ts : List Token) (c : C) (rest : List Token) → Leaf ts c rest → begins_leaf ts ≡ true) where
+    operand_head : {ts r : List Token} {a : Operand C} → SpellsOperand Leaf ts a r → ((more : List Token) → ts ≡ lparen ∷ more → ⊥) × ((more : List Token) → ts ≡ NOT ∷ more → ⊥)
+    operand_head {ts} {r} (leaf_operand {c = c} h) =
+        let starts = begins ts c r h in
+        (λ more e. let bad : false ≡ true = sym (ap begins_leaf e) ∙ starts in cc, λ more e. let bad : false ≡ true = sym (ap begins_leaf e) ∙ starts in cc)
+    operand_head (literal_operand (number {n = n})) = (λ more e. let bad : Number n ≡ lparen = cc in cc, λ more e. let bad : Number n ≡ NOT = cc in cc)
+    operand_head (literal_operand (text {t = t})) = (λ more e. let bad : Quoted t ≡ lparen = cc in cc, λ more e. let bad : Quoted t ≡ NOT = cc in cc)
+
+    -- a test begins with no "(" and not with NOT
+    pub test_head : {ts r : List Token} {t : Test C} → SpellsTest Leaf ts t r → ((more : List Token) → ts ≡ lparen ∷ more → ⊥) × ((more : List Token) → ts ≡ NOT ∷ more → ⊥)
+    test_head s = operand_head (operand_of_test s).2
+
+    -- an operand that begins with a literal is one, and an other is a leaf
+    pub operand_literal : (ts : List Token) → begins_literal ts ≡ true → Turns (Starts (SpellsOperand Leaf) Any ts) (Starts SpellsLiteral Any ts) operand.Literal
+    operand_literal ts is = record {
+      to = λ l r h. record { spells = literal_operand h.spells; apart = tt };
+      from = λ a r s. inside s.spells is;
+    } where
+      inside : {us r : List Token} {a : Operand C} → SpellsOperand Leaf us a r → begins_literal us ≡ true → (l : Literal) × (a ≡ operand.Literal l) × Starts SpellsLiteral Any us l r
+      inside {us} {r} (leaf_operand {c = c} h) f = absurd (no_literal us (begins us c r h) f)
+      inside (literal_operand {l = l} h) f = (l, refl, record { spells = h; apart = tt })
+
+  pub operand_leaf : (ts : List Token) → begins_literal ts ≡ false → Turns (Starts (SpellsOperand Leaf) Any ts) (Starts Leaf Any ts) operand.Column
+  operand_leaf ts other = record {
+    to = λ c r h. record { spells = leaf_operand h.spells; apart = tt };
+    from = λ a r s. inside s.spells other;
   } where
-    inside : {ws r : List Token} {t : Test (List ℕ)} → TestAfter a ws t r → ws ≡ IS ∷ more → NullAfter a more t r
-    inside (after_compare {vs = xs} {c = c} k h) f = absurd (none-some (c, xs) (sym (ap comparison_at f) ∙ comparison_complete k))
-    inside {r = r} {t = t} (after_is {us = ws} h) f = let same : ws ≡ more = cc in subst (λ v. NullAfter a v t r) same h
-    inside (after_not without h) f = absurd ((range_word h).1 more f)
-    inside (after_not with h) f = absurd (let bad : NOT ≡ IS = cc in cc)
-
-  pub test_range : comparison_at us ≡ None → BeginsNot IS us → (not : Bool) (vs : List Token) → Marked NOT us not vs → Turns (TestAfter a us) (RangeAfter a not vs) (λ t. t)
-  test_range e other not vs m = record {
-    to = λ t r h. after_not m.spells h;
-    from = λ t r s. (t, refl, inside s e other m);
-  } where
-    inside : {ws r : List Token} {t : Test (List ℕ)} → TestAfter a ws t r → comparison_at ws ≡ None → BeginsNot IS ws → Marked NOT ws not vs → RangeAfter a not vs t r
-    inside (after_compare {vs = xs} {c = c} k h) f g m' = absurd (none-some (c, xs) (sym f ∙ comparison_complete k))
-    inside (after_is {us = ws} h) f g m' = absurd (g ws refl)
-    inside {r = r} {t = t} (after_not {vs = xs} {not = n} k h) f g m' =
-        let same = m'.only n xs k (range_word h).2 in
-        subst (λ v. RangeAfter a not v t r) same.1 (subst (λ x. RangeAfter a x xs t r) same.0 h)
-
--- a test is its first operand, and what follows it
-test_to : {ts us r : List Token} {a : Operand (List ℕ)} {t : Test (List ℕ)} → SpellsOperand ts a us → TestAfter a us t r → SpellsTest ts t r
-test_to o (after_compare k h) = compare o k h
-test_to o (after_is (null h)) = is_null o h
-test_to o (after_not k (range h i)) = between o k h i
-test_to o (after_not k (list h)) = among o k h
-
-pub test_operand : (ts : List Token) (a : Operand (List ℕ)) (us : List Token) → Found (Starts SpellsOperand Any ts) a us → Turns (Starts SpellsTest Any ts) (TestAfter a us) (λ t. t)
-test_operand ts a us found = record {
-  to = λ t r h. record { spells = test_to (found.is).spells h; apart = tt };
-  from = λ t r s. (t, refl, inside s.spells);
-} where
-  move : {b : Operand (List ℕ)} {vs r : List Token} {t : Test (List ℕ)} → SpellsOperand ts b vs → TestAfter b vs t r → TestAfter a us t r
-  move {b} {vs} {r} {t} o h =
-      let same = found.only b vs (record { spells = o; apart = tt }) in
-      subst (λ v. TestAfter a v t r) same.1 (subst (λ x. TestAfter x vs t r) same.0 h)
-
-  inside : {r : List Token} {t : Test (List ℕ)} → SpellsTest ts t r → TestAfter a us t r
-  inside (compare o k h) = move o (after_compare k h)
-  inside (is_null o h) = move o (after_is (null h))
-  inside (between o k h i) = move o (after_not k (range h i))
-  inside (among o k h) = move o (after_not k (list h))
-
-operand_of_test : {ts r : List Token} {t : Test (List ℕ)} → SpellsTest ts t r → (a : Operand (List ℕ)) × (us : List Token) × SpellsOperand ts a us
-operand_of_test (compare {us = us} {a = a} o k h) = (a, us, o)
-operand_of_test (is_null {us = us} {a = a} o h) = (a, IS ∷ us, o)
-operand_of_test (between {us = us} {a = a} o k h i) = (a, us, o)
-operand_of_test (among {us = us} {a = a} o k h) = (a, us, o)
-
-pub test_no_operand : (ts : List Token) → Nothing (Starts SpellsOperand Any ts) → Nothing (Starts SpellsTest Any ts)
-test_no_operand ts nothing = record { none = λ t r s. let o = operand_of_test s.spells in nothing.none o.0 o.1 (record { spells = o.2; apart = tt }) }
-
-operand_head : {ts r : List Token} {a : Operand (List ℕ)} → SpellsOperand ts a r → ((more : List Token) → ts ≡ lparen ∷ more → ⊥) × ((w : List ℕ) (more : List Token) → is_reserved w ≡ true → ts ≡ Word w ∷ more → ⊥)
-operand_head (name_operand (name {n = n} free)) = (λ more e. let bad : Word n ≡ lparen = cc in cc, λ w more is e. reserved_name n w is free cc)
-operand_head (literal_operand (number {n = n})) = (λ more e. let bad : Number n ≡ lparen = cc in cc, λ w more is e. let bad : Number n ≡ Word w = cc in cc)
-operand_head (literal_operand (text {t = t})) = (λ more e. let bad : Quoted t ≡ lparen = cc in cc, λ w more is e. let bad : Quoted t ≡ Word w = cc in cc)
-
--- a test begins with no "(" and no reserved word
-pub test_head : {ts r : List Token} {t : Test (List ℕ)} → SpellsTest ts t r → ((more : List Token) → ts ≡ lparen ∷ more → ⊥) × ((w : List ℕ) (more : List Token) → is_reserved w ≡ true → ts ≡ Word w ∷ more → ⊥)
-test_head s = operand_head (operand_of_test s).2
+    inside : {us r : List Token} {a : Operand C} → SpellsOperand Leaf us a r → begins_literal us ≡ false → (c : C) × (a ≡ operand.Column c) × Starts Leaf Any us c r
+    inside (leaf_operand {c = c} h) f = (c, refl, record { spells = h; apart = tt })
+    inside (literal_operand number) f = absurd (let bad : true ≡ false = f in cc)
+    inside (literal_operand text) f = absurd (let bad : true ≡ false = f in cc)

@@ -1,5 +1,5 @@
 -- The faults of a query that is asked of a table: each by itself, and the one that is answered.
-use Rattle.std.specs.Prelude.{ℕ, Bool, true, false, not, ◌||◌, List, [], ◌∷◌, Option, Some, None, bytes_eq, if◌then◌else◌, length, nat_lt}
+use Rattle.std.specs.Prelude.{ℕ, zero, suc, Bool, true, false, not, ◌||◌, List, [], ◌∷◌, Option, Some, None, bytes_eq, if◌then◌else◌, length, nat_lt}
 use Rattle.std.specs.List.{list_any}
 use Rattle.cells.specs.Values.{Table}
 use Rattle.cells.specs.declared.refused.Refused.{Refused}
@@ -10,7 +10,7 @@ use Rattle.cells.specs.declared.schema.ColumnType.TheVariants as kind
 use Rattle.query.specs.Limits.{set_limit}
 use Rattle.query.specs.Names.{names_of, tests_where}
 use Rattle.query.specs.Sets.{Names, grouping_sets}
-use Rattle.query.specs.Values.{QueryTree}
+use Rattle.query.specs.Values.{QueryTree, items_of}
 use Rattle.query.specs.declared.checking.Faults.{Faults}
 use Rattle.query.specs.declared.item.Item.{Item}
 use Rattle.query.specs.declared.item.Item.TheVariants as item
@@ -47,29 +47,47 @@ abbrev pub is_text_literal : Literal → Bool
 is_text_literal (literal.Int n) = false
 is_text_literal (literal.Text t) = true
 
-abbrev pub is_text_operand : List Column → Operand (List ℕ) → Bool
-is_text_operand columns (operand.Column n) = is_text_column columns n
-is_text_operand columns (operand.Literal l) = is_text_literal l
+-- the item's values are texts: counts, sums and GROUPING are integers, all others have the type of their column
+abbrev pub is_text_item : List Column → Item (List ℕ) → Bool
+is_text_item columns (item.Column n) = is_text_column columns n
+is_text_item columns (item.Min n) = is_text_column columns n
+is_text_item columns (item.Max n) = is_text_column columns n
+is_text_item columns i = false
+
+-- the values of the item at the place are texts
+abbrev pub is_text_at : List Column → List (Item (List ℕ)) → ℕ → Bool
+is_text_at columns [] place = false
+is_text_at columns (i ∷ items) zero = is_text_item columns i
+is_text_at columns (i ∷ items) (suc place) = is_text_at columns items place
+
+abbrev pub is_text_operand : {C : Type 0} → (C → Bool) → Operand C → Bool
+is_text_operand is_text (operand.Column c) = is_text c
+is_text_operand is_text (operand.Literal l) = is_text_literal l
 
 -- one is a text, and the other is none
 abbrev pub differ : Bool → Bool → Bool
 differ true b = not b
 differ false b = b
 
-abbrev pub is_mixed : List Column → Test (List ℕ) → Bool
-is_mixed columns (Compare a c b) = differ (is_text_operand columns a) (is_text_operand columns b)
-is_mixed columns (IsNull a not) = false
-is_mixed columns (Between a low high not) = differ (is_text_operand columns a) (is_text_operand columns low) || differ (is_text_operand columns a) (is_text_operand columns high)
-is_mixed columns (In a ls not) = list_any (λ l. differ (is_text_operand columns a) (is_text_literal l)) ls
+-- by which of its leaves are texts, a test puts an integer beside a text
+abbrev pub is_mixed : {C : Type 0} → (C → Bool) → Test C → Bool
+is_mixed is_text (Compare a c b) = differ (is_text_operand is_text a) (is_text_operand is_text b)
+is_mixed is_text (IsNull a not) = false
+is_mixed is_text (Between a low high not) = differ (is_text_operand is_text a) (is_text_operand is_text low) || differ (is_text_operand is_text a) (is_text_operand is_text high)
+is_mixed is_text (In a ls not) = list_any (λ l. differ (is_text_operand is_text a) (is_text_literal l)) ls
 
 abbrev pub is_text_sum : List Column → Item (List ℕ) → Bool
 is_text_sum columns (item.Sum n) = is_text_column columns n
 is_text_sum columns i = false
 
 abbrev pub is_wrong_type : Table → QueryTree → Bool
-is_wrong_type table query = list_any (is_text_sum table.columns) query.items || list_any (is_mixed table.columns) (tests_where query.condition)
+is_wrong_type table query =
+    list_any (is_text_sum table.columns) (items_of query)
+    || list_any (is_mixed (is_text_column table.columns)) (tests_where query.condition)
+    || list_any (is_mixed (is_text_at table.columns query.having.items)) (tests_where query.having.predicate)
 
--- ---- NotGrouped: an item is a column alone that is in no grouping set, or GROUPING of such a column (7.11)
+-- ---- NotGrouped: an item, of the select list (7.11) or of HAVING (7.10), is a column alone that is in no grouping set, or
+-- GROUPING of such a column
 
 -- one of the sets names the column
 abbrev pub is_in_some : List Names → List ℕ → Bool
@@ -81,7 +99,7 @@ is_ungrouped sets (item.Grouping ns) = list_any (λ n. not (is_in_some sets n)) 
 is_ungrouped sets i = false
 
 abbrev pub is_not_grouped : QueryTree → Bool
-is_not_grouped query = list_any (is_ungrouped (grouping_sets query.groups.elements)) query.items
+is_not_grouped query = list_any (is_ungrouped (grouping_sets query.groups.elements)) (items_of query)
 
 -- ---- TooManySets: there are more grouping sets than the limit, repeated ones counted, also those that DISTINCT drops
 

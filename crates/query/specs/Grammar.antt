@@ -1,5 +1,5 @@
 -- How tokens spell a query (after ISO/IEC 9075-2:1999: 7.11 query specification, 7.8 where clause, 7.9 group by
--- clause, 6.16 set function specification, 8.1 to 8.4 and the null predicate of clause 8, and the boolean value
+-- clause, 7.10 having clause, 6.16 set function specification, 8.1 to 8.4 and the null predicate of clause 8, and the boolean value
 -- expression; and after ISO/IEC 9075-2:2016: GROUP BY DISTINCT, feature T434, and GROUPING of several columns, feature
 -- T433): a family for each rule of the grammar, a constructor for each alternative.
 -- `SpellsX ts x rest` says that the tokens ts begin with a spelling of x, and that rest follows it.
@@ -9,7 +9,8 @@ use Rattle.cells.specs.declared.token.Token.{Token}
 use Rattle.cells.specs.declared.token.Token.TheVariants.{Word, Number, Quoted, Mark}
 use Rattle.cells.specs.declared.token.Mark.TheVariants.{LeftParen, RightParen, Comma, Asterisk, Equals, NotEquals, LessThanOrEquals, GreaterThanOrEquals, LessThan, GreaterThan}
 use Rattle.query.specs.Trees.{ElementTree, Empty, OneUnit, Rollup, Cube, Sets, ElementTrees, NoElements, MoreElements, PredicateTree, Or, And, Not, Holds, PredicateTrees, NoPredicates, MorePredicates}
-use Rattle.query.specs.Values.{GroupsTree, QueryTree, all_rows}
+use Rattle.query.specs.Having.{having_of}
+use Rattle.query.specs.Values.{GroupsTree, HavingTree, QueryTree, all_rows, no_having}
 use Rattle.query.specs.declared.item.Item.{Item}
 use Rattle.query.specs.declared.item.Item.TheVariants as item
 use Rattle.query.specs.declared.test.Test.{Test}
@@ -51,6 +52,9 @@ GROUP = Word (codes "GROUP")
 
 abbrev pub BY : Token
 BY = Word (codes "BY")
+
+abbrev pub HAVING : Token
+HAVING = Word (codes "HAVING")
 
 abbrev pub ROLLUP : Token
 ROLLUP = Word (codes "ROLLUP")
@@ -156,10 +160,10 @@ pub data SpellsLiteral : List Token → Literal → List Token → Type 0 where
   number : {n : _} {rest : List Token} → SpellsLiteral (Number n ∷ rest) (literal.Int n) rest
   text : {t : List ℕ} {rest : List Token} → SpellsLiteral (Quoted t ∷ rest) (literal.Text t) rest
 
--- operand = name | literal
-pub data SpellsOperand : List Token → Operand (List ℕ) → List Token → Type 0 where
-  name_operand : {ts rest : List Token} {n : List ℕ} → SpellsName ts n rest → SpellsOperand ts (operand.Column n) rest
-  literal_operand : {ts rest : List Token} {l : Literal} → SpellsLiteral ts l rest → SpellsOperand ts (operand.Literal l) rest
+-- operand = leaf | literal: a leaf is what the clause allows beside a literal, a name in WHERE and an item in HAVING
+pub data SpellsOperand {C : Type 0} (Leaf : List Token → C → List Token → Type 0) : List Token → Operand C → List Token → Type 0 where
+  leaf_operand : {ts rest : List Token} {c : C} → Leaf ts c rest → SpellsOperand Leaf ts (operand.Column c) rest
+  literal_operand : {ts rest : List Token} {l : Literal} → SpellsLiteral ts l rest → SpellsOperand Leaf ts (operand.Literal l) rest
 
 -- comparison = "=" | "<>" | "<" | "<=" | ">" | ">="
 pub data SpellsComparison : List Token → Comparison → List Token → Type 0 where
@@ -181,59 +185,65 @@ SpellsNot = SpellsMark NOT
 
 -- test = operand comparison operand | operand IS [ NOT ] NULL | operand [ NOT ] BETWEEN operand AND operand
 --     | operand [ NOT ] IN "(" literal { "," literal } ")"
-pub data SpellsTest : List Token → Test (List ℕ) → List Token → Type 0 where
+pub data SpellsTest {C : Type 0} (Leaf : List Token → C → List Token → Type 0) : List Token → Test C → List Token → Type 0 where
   -- operand comparison operand
-  compare : {ts us vs rest : List Token} {a b : Operand (List ℕ)} {c : Comparison} → SpellsOperand ts a us → SpellsComparison us c vs → SpellsOperand vs b rest → SpellsTest ts (test.Compare a c b) rest
+  compare : {ts us vs rest : List Token} {a b : Operand C} {c : Comparison} → SpellsOperand Leaf ts a us → SpellsComparison us c vs → SpellsOperand Leaf vs b rest → SpellsTest Leaf ts (test.Compare a c b) rest
   -- operand IS [ NOT ] NULL
-  is_null : {ts us rest : List Token} {a : Operand (List ℕ)} {not : Bool} → SpellsOperand ts a (IS ∷ us) → SpellsNot us not (NULL ∷ rest) → SpellsTest ts (test.IsNull a not) rest
+  is_null : {ts us rest : List Token} {a : Operand C} {not : Bool} → SpellsOperand Leaf ts a (IS ∷ us) → SpellsNot us not (NULL ∷ rest) → SpellsTest Leaf ts (test.IsNull a not) rest
   -- operand [ NOT ] BETWEEN operand AND operand
-  between : {ts us vs ws rest : List Token} {a low high : Operand (List ℕ)} {not : Bool} → SpellsOperand ts a us → SpellsNot us not (BETWEEN ∷ vs) → SpellsOperand vs low (AND ∷ ws) → SpellsOperand ws high rest → SpellsTest ts (test.Between a low high not) rest
+  between : {ts us vs ws rest : List Token} {a low high : Operand C} {not : Bool} → SpellsOperand Leaf ts a us → SpellsNot us not (BETWEEN ∷ vs) → SpellsOperand Leaf vs low (AND ∷ ws) → SpellsOperand Leaf ws high rest → SpellsTest Leaf ts (test.Between a low high not) rest
   -- operand [ NOT ] IN "(" literal { "," literal } ")"
-  among : {ts us vs rest : List Token} {a : Operand (List ℕ)} {ls : List Literal} {not : Bool} → SpellsOperand ts a us → SpellsNot us not (IN ∷ lparen ∷ vs) → Separated comma SpellsLiteral vs ls (rparen ∷ rest) → SpellsTest ts (test.In a ls not) rest
+  among : {ts us vs rest : List Token} {a : Operand C} {ls : List Literal} {not : Bool} → SpellsOperand Leaf ts a us → SpellsNot us not (IN ∷ lparen ∷ vs) → Separated comma SpellsLiteral vs ls (rparen ∷ rest) → SpellsTest Leaf ts (test.In a ls not) rest
 
 mutual
   -- predicate = term { OR term }: one term is itself, several are an OR of at least two
-  pub data SpellsPredicate : List Token → PredicateTree (Test (List ℕ)) → List Token → Type 0 where
-    one_term : {ts rest : List Token} {p : PredicateTree (Test (List ℕ))} → SpellsTerm ts p rest → SpellsPredicate ts p rest
-    or : {ts us rest : List Token} {p : PredicateTree (Test (List ℕ))} {ps : PredicateTrees (Test (List ℕ))} → SpellsTerm ts p (OR ∷ us) → SpellsTerms us ps rest → SpellsPredicate ts (Or (MorePredicates p ps)) rest
+  pub data SpellsPredicate {C : Type 0} (Leaf : List Token → C → List Token → Type 0) : List Token → PredicateTree (Test C) → List Token → Type 0 where
+    one_term : {ts rest : List Token} {p : PredicateTree (Test C)} → SpellsTerm Leaf ts p rest → SpellsPredicate Leaf ts p rest
+    or : {ts us rest : List Token} {p : PredicateTree (Test C)} {ps : PredicateTrees (Test C)} → SpellsTerm Leaf ts p (OR ∷ us) → SpellsTerms Leaf us ps rest → SpellsPredicate Leaf ts (Or (MorePredicates p ps)) rest
 
   -- term { OR term }, as a list
-  pub data SpellsTerms : List Token → PredicateTrees (Test (List ℕ)) → List Token → Type 0 where
-    last_term : {ts rest : List Token} {p : PredicateTree (Test (List ℕ))} → SpellsTerm ts p rest → SpellsTerms ts (MorePredicates p NoPredicates) rest
-    next_term : {ts us rest : List Token} {p : PredicateTree (Test (List ℕ))} {ps : PredicateTrees (Test (List ℕ))} → SpellsTerm ts p (OR ∷ us) → SpellsTerms us ps rest → SpellsTerms ts (MorePredicates p ps) rest
+  pub data SpellsTerms {C : Type 0} (Leaf : List Token → C → List Token → Type 0) : List Token → PredicateTrees (Test C) → List Token → Type 0 where
+    last_term : {ts rest : List Token} {p : PredicateTree (Test C)} → SpellsTerm Leaf ts p rest → SpellsTerms Leaf ts (MorePredicates p NoPredicates) rest
+    next_term : {ts us rest : List Token} {p : PredicateTree (Test C)} {ps : PredicateTrees (Test C)} → SpellsTerm Leaf ts p (OR ∷ us) → SpellsTerms Leaf us ps rest → SpellsTerms Leaf ts (MorePredicates p ps) rest
 
   -- term = factor { AND factor }: one factor is itself, several are an AND of at least two
-  pub data SpellsTerm : List Token → PredicateTree (Test (List ℕ)) → List Token → Type 0 where
-    one_factor : {ts rest : List Token} {p : PredicateTree (Test (List ℕ))} → SpellsFactor ts p rest → SpellsTerm ts p rest
-    and : {ts us rest : List Token} {p : PredicateTree (Test (List ℕ))} {ps : PredicateTrees (Test (List ℕ))} → SpellsFactor ts p (AND ∷ us) → SpellsFactors us ps rest → SpellsTerm ts (And (MorePredicates p ps)) rest
+  pub data SpellsTerm {C : Type 0} (Leaf : List Token → C → List Token → Type 0) : List Token → PredicateTree (Test C) → List Token → Type 0 where
+    one_factor : {ts rest : List Token} {p : PredicateTree (Test C)} → SpellsFactor Leaf ts p rest → SpellsTerm Leaf ts p rest
+    and : {ts us rest : List Token} {p : PredicateTree (Test C)} {ps : PredicateTrees (Test C)} → SpellsFactor Leaf ts p (AND ∷ us) → SpellsFactors Leaf us ps rest → SpellsTerm Leaf ts (And (MorePredicates p ps)) rest
 
   -- factor { AND factor }, as a list
-  pub data SpellsFactors : List Token → PredicateTrees (Test (List ℕ)) → List Token → Type 0 where
-    last_factor : {ts rest : List Token} {p : PredicateTree (Test (List ℕ))} → SpellsFactor ts p rest → SpellsFactors ts (MorePredicates p NoPredicates) rest
-    next_factor : {ts us rest : List Token} {p : PredicateTree (Test (List ℕ))} {ps : PredicateTrees (Test (List ℕ))} → SpellsFactor ts p (AND ∷ us) → SpellsFactors us ps rest → SpellsFactors ts (MorePredicates p ps) rest
+  pub data SpellsFactors {C : Type 0} (Leaf : List Token → C → List Token → Type 0) : List Token → PredicateTrees (Test C) → List Token → Type 0 where
+    last_factor : {ts rest : List Token} {p : PredicateTree (Test C)} → SpellsFactor Leaf ts p rest → SpellsFactors Leaf ts (MorePredicates p NoPredicates) rest
+    next_factor : {ts us rest : List Token} {p : PredicateTree (Test C)} {ps : PredicateTrees (Test C)} → SpellsFactor Leaf ts p (AND ∷ us) → SpellsFactors Leaf us ps rest → SpellsFactors Leaf ts (MorePredicates p ps) rest
 
   -- factor = [ NOT ] primary
-  pub data SpellsFactor : List Token → PredicateTree (Test (List ℕ)) → List Token → Type 0 where
-    plain : {ts rest : List Token} {p : PredicateTree (Test (List ℕ))} → SpellsPrimary ts p rest → SpellsFactor ts p rest
-    not : {ts rest : List Token} {p : PredicateTree (Test (List ℕ))} → SpellsPrimary ts p rest → SpellsFactor (NOT ∷ ts) (Not p) rest
+  pub data SpellsFactor {C : Type 0} (Leaf : List Token → C → List Token → Type 0) : List Token → PredicateTree (Test C) → List Token → Type 0 where
+    plain : {ts rest : List Token} {p : PredicateTree (Test C)} → SpellsPrimary Leaf ts p rest → SpellsFactor Leaf ts p rest
+    not : {ts rest : List Token} {p : PredicateTree (Test C)} → SpellsPrimary Leaf ts p rest → SpellsFactor Leaf (NOT ∷ ts) (Not p) rest
 
   -- primary = "(" predicate ")" | test: parentheses leave no trace in the tree
-  pub data SpellsPrimary : List Token → PredicateTree (Test (List ℕ)) → List Token → Type 0 where
-    parens : {ts rest : List Token} {p : PredicateTree (Test (List ℕ))} → SpellsPredicate ts p (rparen ∷ rest) → SpellsPrimary (lparen ∷ ts) p rest
-    tested : {ts rest : List Token} {t : Test (List ℕ)} → SpellsTest ts t rest → SpellsPrimary ts (Holds t) rest
+  pub data SpellsPrimary {C : Type 0} (Leaf : List Token → C → List Token → Type 0) : List Token → PredicateTree (Test C) → List Token → Type 0 where
+    parens : {ts rest : List Token} {p : PredicateTree (Test C)} → SpellsPredicate Leaf ts p (rparen ∷ rest) → SpellsPrimary Leaf (lparen ∷ ts) p rest
+    tested : {ts rest : List Token} {t : Test C} → SpellsTest Leaf ts t rest → SpellsPrimary Leaf ts (Holds t) rest
 
 -- [ WHERE predicate ]
 pub data SpellsWhere : List Token → Option (PredicateTree (Test (List ℕ))) → List Token → Type 0 where
   no_where : {rest : List Token} → SpellsWhere rest None rest
-  where_predicate : {ts rest : List Token} {p : PredicateTree (Test (List ℕ))} → SpellsPredicate ts p rest → SpellsWhere (WHERE ∷ ts) (Some p) rest
+  where_predicate : {ts rest : List Token} {p : PredicateTree (Test (List ℕ))} → SpellsPredicate SpellsName ts p rest → SpellsWhere (WHERE ∷ ts) (Some p) rest
 
 -- [ GROUP BY [ DISTINCT ] element { "," element } ]: without it, it is as with GROUP BY ()
 pub data SpellsGroups : List Token → GroupsTree → List Token → Type 0 where
   no_groups : {rest : List Token} → SpellsGroups rest all_rows rest
   group_by : {ts us rest : List Token} {d : Bool} {es : List ElementTree} → SpellsMark DISTINCT ts d us → Separated comma SpellsElement us es rest → SpellsGroups (GROUP ∷ BY ∷ ts) (record { distinct = d; elements = es }) rest
 
+-- [ HAVING predicate ], over items
+pub data SpellsHaving : List Token → HavingTree → List Token → Type 0 where
+  without_having : {rest : List Token} → SpellsHaving rest no_having rest
+  having : {ts rest : List Token} {p : PredicateTree (Test (Item (List ℕ)))} → SpellsPredicate SpellsItem ts p rest → SpellsHaving (HAVING ∷ ts) (having_of p) rest
+
 -- query = SELECT item { "," item } FROM name [ WHERE predicate ] [ GROUP BY [ DISTINCT ] element { "," element } ]
+--     [ HAVING predicate ]
 pub data SpellsQuery : List Token → QueryTree → Type 0 where
-  query : {ts us vs ws : List Token} {items : List (Item (List ℕ))} {table : List ℕ} {condition : Option (PredicateTree (Test (List ℕ)))} {groups : GroupsTree} →
-      Separated comma SpellsItem ts items (FROM ∷ us) → SpellsName us table vs → SpellsWhere vs condition ws → SpellsGroups ws groups [] →
-      SpellsQuery (SELECT ∷ ts) (record { items = items; table = table; condition = condition; groups = groups })
+  query : {ts us vs ws xs : List Token} {items : List (Item (List ℕ))} {table : List ℕ} {condition : Option (PredicateTree (Test (List ℕ)))} {groups : GroupsTree} {having : HavingTree} →
+      Separated comma SpellsItem ts items (FROM ∷ us) → SpellsName us table vs → SpellsWhere vs condition ws → SpellsGroups ws groups xs → SpellsHaving xs having [] →
+      SpellsQuery (SELECT ∷ ts) (record { items = items; table = table; condition = condition; groups = groups; having = having })

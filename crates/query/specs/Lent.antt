@@ -1,11 +1,11 @@
 -- Values that are lent.
-use Rattle.cells.specs.declared.cell.Cell.{Cell}
-use Rattle.cells.specs.declared.cell.Cell.TheVariants as cell
+use Rattle.cells.specs.declared.total.Total.{Total}
+use Rattle.cells.specs.declared.total.Total.TheVariants as total
 use Rattle.query.specs.declared.truth.Value.{Value}
 use Rattle.query.specs.declared.truth.Value.TheVariants as value
 
--- the cell that the value is
-abbrev pub cell_of : Value → Cell
-cell_of value.Null = cell.Null
-cell_of (value.Int n) = cell.Int n
-cell_of (value.Text t) = cell.Text t.now
+-- the value that is lent
+abbrev pub total_of : Value → Total
+total_of value.Null = total.Null
+total_of (value.Int n) = total.Int n
+total_of (value.Text t) = total.Text t.now

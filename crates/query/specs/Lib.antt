@@ -15,9 +15,11 @@ pub mod Ends
 pub mod Sets
 pub mod Marks
 pub mod Truth
+pub mod Leaves
 pub mod Lent
 pub mod Names
 pub mod Checks
+pub mod Having
 pub mod Headings
 pub mod Plans
 pub mod Worked

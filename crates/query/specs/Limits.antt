@@ -9,7 +9,7 @@ query_limit = 65536
 abbrev pub parenthesis_limit : ℕ
 parenthesis_limit = 64
 
--- the most items of a select list
+-- the most items of a select list, and the most aggregates in HAVING
 abbrev pub item_limit : ℕ
 item_limit = 32
 

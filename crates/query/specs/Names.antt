@@ -2,7 +2,7 @@
 use Rattle.std.specs.Prelude.{ℕ, List, [], ◌∷◌, ◌++◌, Option, Some, None}
 use Rattle.std.specs.List.{flat_map}
 use Rattle.query.specs.Trees.{ElementTree, Empty, OneUnit, Rollup, Cube, Sets, ElementTrees, NoElements, MoreElements, PredicateTree, Or, And, Not, Holds, PredicateTrees, NoPredicates, MorePredicates}
-use Rattle.query.specs.Values.{QueryTree}
+use Rattle.query.specs.Values.{QueryTree, items_of}
 use Rattle.query.specs.declared.item.Item.{Item}
 use Rattle.query.specs.declared.item.Item.TheVariants as item
 use Rattle.query.specs.declared.test.Test.{Test}
@@ -20,15 +20,16 @@ item_names (item.Sum n) = n ∷ []
 item_names (item.Min n) = n ∷ []
 item_names (item.Max n) = n ∷ []
 
-abbrev pub operand_names : Operand (List ℕ) → List (List ℕ)
-operand_names (operand.Column n) = n ∷ []
-operand_names (operand.Literal l) = []
+-- the leaves of a test, in the order of the text: its operands that are no literals
+abbrev pub operand_leaves : {C : Type 0} → Operand C → List C
+operand_leaves (operand.Column c) = c ∷ []
+operand_leaves (operand.Literal l) = []
 
-abbrev pub test_names : Test (List ℕ) → List (List ℕ)
-test_names (Compare a c b) = operand_names a ++ operand_names b
-test_names (IsNull a not) = operand_names a
-test_names (Between a low high not) = operand_names a ++ operand_names low ++ operand_names high
-test_names (In a ls not) = operand_names a
+abbrev pub test_leaves : {C : Type 0} → Test C → List C
+test_leaves (Compare a c b) = operand_leaves a ++ operand_leaves b
+test_leaves (IsNull a not) = operand_leaves a
+test_leaves (Between a low high not) = operand_leaves a ++ operand_leaves low ++ operand_leaves high
+test_leaves (In a ls not) = operand_leaves a
 
 abbrev mutual
   -- the tests of which a predicate is made
@@ -42,7 +43,11 @@ abbrev mutual
   tests_of_each NoPredicates = []
   tests_of_each (MorePredicates p ps) = tests_of p ++ tests_of_each ps
 
--- the tests of WHERE
+-- the leaves of a predicate, in the order of the text
+abbrev pub leaves_of : {C : Type 0} → PredicateTree (Test C) → List C
+leaves_of p = flat_map test_leaves (tests_of p)
+
+-- the tests of a predicate that may be there
 abbrev pub tests_where : {T : Type 0} → Option (PredicateTree T) → List T
 tests_where None = []
 tests_where (Some p) = tests_of p
@@ -59,6 +64,6 @@ abbrev mutual
   names_of_each NoElements = []
   names_of_each (MoreElements e es) = element_names e ++ names_of_each es
 
--- the names in the items, in the predicate and in the elements of GROUP BY
+-- the names in the items of the select list and of HAVING, in the predicate of WHERE and in the elements of GROUP BY
 abbrev pub names_of : QueryTree → List (List ℕ)
-names_of q = flat_map item_names q.items ++ flat_map test_names (tests_where q.condition) ++ flat_map element_names q.groups.elements
+names_of q = flat_map item_names (items_of q) ++ flat_map test_leaves (tests_where q.condition) ++ flat_map element_names q.groups.elements

@@ -1,6 +1,6 @@
 -- The short phrases at the front of tokens, as functions: what the private readers answer. The rules of the grammar say
 -- which they are.
-use Rattle.std.specs.Prelude.{◌≢◌, ℕ, Bool, List, ◌∷◌, bytes_eq, codes, Option, Some, None, if◌then◌else◌}
+use Rattle.std.specs.Prelude.{◌≢◌, ℕ, Bool, true, false, List, ◌∷◌, bytes_eq, codes, Option, Some, None, if◌then◌else◌}
 use Rattle.cells.specs.Schemas.{is_reserved}
 use Rattle.cells.specs.declared.token.Token.{Token}
 use Rattle.cells.specs.declared.token.Token.TheVariants.{Word, Number, Quoted, Mark}
@@ -11,7 +11,6 @@ use Rattle.query.specs.declared.test.Test.TheVariants as test
 use Rattle.query.specs.declared.test.Literal.{Literal}
 use Rattle.query.specs.declared.test.Literal.TheVariants as literal
 use Rattle.query.specs.declared.test.Operand.{Operand}
-use Rattle.query.specs.declared.test.Operand.TheVariants as operand
 use Rattle.query.specs.declared.test.Comparison.{Comparison}
 use Rattle.query.specs.declared.test.Comparison.TheVariants as comparison
 use Rattle.query.specs.declared.item.Item.{Item}
@@ -66,11 +65,11 @@ literal_at (Number n ∷ rest) = Some (literal.Int n, rest)
 literal_at (Quoted t ∷ rest) = Some (literal.Text t, rest)
 literal_at ts = None
 
-abbrev pub operand_at : List Token → Option (Operand (List ℕ) × List Token)
-operand_at (Word n ∷ rest) = if is_reserved n then None else Some (operand.Column n, rest)
-operand_at (Number n ∷ rest) = Some (operand.Literal (literal.Int n), rest)
-operand_at (Quoted t ∷ rest) = Some (operand.Literal (literal.Text t), rest)
-operand_at ts = None
+-- the tokens begin with a literal
+abbrev pub begins_literal : List Token → Bool
+begins_literal (Number n ∷ rest) = true
+begins_literal (Quoted t ∷ rest) = true
+begins_literal ts = false
 
 abbrev pub comparison_at : List Token → Option (Comparison × List Token)
 comparison_at (Mark Equals ∷ rest) = Some (comparison.Equal, rest)
@@ -82,21 +81,22 @@ comparison_at (Mark GreaterThanOrEquals ∷ rest) = Some (comparison.GreaterOrEq
 comparison_at ts = None
 
 -- a test behind its first operand
-pub data NullAfter (a : Operand (List ℕ)) : List Token → Test (List ℕ) → List Token → Type 0 where
+pub data NullAfter {C : Type 0} (a : Operand C) : List Token → Test C → List Token → Type 0 where
   null : {us rest : List Token} {not : Bool} → SpellsNot us not (NULL ∷ rest) → NullAfter a us (test.IsNull a not) rest
 
--- the bounds behind BETWEEN
-abbrev pub BoundsAt : List Token → Operand (List ℕ) × Operand (List ℕ) → List Token → Type 0
-BoundsAt us bounds rest = (vs : List Token) × SpellsOperand us bounds.0 (AND ∷ vs) × SpellsOperand vs bounds.1 rest
+module _ {C : Type 0} (Leaf : List Token → C → List Token → Type 0) where
+  -- the bounds behind BETWEEN
+  abbrev pub BoundsAt : List Token → Operand C × Operand C → List Token → Type 0
+  BoundsAt us bounds rest = (vs : List Token) × SpellsOperand Leaf us bounds.0 (AND ∷ vs) × SpellsOperand Leaf vs bounds.1 rest
 
-pub data RangeAfter (a : Operand (List ℕ)) (not : Bool) : List Token → Test (List ℕ) → List Token → Type 0 where
-  range : {us vs rest : List Token} {low high : Operand (List ℕ)} → SpellsOperand us low (AND ∷ vs) → SpellsOperand vs high rest → RangeAfter a not (BETWEEN ∷ us) (test.Between a low high not) rest
-  list : {us rest : List Token} {ls : List Literal} → Separated comma SpellsLiteral us ls (rparen ∷ rest) → RangeAfter a not (IN ∷ lparen ∷ us) (test.In a ls not) rest
+pub data RangeAfter {C : Type 0} (Leaf : List Token → C → List Token → Type 0) (a : Operand C) (not : Bool) : List Token → Test C → List Token → Type 0 where
+  range : {us vs rest : List Token} {low high : Operand C} → SpellsOperand Leaf us low (AND ∷ vs) → SpellsOperand Leaf vs high rest → RangeAfter Leaf a not (BETWEEN ∷ us) (test.Between a low high not) rest
+  list : {us rest : List Token} {ls : List Literal} → Separated comma SpellsLiteral us ls (rparen ∷ rest) → RangeAfter Leaf a not (IN ∷ lparen ∷ us) (test.In a ls not) rest
 
-pub data TestAfter (a : Operand (List ℕ)) : List Token → Test (List ℕ) → List Token → Type 0 where
-  after_compare : {us vs rest : List Token} {b : Operand (List ℕ)} {c : Comparison} → SpellsComparison us c vs → SpellsOperand vs b rest → TestAfter a us (test.Compare a c b) rest
-  after_is : {us rest : List Token} {t : Test (List ℕ)} → NullAfter a us t rest → TestAfter a (IS ∷ us) t rest
-  after_not : {us vs rest : List Token} {t : Test (List ℕ)} {not : Bool} → SpellsNot us not vs → RangeAfter a not vs t rest → TestAfter a us t rest
+pub data TestAfter {C : Type 0} (Leaf : List Token → C → List Token → Type 0) (a : Operand C) : List Token → Test C → List Token → Type 0 where
+  after_compare : {us vs rest : List Token} {b : Operand C} {c : Comparison} → SpellsComparison us c vs → SpellsOperand Leaf vs b rest → TestAfter Leaf a us (test.Compare a c b) rest
+  after_is : {us rest : List Token} {t : Test C} → NullAfter a us t rest → TestAfter Leaf a (IS ∷ us) t rest
+  after_not : {us vs rest : List Token} {t : Test C} {not : Bool} → SpellsNot us not vs → RangeAfter Leaf a not vs t rest → TestAfter Leaf a us t rest
 
 -- the tokens begin with no form of grouping element but a unit
 pub record IsPlain (ts : List Token) : Type 0 where

@@ -12,7 +12,7 @@ use Rattle.query.specs.Limits.{set_limit}
 use Rattle.query.specs.Sets.{placed_sets}
 use Rattle.query.specs.Trees.{PredicateTree, Or, And, Not, Holds, PredicateTrees, NoPredicates, MorePredicates}
 use Rattle.query.specs.Truth.{IsOver}
-use Rattle.query.specs.Values.{QueryTree}
+use Rattle.query.specs.Values.{QueryTree, items_of}
 use Rattle.query.specs.declared.item.Item.{Item}
 use Rattle.query.specs.declared.item.Item.TheVariants as item
 use Rattle.query.specs.declared.test.Operand.{Operand}
@@ -20,12 +20,15 @@ use Rattle.query.specs.declared.test.Operand.TheVariants as operand
 use Rattle.query.specs.declared.test.Test.{Test}
 use Rattle.query.specs.declared.test.Test.TheVariants.{Compare, IsNull, Between, In}
 
--- a plan: its items and the texts that a header has of them, its predicate, and its grouping sets as places that rise
+-- a plan: the items of the select list and behind them those of HAVING; the texts that a header has of the former; the
+-- predicate of WHERE; the grouping sets as places that rise; and the predicate of HAVING over the places of its items,
+-- which count from the first of these
 pub record PlanTree : Type 0 where
   pub items : List (Item ℕ)
   pub headings : List (List ℕ)
   pub condition : Option (PredicateTree (Test ℕ))
   pub sets : List (List ℕ)
+  pub having : Option (PredicateTree (Test ℕ))
 
 -- ---- names as places
 
@@ -67,10 +70,11 @@ abbrev mutual
 -- the plan of a query for a table
 abbrev pub plan_of : Table → QueryTree → PlanTree
 plan_of table query = record {
-  items = map (placed_item table.columns) query.items;
+  items = map (placed_item table.columns) (items_of query);
   headings = map heading query.items;
   condition = option_map (placed_predicate table.columns) query.condition;
   sets = placed_sets table.columns query.groups;
+  having = query.having.predicate;
 }
 
 -- the fault that is answered, and the plan where there is none
@@ -115,7 +119,7 @@ pub record IsSetOf (columns : List Column) (set : List ℕ) : Type 0 where
 -- the plan may be carried out over rows of the table
 pub record IsPlanOf (table : Table) (plan : PlanTree) : Type 0 where
   pub items : AllByRecursion (IsItemOf table.columns) plan.items
-  pub headings : length plan.headings ≡ length plan.items
+  pub headings : length plan.headings ≤ length plan.items
   pub condition : IsConditionOf table.columns plan.condition
   pub sets : AllByRecursion (IsSetOf table.columns) plan.sets
   pub some : 0 < length plan.sets

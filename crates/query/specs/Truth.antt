@@ -1,11 +1,11 @@
--- The truth of a predicate over a row, in three values (ISO/IEC 9075-2:1999, 8.1 <predicate> and the truth tables of its
--- <boolean value expression>).
+-- The truth of a predicate over values, those of a row's cells or of a group's items, in three values (ISO/IEC 9075-2:1999,
+-- 8.1 <predicate> and the truth tables of its <boolean value expression>).
 use Rattle.std.specs.Prelude.{ℕ, ◌<◌, Bool, true, false, List, [], ◌∷◌, if◌then◌else◌, slice_index_or, ⊤}
 use Rattle.std.specs.Ordering.{is_lt, is_le, is_gt, is_ge, is_eq, is_ne}
 use Rattle.std.specs.declared.cmp.Ordering.{Ordering}
-use Rattle.cells.specs.CellOrder.{cell_cmp}
-use Rattle.cells.specs.declared.cell.Cell.{Cell}
-use Rattle.cells.specs.declared.cell.Cell.TheVariants as cell
+use Rattle.cells.specs.TotalOrder.{total_cmp}
+use Rattle.cells.specs.declared.total.Total.{Total}
+use Rattle.cells.specs.declared.total.Total.TheVariants as total
 use Rattle.query.specs.Trees.{PredicateTree, Or, And, Not, Holds, PredicateTrees, NoPredicates, MorePredicates}
 use Rattle.query.specs.declared.truth.Truth.{Truth}
 use Rattle.query.specs.declared.truth.Truth.TheVariants.{True, False, Unknown}
@@ -42,14 +42,14 @@ abbrev pub negated : Bool → Truth → Truth
 negated true t = not_truth t
 negated false t = t
 
-abbrev pub literal_cell : Literal → Cell
-literal_cell (literal.Int n) = cell.Int n
-literal_cell (literal.Text t) = cell.Text t
+abbrev pub literal_total : Literal → Total
+literal_total (literal.Int n) = total.Int n
+literal_total (literal.Text t) = total.Text t
 
--- the value of an operand in a row
-abbrev pub value_of : Operand ℕ → List Cell → Cell
-value_of (operand.Column place) row = slice_index_or row place cell.Null
-value_of (operand.Literal l) row = literal_cell l
+-- the value of an operand, and NULL where there is none at its place
+abbrev pub value_of : Operand ℕ → List Total → Total
+value_of (operand.Column place) values = slice_index_or values place total.Null
+value_of (operand.Literal l) values = literal_total l
 
 -- whether the order of two values is as the comparison wants it
 abbrev pub meets : Comparison → Ordering → Bool
@@ -61,48 +61,48 @@ meets Greater o = is_gt o
 meets GreaterOrEqual o = is_ge o
 
 -- 8.2 <comparison predicate>: unknown where a value is NULL
-abbrev pub compared : Cell → Comparison → Cell → Truth
-compared cell.Null c b = Unknown
-compared a c cell.Null = Unknown
-compared a c b = if meets c (cell_cmp a b) then True else False
+abbrev pub compared : Total → Comparison → Total → Truth
+compared total.Null c b = Unknown
+compared a c total.Null = Unknown
+compared a c b = if meets c (total_cmp a b) then True else False
 
 -- 8.7 <null predicate>: never unknown
-abbrev pub is_null : Cell → Truth
-is_null cell.Null = True
-is_null (cell.Int n) = False
-is_null (cell.Text t) = False
+abbrev pub is_null : Total → Truth
+is_null total.Null = True
+is_null (total.Int n) = False
+is_null (total.Text t) = False
 
 -- 8.3 <between predicate>: x >= low AND x <= high
-abbrev pub between : Cell → Cell → Cell → Truth
+abbrev pub between : Total → Total → Total → Truth
 between x low high = and_truth (compared x GreaterOrEqual low) (compared x LessOrEqual high)
 
 -- 8.4 <in predicate>: x = l1 OR .. OR x = lk
-abbrev pub among : Cell → List Literal → Truth
+abbrev pub among : Total → List Literal → Truth
 among x [] = False
-among x (l ∷ ls) = or_truth (compared x Equal (literal_cell l)) (among x ls)
+among x (l ∷ ls) = or_truth (compared x Equal (literal_total l)) (among x ls)
 
-abbrev pub test_truth : Test ℕ → List Cell → Truth
-test_truth (Compare a c b) row = compared (value_of a row) c (value_of b row)
-test_truth (IsNull a not) row = negated not (is_null (value_of a row))
-test_truth (Between a low high not) row = negated not (between (value_of a row) (value_of low row) (value_of high row))
-test_truth (In a ls not) row = negated not (among (value_of a row) ls)
+abbrev pub test_truth : Test ℕ → List Total → Truth
+test_truth (Compare a c b) values = compared (value_of a values) c (value_of b values)
+test_truth (IsNull a not) values = negated not (is_null (value_of a values))
+test_truth (Between a low high not) values = negated not (between (value_of a values) (value_of low values) (value_of high values))
+test_truth (In a ls not) values = negated not (among (value_of a values) ls)
 
 abbrev mutual
-  pub truth : PredicateTree (Test ℕ) → List Cell → Truth
-  truth (Or ps) row = any_truth ps row
-  truth (And ps) row = all_truth ps row
-  truth (Not p) row = not_truth (truth p row)
-  truth (Holds t) row = test_truth t row
+  pub truth : PredicateTree (Test ℕ) → List Total → Truth
+  truth (Or ps) values = any_truth ps values
+  truth (And ps) values = all_truth ps values
+  truth (Not p) values = not_truth (truth p values)
+  truth (Holds t) values = test_truth t values
 
   -- p1 OR p2 OR ..
-  pub any_truth : PredicateTrees (Test ℕ) → List Cell → Truth
-  any_truth NoPredicates row = False
-  any_truth (MorePredicates p ps) row = or_truth (truth p row) (any_truth ps row)
+  pub any_truth : PredicateTrees (Test ℕ) → List Total → Truth
+  any_truth NoPredicates values = False
+  any_truth (MorePredicates p ps) values = or_truth (truth p values) (any_truth ps values)
 
   -- p1 AND p2 AND ..
-  pub all_truth : PredicateTrees (Test ℕ) → List Cell → Truth
-  all_truth NoPredicates row = True
-  all_truth (MorePredicates p ps) row = and_truth (truth p row) (all_truth ps row)
+  pub all_truth : PredicateTrees (Test ℕ) → List Total → Truth
+  all_truth NoPredicates values = True
+  all_truth (MorePredicates p ps) values = and_truth (truth p values) (all_truth ps values)
 
 -- The rows that a predicate may be asked of: those that have a cell at each place that it names.
 

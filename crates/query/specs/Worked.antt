@@ -1,13 +1,13 @@
 -- Worked examples: a table of three columns, elements of GROUP BY over them, and their grouping sets as places;
 -- predicates of each truth, and two of them with AND or OR between; the text of a query, and its tree.
 use Rattle.std.specs.Prelude.{ℕ, List, [], ◌∷◌, Some, codes, false, pos, true}
-use Rattle.cells.specs.declared.cell.Cell.TheVariants.{Null}
 use Rattle.cells.specs.declared.schema.Column.{Column}
 use Rattle.cells.specs.declared.schema.ColumnType.TheVariants.{Int}
+use Rattle.cells.specs.declared.total.Total.TheVariants as total
 use Rattle.query.specs.Sets.{Names, placed_sets}
 use Rattle.query.specs.Trees.{Cube, ElementTree, And, Holds, MorePredicates, NoPredicates, Or, PredicateTree}
 use Rattle.query.specs.Truth.{truth}
-use Rattle.query.specs.Values.{QueryTree}
+use Rattle.query.specs.Values.{QueryTree, no_having}
 use Rattle.query.specs.declared.item.Item.TheVariants.{Column as Named, Sum}
 use Rattle.query.specs.declared.test.Comparison.TheVariants.{Equal, Greater}
 use Rattle.query.specs.declared.test.Literal.TheVariants as literal
@@ -55,7 +55,7 @@ either p q = Or (MorePredicates p (MorePredicates q NoPredicates))
 
 -- the truth where UNITS is NULL
 abbrev pub of_null : PredicateTree (Test ℕ) → Truth
-of_null p = truth p (Null ∷ [])
+of_null p = truth p (total.Null ∷ [])
 
 -- SUM of one column over the rows with more than 1 in it, by a CUBE of another
 abbrev pub sums : List ℕ
@@ -67,4 +67,5 @@ sums_tree = record {
   table = codes "T";
   condition = Some (Holds (Compare (operand.Column (codes "B")) Greater (operand.Literal (literal.Int (pos 1)))));
   groups = record { distinct = false; elements = Cube (A ∷ []) ∷ [] };
+  having = no_having;
 }

@@ -17,10 +17,10 @@ use cells::{Refused, Schema};
 use std::alloc::Global;
 
 /// The plan of the query for the table of the schema. The refusal is the first of these:
-/// [`Refused::Unknown`] where the query is of another table, or some name in its items, its predicate or its elements of
-/// GROUP BY is no column; [`Refused::WrongType`] where SUM is over a TEXT column, or a comparison, BETWEEN or IN puts an
-/// integer beside a text; [`Refused::NotGrouped`] where an item is a column alone that is in no grouping set, or GROUPING
-/// of such a column; [`Refused::TooManySets`] where there are more than 256 grouping sets, repeated ones counted, also those
+/// [`Refused::Unknown`] where the query is of another table, or some name in its items, in WHERE, in GROUP BY or in HAVING is
+/// no column; [`Refused::WrongType`] where SUM is over a TEXT column, or a comparison, BETWEEN or IN puts an integer beside a
+/// text; [`Refused::NotGrouped`] where an item, of the select list or of HAVING, is a column alone that is in no grouping set,
+/// or GROUPING of such a column; [`Refused::TooManySets`] where there are more than 256 grouping sets, repeated ones counted, also those
 /// that DISTINCT drops. It makes no set before all of them are looked at. [`Refused::OutOfMemory`] where a growth was refused.
 pub fn check(alloc: Global, query: Query, schema: &Schema) -> Result<Plan, Refused>
     // The plan of the query exactly where it has no fault, and its first fault where it has one.

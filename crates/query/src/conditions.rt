@@ -5,13 +5,14 @@ ghost use Rattle.query.specs.Grammar.{AND, BETWEEN, IN, OR, Separated, SpellsFac
 ghost use Rattle.query.specs.Phrases.{BoundsAt, NullAfter, RangeAfter, TestAfter, comparison_at};
 ghost use Rattle.query.specs.Reading.{AfterAnd, AfterOr, Any, Ends, ReadsPhrase, Starts};
 
+use crate::leaf::Leaf;
 use crate::owned::closed;
 use crate::phrases::{
     after_call, after_mark, after_word, comparison_at, literal, operand, word_mark,
 };
 use crate::predicate::Predicate;
 use crate::test::{Comparison, Literal, Literals, Operand, Test};
-use cells::{Mark, Refused, Text, Token};
+use cells::{Mark, Refused, Token};
 use std::alloc::Global;
 
 /// The literals at the front, with commas between, and what follows them.
@@ -44,11 +45,14 @@ fn literals_in(alloc: Global, tokens: &[Token]) -> Result<(Vec<Literal>, &[Token
 }
 
 /// The operand up to the AND behind it, and what follows it.
-fn operand_and(tokens: &[Token]) -> Result<(Operand<Text>, &[Token]), Refused>
-    ensures reads { ReadsPhrase (λ x. (x.0, x.1.now)) (λ a r. SpellsOperand tokens.now a (AND ∷ r)) result }
+fn operand_and<C: Leaf + Drop>(
+    alloc: Global,
+    tokens: &[Token],
+) -> Result<(Operand<C>, &[Token]), Refused>
+    ensures reads { ReadsPhrase (λ x. (x.0, x.1.now)) (λ a r. SpellsOperand C.spells tokens.now a (AND ∷ r)) result }
     ensures shorter { IfOk result (λ x. length x.1.now < length tokens.now) }
 {
-    let (operand, rest) = operand(tokens)?;
+    let (operand, rest) = operand(alloc, tokens)?;
     let Some(behind) = after_word(rest, "AND") else {
         return Err(Refused::QuerySyntax);
     };
@@ -56,7 +60,10 @@ fn operand_and(tokens: &[Token]) -> Result<(Operand<Text>, &[Token]), Refused>
 }
 
 /// The test of NULL behind the operand and IS, and what follows it.
-fn null_test(left: Operand<Text>, tokens: &[Token]) -> Result<(Test<Text>, &[Token]), Refused>
+fn null_test<C: Leaf + Drop>(
+    left: Operand<C>,
+    tokens: &[Token],
+) -> Result<(Test<C>, &[Token]), Refused>
     ensures reads { ReadsPhrase (λ x. (x.0, x.1.now)) (NullAfter left tokens.now) result }
     ensures shorter { IfOk result (λ x. length x.1.now < length tokens.now) }
 {
@@ -72,25 +79,29 @@ fn null_test(left: Operand<Text>, tokens: &[Token]) -> Result<(Test<Text>, &[Tok
 }
 
 /// The bounds behind BETWEEN, and what follows them.
-fn bounds(tokens: &[Token]) -> Result<(Operand<Text>, Operand<Text>, &[Token]), Refused>
-    ensures reads { ReadsPhrase (λ x. ((x.0, x.1), x.2.now)) (BoundsAt tokens.now) result }
+fn bounds<C: Leaf + Drop>(
+    alloc: Global,
+    tokens: &[Token],
+) -> Result<(Operand<C>, Operand<C>, &[Token]), Refused>
+    ensures reads { ReadsPhrase (λ x. ((x.0, x.1), x.2.now)) (BoundsAt C.spells tokens.now) result }
     ensures shorter { IfOk result (λ x. length x.2.now < length tokens.now) }
 {
-    let (low, behind) = operand_and(tokens)?;
-    let (high, rest) = operand(behind)?;
+    let (low, behind) = operand_and(alloc, tokens)?;
+    let (high, rest) = operand(alloc, behind)?;
     Ok((low, high, rest))
 }
 
 /// The test by BETWEEN behind the operand, an optional NOT and BETWEEN, and what follows it.
-fn between_test(
-    left: Operand<Text>,
+fn between_test<C: Leaf + Drop>(
+    alloc: Global,
+    left: Operand<C>,
     negated: bool,
     tokens: &[Token],
-) -> Result<(Test<Text>, &[Token]), Refused>
-    ensures reads { ReadsPhrase (λ x. (x.0, x.1.now)) (RangeAfter left negated (BETWEEN ∷ tokens.now)) result }
+) -> Result<(Test<C>, &[Token]), Refused>
+    ensures reads { ReadsPhrase (λ x. (x.0, x.1.now)) (RangeAfter C.spells left negated (BETWEEN ∷ tokens.now)) result }
     ensures shorter { IfOk result (λ x. length x.1.now < length tokens.now) }
 {
-    let (low, high, rest) = bounds(tokens)?;
+    let (low, high, rest) = bounds(alloc, tokens)?;
     let test = Test::Between {
         operand: left,
         low,
@@ -101,13 +112,13 @@ fn between_test(
 }
 
 /// The test by IN behind the operand, an optional NOT and `IN (`, and what follows it.
-fn in_test(
+fn in_test<C: Leaf + Drop>(
     alloc: Global,
-    left: Operand<Text>,
+    left: Operand<C>,
     negated: bool,
     tokens: &[Token],
-) -> Result<(Test<Text>, &[Token]), Refused>
-    ensures reads { ReadsPhrase (λ x. (x.0, x.1.now)) (RangeAfter left negated (IN ∷ lparen ∷ tokens.now)) result }
+) -> Result<(Test<C>, &[Token]), Refused>
+    ensures reads { ReadsPhrase (λ x. (x.0, x.1.now)) (RangeAfter C.spells left negated (IN ∷ lparen ∷ tokens.now)) result }
     ensures shorter { IfOk result (λ x. length x.1.now < length tokens.now) }
 {
     let (literals, rest) = literals_in(alloc, tokens)?;
@@ -120,17 +131,17 @@ fn in_test(
 }
 
 /// The test by BETWEEN or IN behind the operand and an optional NOT, and what follows it.
-fn range_test(
+fn range_test<C: Leaf + Drop>(
     alloc: Global,
-    left: Operand<Text>,
+    left: Operand<C>,
     negated: bool,
     tokens: &[Token],
-) -> Result<(Test<Text>, &[Token]), Refused>
-    ensures reads { ReadsPhrase (λ x. (x.0, x.1.now)) (RangeAfter left negated tokens.now) result }
+) -> Result<(Test<C>, &[Token]), Refused>
+    ensures reads { ReadsPhrase (λ x. (x.0, x.1.now)) (RangeAfter C.spells left negated tokens.now) result }
     ensures shorter { IfOk result (λ x. length x.1.now < length tokens.now) }
 {
     if let Some(more) = after_word(tokens, "BETWEEN") {
-        return between_test(left, negated, more);
+        return between_test(alloc, left, negated, more);
     }
     let Some(more) = after_call(tokens, "IN") else {
         return Err(Refused::QuerySyntax);
@@ -139,30 +150,31 @@ fn range_test(
 }
 
 /// The test by a comparison behind the operand and its sign, and what follows it.
-fn compare_test(
-    left: Operand<Text>,
+fn compare_test<C: Leaf + Drop>(
+    alloc: Global,
+    left: Operand<C>,
     comparison: Comparison,
     tokens: &[Token],
-) -> Result<(Test<Text>, &[Token]), Refused>
+) -> Result<(Test<C>, &[Token]), Refused>
     // The sign is what any tokens begin with that go on as these.
-    ensures reads { (signed : List Token) → comparison_at signed ≡ Some (comparison, tokens.now) → ReadsPhrase (λ x. (x.0, x.1.now)) (TestAfter left signed) result }
+    ensures reads { (signed : List Token) → comparison_at signed ≡ Some (comparison, tokens.now) → ReadsPhrase (λ x. (x.0, x.1.now)) (TestAfter C.spells left signed) result }
     ensures shorter { IfOk result (λ x. length x.1.now < length tokens.now) }
 {
-    let (right, rest) = operand(tokens)?;
+    let (right, rest) = operand(alloc, tokens)?;
     Ok((Test::Compare(left, comparison, right), rest))
 }
 
 /// The test behind its first operand, and what follows it.
-fn test_after(
+fn test_after<C: Leaf + Drop>(
     alloc: Global,
-    left: Operand<Text>,
+    left: Operand<C>,
     tokens: &[Token],
-) -> Result<(Test<Text>, &[Token]), Refused>
-    ensures reads { ReadsPhrase (λ x. (x.0, x.1.now)) (TestAfter left tokens.now) result }
+) -> Result<(Test<C>, &[Token]), Refused>
+    ensures reads { ReadsPhrase (λ x. (x.0, x.1.now)) (TestAfter C.spells left tokens.now) result }
     ensures shorter { IfOk result (λ x. length x.1.now < length tokens.now) }
 {
     if let Some((comparison, more)) = comparison_at(tokens) {
-        return compare_test(left, comparison, more);
+        return compare_test(alloc, left, comparison, more);
     }
     if let Some(more) = after_word(tokens, "IS") {
         return null_test(left, more);
@@ -172,18 +184,21 @@ fn test_after(
 }
 
 /// The test at the front, and what follows it.
-fn test(alloc: Global, tokens: &[Token]) -> Result<(Test<Text>, &[Token]), Refused>
-    ensures reads { ReadsPhrase (λ x. (x.0, x.1.now)) (Starts SpellsTest Any tokens.now) result }
+fn test<C: Leaf + Drop>(alloc: Global, tokens: &[Token]) -> Result<(Test<C>, &[Token]), Refused>
+    ensures reads { ReadsPhrase (λ x. (x.0, x.1.now)) (Starts (SpellsTest C.spells) Any tokens.now) result }
     ensures shorter { IfOk result (λ x. length x.1.now < length tokens.now) }
 {
-    let (left, more) = operand(tokens)?;
+    let (left, more) = operand(alloc, tokens)?;
     test_after(alloc, left, more)
 }
 
 /// The primary at the front, a predicate in parentheses or a test, and what follows it.
 #[cycle(reader)]
-fn primary(alloc: Global, tokens: &[Token]) -> Result<(Predicate<Text>, &[Token]), Refused>
-    ensures reads { ReadsPhrase (λ x. (x.0, x.1.now)) (Starts SpellsPrimary Any tokens.now) result }
+fn primary<C: Leaf + Drop>(
+    alloc: Global,
+    tokens: &[Token],
+) -> Result<(Predicate<C>, &[Token]), Refused>
+    ensures reads { ReadsPhrase (λ x. (x.0, x.1.now)) (Starts (SpellsPrimary C.spells) Any tokens.now) result }
     ensures shorter { IfOk result (λ x. length x.1.now < length tokens.now) }
 {
     if let Some(more) = after_mark(tokens, Mark::LeftParen) {
@@ -195,8 +210,11 @@ fn primary(alloc: Global, tokens: &[Token]) -> Result<(Predicate<Text>, &[Token]
 
 /// A primary with an optional NOT before it, and what follows it.
 #[cycle(reader)]
-fn factor(alloc: Global, tokens: &[Token]) -> Result<(Predicate<Text>, &[Token]), Refused>
-    ensures reads { ReadsPhrase (λ x. (x.0, x.1.now)) (Starts SpellsFactor Any tokens.now) result }
+fn factor<C: Leaf + Drop>(
+    alloc: Global,
+    tokens: &[Token],
+) -> Result<(Predicate<C>, &[Token]), Refused>
+    ensures reads { ReadsPhrase (λ x. (x.0, x.1.now)) (Starts (SpellsFactor C.spells) Any tokens.now) result }
     ensures shorter { IfOk result (λ x. length x.1.now < length tokens.now) }
 {
     if let Some(more) = after_word(tokens, "NOT") {
@@ -208,8 +226,11 @@ fn factor(alloc: Global, tokens: &[Token]) -> Result<(Predicate<Text>, &[Token])
 
 /// The factors at the front, with AND between, and what follows them.
 #[cycle(reader)]
-fn factors(alloc: Global, tokens: &[Token]) -> Result<(Vec<Predicate<Text>>, &[Token]), Refused>
-    ensures reads { ReadsPhrase (λ x. (x.0.items, x.1.now)) (Starts (Separated AND SpellsFactor) AfterAnd tokens.now) result }
+fn factors<C: Leaf + Drop>(
+    alloc: Global,
+    tokens: &[Token],
+) -> Result<(Vec<Predicate<C>>, &[Token]), Refused>
+    ensures reads { ReadsPhrase (λ x. (x.0.items, x.1.now)) (Starts (Separated AND (SpellsFactor C.spells)) AfterAnd tokens.now) result }
     ensures shorter { IfOk result (λ x. length x.1.now < length tokens.now) }
 {
     let mut found = Vec::new(alloc);
@@ -226,8 +247,11 @@ fn factors(alloc: Global, tokens: &[Token]) -> Result<(Vec<Predicate<Text>>, &[T
 
 /// The term at the front, and what follows it.
 #[cycle(reader)]
-fn term(alloc: Global, tokens: &[Token]) -> Result<(Predicate<Text>, &[Token]), Refused>
-    ensures reads { ReadsPhrase (λ x. (x.0, x.1.now)) (Starts SpellsTerm AfterAnd tokens.now) result }
+fn term<C: Leaf + Drop>(
+    alloc: Global,
+    tokens: &[Token],
+) -> Result<(Predicate<C>, &[Token]), Refused>
+    ensures reads { ReadsPhrase (λ x. (x.0, x.1.now)) (Starts (SpellsTerm C.spells) AfterAnd tokens.now) result }
     ensures shorter { IfOk result (λ x. length x.1.now < length tokens.now) }
 {
     let (factors, rest) = factors(alloc, tokens)?;
@@ -236,8 +260,11 @@ fn term(alloc: Global, tokens: &[Token]) -> Result<(Predicate<Text>, &[Token]), 
 
 /// The terms at the front, with OR between, and what follows them.
 #[cycle(reader)]
-fn terms(alloc: Global, tokens: &[Token]) -> Result<(Vec<Predicate<Text>>, &[Token]), Refused>
-    ensures reads { ReadsPhrase (λ x. (x.0.items, x.1.now)) (Starts (Separated OR SpellsTerm) AfterOr tokens.now) result }
+fn terms<C: Leaf + Drop>(
+    alloc: Global,
+    tokens: &[Token],
+) -> Result<(Vec<Predicate<C>>, &[Token]), Refused>
+    ensures reads { ReadsPhrase (λ x. (x.0.items, x.1.now)) (Starts (Separated OR (SpellsTerm C.spells)) AfterOr tokens.now) result }
     ensures shorter { IfOk result (λ x. length x.1.now < length tokens.now) }
 {
     let mut found = Vec::new(alloc);
@@ -254,8 +281,11 @@ fn terms(alloc: Global, tokens: &[Token]) -> Result<(Vec<Predicate<Text>>, &[Tok
 
 /// The predicate at the front, which is its terms with OR between, and what follows it.
 #[cycle(reader)]
-pub fn predicate(alloc: Global, tokens: &[Token]) -> Result<(Predicate<Text>, &[Token]), Refused>
-    ensures reads { ReadsPhrase (λ x. (x.0, x.1.now)) (Starts SpellsPredicate AfterOr tokens.now) result }
+pub fn predicate<C: Leaf + Drop>(
+    alloc: Global,
+    tokens: &[Token],
+) -> Result<(Predicate<C>, &[Token]), Refused>
+    ensures reads { ReadsPhrase (λ x. (x.0, x.1.now)) (Starts (SpellsPredicate C.spells) AfterOr tokens.now) result }
     ensures shorter { IfOk result (λ x. length x.1.now < length tokens.now) }
 {
     let (terms, rest) = terms(alloc, tokens)?;
@@ -264,8 +294,11 @@ pub fn predicate(alloc: Global, tokens: &[Token]) -> Result<(Predicate<Text>, &[
 
 /// The predicate up to the `)` behind it, and what follows it.
 #[cycle(reader)]
-fn predicate_in(alloc: Global, tokens: &[Token]) -> Result<(Predicate<Text>, &[Token]), Refused>
-    ensures reads { ReadsPhrase (λ x. (x.0, x.1.now)) (λ p r. SpellsPredicate tokens.now p (rparen ∷ r)) result }
+fn predicate_in<C: Leaf + Drop>(
+    alloc: Global,
+    tokens: &[Token],
+) -> Result<(Predicate<C>, &[Token]), Refused>
+    ensures reads { ReadsPhrase (λ x. (x.0, x.1.now)) (λ p r. SpellsPredicate C.spells tokens.now p (rparen ∷ r)) result }
     ensures shorter { IfOk result (λ x. length x.1.now < length tokens.now) }
 {
     let (predicate, rest) = predicate(alloc, tokens)?;

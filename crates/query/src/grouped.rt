@@ -1,4 +1,4 @@
-//! Whether the columns of a select list are in the grouping sets. No set is made for it.
+//! Whether the columns of a select list and of HAVING are in the grouping sets. No set is made for it.
 ghost use Rattle.std.specs.Prelude.{◌≡◌, bytes_eq, not};
 ghost use Rattle.std.specs.List.{flat_map, list_any};
 ghost use Rattle.query.specs.Checks.{is_in_some, is_not_grouped, is_ungrouped};
@@ -11,12 +11,16 @@ use crate::item::Item;
 use crate::query::Query;
 use cells::Text;
 
-/// Whether some item is a column alone that is in no grouping set, or GROUPING of such a column.
+/// Whether some item, of the select list or of HAVING, is a column alone that is in no grouping set, or GROUPING of such a
+/// column.
 pub fn is_not_grouped(query: &Query) -> bool
     ensures { result ≡ is_not_grouped query.now }
 {
     let elements = query.elements();
-    has_ungrouped(elements, query.items())
+    if has_ungrouped(elements, query.items()) {
+        return true;
+    }
+    has_ungrouped(elements, query.having_items())
 }
 
 /// Whether some item is ungrouped.

@@ -1,4 +1,4 @@
-//! Queries: how a text is read, what a query means for a table, and what its predicate says of a row.
+//! Queries: how a text is read, what a query means for a table, and what its predicates say of a row and of a group.
 #![tactic(auto)]
 
 mod checking;
@@ -8,9 +8,11 @@ mod depth;
 mod element;
 mod grouped;
 mod grouping;
+mod having;
 mod headings;
 mod item;
 mod laws;
+mod leaf;
 mod limits;
 mod names;
 mod owned;

@@ -2,7 +2,7 @@
 ghost use Rattle.std.specs.Prelude.{◌≡◌, bytes_eq};
 ghost use Rattle.std.specs.List.{flat_map, list_any};
 ghost use Rattle.query.specs.Checks.{has_unknown, is_column, is_unknown};
-ghost use Rattle.query.specs.Names.{element_names, item_names, operand_names, test_names, tests_of};
+ghost use Rattle.query.specs.Names.{element_names, item_names, operand_leaves, test_leaves, tests_of};
 
 use crate::element::{Element, ElementForm, Unit};
 use crate::item::Item;
@@ -20,6 +20,9 @@ pub fn is_unknown(query: &Query, schema: &Schema) -> bool
     }
     let columns = schema.columns();
     if has_unknown_item(columns, query.items()) {
+        return true;
+    }
+    if has_unknown_item(columns, query.having_items()) {
         return true;
     }
     if let Some(predicate) = query.condition() {
@@ -67,7 +70,7 @@ fn is_unknown_item(columns: &[Column], item: &Item<Text>) -> bool
 
 /// Whether some test of the predicate names no column.
 fn is_unknown_predicate(columns: &[Column], predicate: &Predicate<Text>) -> bool
-    ensures { result ≡ has_unknown columns.now (flat_map test_names (tests_of predicate.now)) }
+    ensures { result ≡ has_unknown columns.now (flat_map test_leaves (tests_of predicate.now)) }
 {
     match &predicate.form {
         PredicateForm::Or(inners) | PredicateForm::And(inners) => {
@@ -85,7 +88,7 @@ fn is_unknown_predicate(columns: &[Column], predicate: &Predicate<Text>) -> bool
 
 /// Whether the test names no column.
 fn is_unknown_test(columns: &[Column], test: &Test<Text>) -> bool
-    ensures { result ≡ has_unknown columns.now (test_names test.now) }
+    ensures { result ≡ has_unknown columns.now (test_leaves test.now) }
 {
     match test {
         Test::Compare(a, _, b) => {
@@ -115,7 +118,7 @@ fn is_unknown_test(columns: &[Column], test: &Test<Text>) -> bool
 
 /// Whether the operand names no column.
 fn is_unknown_operand(columns: &[Column], operand: &Operand<Text>) -> bool
-    ensures { result ≡ has_unknown columns.now (operand_names operand.now) }
+    ensures { result ≡ has_unknown columns.now (operand_leaves operand.now) }
 {
     match operand {
         Operand::Column(name) => !is_column(columns, name),

@@ -5,11 +5,13 @@ ghost use Rattle.std.specs.Bool.{Decides};
 ghost use Rattle.std.specs.Prelude.{◌≡◌, ◌<◌, ◌≤◌, ◌∷◌, IfOk, IfSome, None, Some, MatchOption, length};
 ghost use Rattle.cells.specs.Refusals.{AnswersBy};
 ghost use Rattle.query.specs.Grammar.{SpellsLiteral, SpellsName, SpellsOperand, lparen, word};
-ghost use Rattle.query.specs.Phrases.{comparison_at, literal_at, name_at, operand_at};
+ghost use Rattle.query.specs.Phrases.{begins_literal, comparison_at, literal_at, name_at};
 ghost use Rattle.query.specs.Reading.{Any, BeginsNot, BeginsNotCall, Marked, ReadsPhrase, Starts, sign};
 
+use crate::leaf::Leaf;
 use crate::test::{Comparison, Literal, Operand};
 use cells::{Mark, Refused, Text, Token, is_reserved};
+use std::alloc::Global;
 
 /// What follows the word, where the tokens begin with it.
 pub fn after_word<'a>(tokens: &'a [Token], expected: &str) -> Option<&'a [Token]>
@@ -97,33 +99,27 @@ pub fn literal(tokens: &[Token]) -> Result<(Literal, &[Token]), Refused>
     literal_at(tokens)
 }
 
-/// The operand at the front, and what follows it.
-fn operand_at(tokens: &[Token]) -> Result<(Operand<Text>, &[Token]), Refused>
-    ensures exact { AnswersBy (λ x. (x.0, x.1.now)) Refused.QuerySyntax (operand_at tokens.now) result }
-    ensures shorter { IfOk result (λ x. length x.1.now < length tokens.now) }
+/// Whether the tokens begin with a literal.
+fn begins_literal(tokens: &[Token]) -> bool
+    ensures { result ≡ begins_literal tokens.now }
 {
-    let [first, rest @ ..] = tokens else {
-        return Err(Refused::QuerySyntax);
-    };
-    match first {
-        Token::Word(word) => {
-            if is_reserved(word.as_str()) {
-                return Err(Refused::QuerySyntax);
-            }
-            Ok((Operand::Column(word.clone()?), rest))
-        }
-        Token::Number(n) => Ok((Operand::Literal(Literal::Int(*n)), rest)),
-        Token::Quoted(text) => Ok((Operand::Literal(Literal::Text(text.clone()?)), rest)),
-        Token::Mark(_) => Err(Refused::QuerySyntax),
-    }
+    matches!(tokens, [Token::Number(_) | Token::Quoted(_), ..])
 }
 
 /// The operand at the front by the rule of the grammar, and what follows it.
-pub fn operand(tokens: &[Token]) -> Result<(Operand<Text>, &[Token]), Refused>
-    ensures reads { ReadsPhrase (λ x. (x.0, x.1.now)) (Starts SpellsOperand Any tokens.now) result }
+pub fn operand<C: Leaf + Drop>(
+    alloc: Global,
+    tokens: &[Token],
+) -> Result<(Operand<C>, &[Token]), Refused>
+    ensures reads { ReadsPhrase (λ x. (x.0, x.1.now)) (Starts (SpellsOperand C.spells) Any tokens.now) result }
     ensures shorter { IfOk result (λ x. length x.1.now < length tokens.now) }
 {
-    operand_at(tokens)
+    if begins_literal(tokens) {
+        let (literal, rest) = literal(tokens)?;
+        return Ok((Operand::Literal(literal), rest));
+    }
+    let (leaf, rest) = C::leaf(alloc, tokens)?;
+    Ok((Operand::Column(leaf), rest))
 }
 
 /// The sign of a comparison at the front, and what follows it.

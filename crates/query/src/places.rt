@@ -1,5 +1,5 @@
 //! The columns of a query, by their places in place of their names.
-ghost use Rattle.std.specs.Prelude.{◌≡◌, IfOk, map, option_map};
+ghost use Rattle.std.specs.Prelude.{◌≡◌, ◌++◌, IfOk, map, option_map};
 ghost use Rattle.query.specs.Plans.{place_of, placed_item, placed_operand, placed_predicate, placed_test};
 ghost use Rattle.query.specs.PredicateViews.{predicate_tree};
 ghost use Rattle.query.specs.declared.item.Item.TheVariants.{Grouping};
@@ -23,19 +23,34 @@ fn place_of(columns: &[Column], name: &Text) -> usize
     columns.len()
 }
 
-/// The items with places for names.
+/// The items, and more of them behind, with places for names.
 pub fn placed_items(
     alloc: Global,
     columns: &[Column],
     items: &[Item<Text>],
+    more: &[Item<Text>],
 ) -> Result<Vec<Item<usize>>, AllocError>
-    ensures { IfOk result (λ placed. placed.items ≡ map (placed_item columns.now) items.now) }
+    ensures { IfOk result (λ placed. placed.items ≡ map (placed_item columns.now) (items.now ++ more.now)) }
 {
     let mut placed = Vec::new(alloc);
+    add_placed(alloc, &mut placed, columns, items)?;
+    add_placed(alloc, &mut placed, columns, more)?;
+    Ok(placed)
+}
+
+/// Adds the items with places for names behind those that are there.
+fn add_placed(
+    alloc: Global,
+    placed: &mut Vec<Item<usize>>,
+    columns: &[Column],
+    items: &[Item<Text>],
+) -> Result<(), AllocError>
+    ensures { IfOk result (λ _. placed.new.items ≡ placed.old.items ++ map (placed_item columns.now) items.now) }
+{
     for item in items {
         placed.push(placed_item(alloc, columns, item)?)?;
     }
-    Ok(placed)
+    Ok(())
 }
 
 /// The item with places for its names.

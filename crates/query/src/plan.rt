@@ -5,7 +5,7 @@ ghost use Rattle.std.specs.Option.{option_copied};
 ghost use Rattle.query.specs.Headings.{heading};
 ghost use Rattle.query.specs.Plans.{placed_item, plan_of};
 ghost use Rattle.query.specs.Sets.{placed_sets};
-ghost use Rattle.query.specs.Values.{is_long};
+ghost use Rattle.query.specs.Values.{is_long, items_of};
 
 use crate::headings::headings;
 use crate::item::Item;
@@ -27,6 +27,7 @@ pub struct Plan {
     headings: Vec<Text>,
     condition: Option<Predicate<usize>>,
     sets: Vec<GroupSet>,
+    having: Option<Predicate<usize>>,
 }
 
 impl Model for Plan {
@@ -39,7 +40,7 @@ impl Model for Plan {
 
     ghost coded = { Prim.hlevel (codes, coded_predicate) };
 
-    ghost view = { λ p. record { items = p.items.items; headings = p.headings.items; condition = p.condition; sets = p.sets.items } };
+    ghost view = { λ p. record { items = p.items.items; headings = p.headings.items; condition = p.condition; sets = p.sets.items; having = p.having } };
 
     ghost use Rattle.std.specs.Prelude.{◌≡◌, false};
     ghost use Rattle.std.specs.List.{list_any};
@@ -59,12 +60,12 @@ struct Outline {
 impl Outline {
     /// The outline of the query, whose names are all of these columns.
     fn of(alloc: Global, columns: &[Column], query: &Query) -> Result<Outline, AllocError>
-        ensures items { IfOk result (λ outline. outline.items.items ≡ map (placed_item columns.now) query.now.items) }
+        ensures items { IfOk result (λ outline. outline.items.items ≡ map (placed_item columns.now) (items_of query.now)) }
         ensures short { IfOk result (λ outline. list_any is_long outline.items.items ≡ false) }
         ensures headings { IfOk result (λ outline. outline.headings.items ≡ map heading query.now.items) }
         ensures sets { IfOk result (λ outline. outline.sets.items ≡ placed_sets columns.now query.now.groups) }
     {
-        let items = placed_items(alloc, columns, query.items())?;
+        let items = placed_items(alloc, columns, query.items(), query.having_items())?;
         let headings = headings(alloc, query.items())?;
         let sets = placed_sets(alloc, columns, query.is_distinct(), query.elements())?;
         Ok(Outline {
@@ -82,16 +83,19 @@ impl Plan {
     {
         let columns = schema.columns();
         let (query, outline) = beside(Outline::of(alloc, columns, &query), query)?;
-        let condition = placed_condition(alloc, columns, query.into_condition())?;
+        let (condition, having) = query.into_predicates();
+        let condition = placed_condition(alloc, columns, condition)?;
         Ok(Plan {
             items: outline.items,
             headings: outline.headings,
             condition,
             sets: outline.sets,
+            having,
         })
     }
 
-    /// The items of the select list, in the order of the query. It takes no memory.
+    /// The items of the select list, as many as there are headings, and behind them those that HAVING names; each in the order
+    /// of the query. It takes no memory.
     pub fn items(&self) -> &[Item<usize>]
         ensures items { result.now ≡ self.now.items }
         ensures short { list_any is_long self.now.items ≡ false }
@@ -99,7 +103,7 @@ impl Plan {
         self.items.as_slice()
     }
 
-    /// The text that a report's header has of each item, as `COUNT(DISTINCT ITEM)`. It takes no memory.
+    /// The text that a report's header has of each item of the select list, as `COUNT(DISTINCT ITEM)`. It takes no memory.
     pub fn headings(&self) -> &[Text]
         ensures { result.now ≡ self.now.headings }
     {
@@ -118,5 +122,13 @@ impl Plan {
         ensures { result.now ≡ self.now.sets }
     {
         self.sets.as_slice()
+    }
+
+    /// The predicate of HAVING, where there is one, over the places of its items, which count from the first behind the select
+    /// list's. It takes no memory.
+    pub fn having(&self) -> Option<&Predicate<usize>>
+        ensures { option_copied result ≡ self.now.having }
+    {
+        self.having.as_ref()
     }
 }

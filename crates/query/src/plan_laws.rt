@@ -11,7 +11,7 @@ ghost use Rattle.query.specs.declared.test.Test.{Test as TestTree};
 use crate::item::Item;
 use crate::test::{Comparison, Literal, Operand, Test};
 use crate::truth::Truth;
-use cells::{Cell, ColumnType};
+use cells::{Cell, ColumnType, Total};
 
 /// The grouping sets of examples over a table of the columns A, B and C, computed by the definition.
 pub fn worked_sets()
@@ -45,11 +45,11 @@ pub fn worked_sets()
 /// The truth of examples over rows of one cell, computed by the definition.
 pub fn worked_truths()
     // NOT (UNITS > 0) where UNITS is NULL
-    ensures not_of_unknown { truth (Not (Holds (Test.Compare (Operand.Column 0) Comparison.Greater (Operand.Literal (Literal.Int (pos 0)))))) (Cell.Null ∷ []) ≡ Truth.Unknown }
+    ensures not_of_unknown { truth (Not (Holds (Test.Compare (Operand.Column 0) Comparison.Greater (Operand.Literal (Literal.Int (pos 0)))))) (Total.Null ∷ []) ≡ Truth.Unknown }
     // UNITS IS NULL
-    ensures null { truth (Holds (Test.IsNull (Operand.Column 0) false)) (Cell.Null ∷ []) ≡ Truth.True }
+    ensures null { truth (Holds (Test.IsNull (Operand.Column 0) false)) (Total.Null ∷ []) ≡ Truth.True }
     // UNITS IS NOT NULL, where UNITS is NULL
-    ensures not_null { truth (Holds (Test.IsNull (Operand.Column 0) true)) (Cell.Null ∷ []) ≡ Truth.False }
+    ensures not_null { truth (Holds (Test.IsNull (Operand.Column 0) true)) (Total.Null ∷ []) ≡ Truth.False }
     // Unknown beside true, beside false and beside unknown, where UNITS is NULL.
     ensures unknown { of_null unknown ≡ Truth.Unknown }
     ensures and_unknown { map of_null (both holds unknown ∷ both fails unknown ∷ both unknown unknown ∷ []) ≡ Truth.Unknown ∷ Truth.False ∷ Truth.Unknown ∷ [] }
@@ -57,9 +57,9 @@ pub fn worked_truths()
     ensures or_unknown { map of_null (either holds unknown ∷ either fails unknown ∷ either unknown unknown ∷ []) ≡ Truth.True ∷ Truth.Unknown ∷ Truth.Unknown ∷ [] }
     ensures unknown_or { map of_null (either unknown holds ∷ either unknown fails ∷ []) ≡ Truth.True ∷ Truth.Unknown ∷ [] }
     // UNITS NOT IN (1, 2), where UNITS is NULL
-    ensures not_in { truth (Holds (Test.In (Operand.Column 0) (Literal.Int (pos 1) ∷ Literal.Int (pos 2) ∷ []) true)) (Cell.Null ∷ []) ≡ Truth.Unknown }
+    ensures not_in { truth (Holds (Test.In (Operand.Column 0) (Literal.Int (pos 1) ∷ Literal.Int (pos 2) ∷ []) true)) (Total.Null ∷ []) ≡ Truth.Unknown }
     // UNITS BETWEEN 1 AND 2, where UNITS is 2
-    ensures between { truth (Holds (Test.Between (Operand.Column 0) (Operand.Literal (Literal.Int (pos 1))) (Operand.Literal (Literal.Int (pos 2))) false)) (Cell.Int (pos 2) ∷ []) ≡ Truth.True }
+    ensures between { truth (Holds (Test.Between (Operand.Column 0) (Operand.Literal (Literal.Int (pos 1))) (Operand.Literal (Literal.Int (pos 2))) false)) (Total.Int (pos 2) ∷ []) ≡ Truth.True }
 {}
 
 /// The predicate of a plan may be asked of each row of the table that the plan is for.

@@ -2,9 +2,11 @@
 ghost use Rattle.std.specs.Prelude.{◌≡◌, IfOk, false};
 ghost use Rattle.std.specs.List.{list_any};
 ghost use Rattle.std.specs.Option.{option_copied};
-ghost use Rattle.query.specs.Values.{AreFilled, IsKept, all_rows, is_long};
+ghost use Rattle.query.specs.Having.{having_of};
+ghost use Rattle.query.specs.Values.{AreFilled, IsKept, all_rows, is_long, no_having};
 
 use crate::element::Element;
+use crate::having::numbered;
 use crate::item::Item;
 use crate::predicate::Predicate;
 use cells::Text;
@@ -47,6 +49,75 @@ impl Groups {
     }
 }
 
+/// HAVING of a query: the items that its predicate names stand apart, in the order of the text, and the predicate is over
+/// their places.
+#[derive(Drop)]
+pub(crate) struct Having {
+    /// The items that the predicate names.
+    pub items: Vec<Item<Text>>,
+    /// The predicate over their places, where there is a HAVING.
+    pub predicate: Option<Predicate<usize>>,
+}
+
+impl Model for Having {
+    ghost use Rattle.query.specs.Values.{HavingTree};
+
+    ghost Value = { HavingTree };
+
+    ghost use Rattle.query.specs.Codes.{coded_predicate};
+    ghost use Rattle.std.specs.Coded.{codes};
+
+    ghost coded = { Prim.hlevel (codes, coded_predicate) };
+
+    ghost view = { λ h. record { items = h.items.items; predicate = h.predicate } };
+}
+
+impl Having {
+    /// What a query without HAVING has.
+    pub fn none(alloc: Global) -> Having
+        ensures { result ≡ no_having }
+    {
+        Having {
+            items: Vec::new(alloc),
+            predicate: None,
+        }
+    }
+
+    /// HAVING of a predicate over items, which are taken out of it.
+    pub fn of(alloc: Global, predicate: Predicate<Item<Text>>) -> Result<Having, AllocError>
+        ensures { IfOk result (λ having. having ≡ having_of predicate) }
+    {
+        let mut items = Vec::new(alloc);
+        let predicate = numbered(alloc, predicate, &mut items)?;
+        Ok(Having {
+            items,
+            predicate: Some(predicate),
+        })
+    }
+}
+
+/// What follows the predicate of WHERE.
+#[derive(Drop)]
+pub(crate) struct Grouped {
+    /// GROUP BY.
+    pub groups: Groups,
+    /// HAVING.
+    pub having: Having,
+}
+
+impl Model for Grouped {
+    ghost use Rattle.query.specs.Values.{GroupedTree};
+
+    ghost Value = { GroupedTree };
+
+    ghost use Rattle.query.specs.Codes.{coded_element, coded_predicate};
+    ghost use Rattle.std.specs.Coded.{codes};
+
+    ghost coded = { Prim.hlevel (codes, coded_element, coded_predicate) };
+
+    ghost view = { λ g. record { groups = g.groups; having = g.having } };
+}
+
 /// The clauses of a query as they were read, before its limits are looked at.
 #[derive(Drop)]
 pub(crate) struct Clauses {
@@ -58,6 +129,8 @@ pub(crate) struct Clauses {
     pub condition: Option<Predicate<Text>>,
     /// GROUP BY.
     pub groups: Groups,
+    /// HAVING.
+    pub having: Having,
 }
 
 impl Model for Clauses {
@@ -70,7 +143,7 @@ impl Model for Clauses {
 
     ghost coded = { Prim.hlevel (codes, coded_element, coded_predicate) };
 
-    ghost view = { λ q. record { items = q.items.items; table = q.table; condition = q.condition; groups = q.groups } };
+    ghost view = { λ q. record { items = q.items.items; table = q.table; condition = q.condition; groups = q.groups; having = q.having } };
 }
 
 /// A query (ISO/IEC 9075-2:1999, 7.11), its names in upper case. No GROUPING SETS in it is without elements, and no
@@ -104,12 +177,28 @@ impl Query {
         Query { clauses }
     }
 
-    /// The items of the select list, in the order of the text.
+    /// The items of the select list, in the order of the text. No GROUPING in them is long.
     pub fn items(&self) -> &[Item<Text>]
         ensures items { result.now ≡ self.now.items }
         ensures short { list_any is_long self.now.items ≡ false }
     {
         self.clauses.items.as_slice()
+    }
+
+    /// The items that HAVING names, in the order of the text; one that it names twice stands here twice. No GROUPING in them
+    /// is long.
+    pub fn having_items(&self) -> &[Item<Text>]
+        ensures items { result.now ≡ self.now.having.items }
+        ensures short { list_any is_long self.now.having.items ≡ false }
+    {
+        self.clauses.having.items.as_slice()
+    }
+
+    /// The predicate of HAVING over the places of the items that it names, where there is one.
+    pub fn having(&self) -> Option<&Predicate<usize>>
+        ensures { option_copied result ≡ self.now.having.predicate }
+    {
+        self.clauses.having.predicate.as_ref()
     }
 
     /// The table of FROM.
@@ -126,12 +215,14 @@ impl Query {
         self.clauses.condition.as_ref()
     }
 
-    /// The predicate of WHERE out of the query, whose other parts are let go.
-    pub(crate) fn into_condition(self) -> Option<Predicate<Text>>
-        ensures { result ≡ self.condition }
+    /// The predicates of WHERE and of HAVING out of the query, whose other parts are let go.
+    pub(crate) fn into_predicates(self) -> (Option<Predicate<Text>>, Option<Predicate<usize>>)
+        ensures condition { result.0 ≡ self.condition }
+        ensures having { result.1 ≡ self.having.predicate }
     {
         let clauses = self.clauses;
-        clauses.condition
+        let having = clauses.having;
+        (clauses.condition, having.predicate)
     }
 
     /// Whether DISTINCT stands behind GROUP BY, so that of equal grouping sets the first alone stays.

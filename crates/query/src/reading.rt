@@ -1,27 +1,26 @@
 //! Reads a text into a query: its tokens, and then clause by clause.
 ghost use Rattle.std.specs.Bool.{Decides};
-ghost use Rattle.std.specs.Prelude.{◌≡◌, ◌≢◌, ◌≤◌, ◌⊎◌, ◌∷◌, [], ℕ, List, MatchOption, MatchResult, Some, false, length, true};
+ghost use Rattle.std.specs.Prelude.{◌≡◌, ◌≢◌, ◌≤◌, ◌⊎◌, ◌∷◌, [], ℕ, List, MatchOption, MatchResult, Some, false, filter, length, true};
 ghost use Rattle.std.specs.List.{list_any};
 ghost use Rattle.cells.specs.Reading.{tokens_of};
 ghost use Rattle.cells.specs.Refusals.{Answers};
 ghost use Rattle.cells.specs.declared.token.Token.{Token};
 ghost use Rattle.query.specs.Grammar.{BY, GROUP, FROM, Separated, SpellsItem, SpellsQuery, WHERE, comma};
-ghost use Rattle.query.specs.Ends.{SpellsEnd, SpellsFrom, SpellsLast, SpellsTail, Whole};
+ghost use Rattle.query.specs.Ends.{SpellsBy, SpellsEnd, SpellsFrom, SpellsGrouped, SpellsLast, SpellsTail, Whole};
 ghost use Rattle.query.specs.Limits.{query_limit};
 ghost use Rattle.query.specs.Queries.{FirstFault, IsQuery};
-ghost use Rattle.query.specs.Reading.{ReadsPhrase};
-ghost use Rattle.query.specs.Values.{QueryTree, from_tree, has_too_many, is_long};
+ghost use Rattle.query.specs.Reading.{Any, Ends, ReadsPhrase, Starts};
+ghost use Rattle.query.specs.Values.{QueryTree, from_tree, has_too_many, is_aggregate, is_long};
 
 use crate::conditions::predicate;
 use crate::depth::is_too_deep;
-use crate::element::Element;
 use crate::grouping::elements;
 use crate::item::Item;
 use crate::limits::{MAX_GROUPING_COLUMNS, MAX_ITEMS, MAX_QUERY_BYTES};
 use crate::owned::{beside, unless};
 use crate::phrases::{after_word, name, word_mark};
 use crate::predicate::Predicate;
-use crate::query::{Clauses, Groups, Query};
+use crate::query::{Clauses, Grouped, Groups, Having, Query};
 use crate::select_list::items;
 use cells::{Refused, Text, Token, tokens_or};
 use std::alloc::Global;
@@ -30,8 +29,8 @@ use std::alloc::Global;
 /// where it has more than [`MAX_QUERY_BYTES`], [`Refused::QuerySyntax`] where it is no list of tokens,
 /// [`Refused::Limit`] where more than [`MAX_OPEN_PARENTHESES`](crate::MAX_OPEN_PARENTHESES) are open at some
 /// token (those closed so far are taken from those opened so far), [`Refused::QuerySyntax`] where the tokens
-/// are no query, [`Refused::Limit`] where there are more than [`MAX_ITEMS`], or more than [`MAX_GROUPING_COLUMNS`]
-/// in one GROUPING; or [`Refused::OutOfMemory`] where a growth was refused. Its time is linear in the text's length.
+/// are no query, [`Refused::Limit`] where the select list has more than [`MAX_ITEMS`], HAVING names more than as many aggregates
+/// (one that it names twice counts twice), or a GROUPING has more than [`MAX_GROUPING_COLUMNS`]; or [`Refused::OutOfMemory`] where a growth was refused. Its time is linear in the text's length.
 pub fn read(alloc: Global, text: &str) -> Result<Query, Refused>
     // What is answered is the text's query, or its first fault.
     ensures found { MatchResult result (λ q. IsQuery text.now q) (λ e. (e ≡ Refused.OutOfMemory) ⊎ FirstFault text.now e) }
@@ -70,13 +69,49 @@ fn within_limits(clauses: Clauses) -> Result<Clauses, Refused>
 fn limit_fault(clauses: &Clauses) -> Option<Refused>
     ensures { MatchOption result (has_too_many clauses.now ≡ false) (λ e. (e ≡ Refused.Limit) × (has_too_many clauses.now ≡ true)) }
 {
-    if clauses.items.len() > MAX_ITEMS {
-        return Some(Refused::Limit);
-    }
-    if has_long(clauses.items.as_slice()) {
+    if has_too_many(clauses) {
         return Some(Refused::Limit);
     }
     None
+}
+
+/// Whether the select list has too many items, HAVING too many aggregates, or a GROUPING too many columns.
+fn has_too_many(clauses: &Clauses) -> bool
+    ensures { result ≡ has_too_many clauses.now }
+{
+    if clauses.items.len() > MAX_ITEMS {
+        return true;
+    }
+    let asked = clauses.having.items.as_slice();
+    if aggregate_count(asked) > MAX_ITEMS {
+        return true;
+    }
+    if has_long(clauses.items.as_slice()) {
+        return true;
+    }
+    has_long(asked)
+}
+
+/// How many of the items are aggregates.
+fn aggregate_count(items: &[Item<Text>]) -> usize
+    ensures { result ≡ length (filter is_aggregate items.now) }
+{
+    items.iter().filter(|item| is_aggregate(*item)).count()
+}
+
+/// Whether the item is an aggregate.
+fn is_aggregate(item: &Item<Text>) -> bool
+    ensures { result ≡ is_aggregate item.now }
+{
+    match item {
+        Item::Column(_) | Item::Grouping(_) => false,
+        Item::CountRows
+        | Item::Count(_)
+        | Item::CountDistinct(_)
+        | Item::Sum(_)
+        | Item::Min(_)
+        | Item::Max(_) => true,
+    }
 }
 
 /// Whether one of the items is a GROUPING of too many columns.
@@ -104,12 +139,13 @@ fn clauses(alloc: Global, tokens: &[Token]) -> Result<Clauses, Refused>
         return Err(Refused::QuerySyntax);
     };
     let (items, behind) = items_from(alloc, more)?;
-    let (table, condition, groups) = table_and_tail(alloc, behind)?;
+    let (table, condition, grouped) = table_and_tail(alloc, behind)?;
     Ok(Clauses {
         items,
         table,
         condition,
-        groups,
+        groups: grouped.groups,
+        having: grouped.having,
     })
 }
 
@@ -124,66 +160,91 @@ fn items_from(alloc: Global, tokens: &[Token]) -> Result<(Vec<Item<Text>>, &[Tok
     Ok((items, behind))
 }
 
-/// The table's name, the predicate of WHERE, where there is one, and GROUP BY.
+/// The table's name, the predicate of WHERE, where there is one, GROUP BY and HAVING.
 fn table_and_tail(
     alloc: Global,
     tokens: &[Token],
-) -> Result<(Text, Option<Predicate<Text>>, Groups), Refused>
+) -> Result<(Text, Option<Predicate<Text>>, Grouped), Refused>
     ensures { ReadsPhrase (λ x. (from_tree x.0 (x.1, x.2), [])) (Whole SpellsFrom tokens.now) result }
 {
     let (table, behind) = name(tokens)?;
-    let (condition, groups) = tail(alloc, behind)?;
-    Ok((table, condition, groups))
+    let (condition, grouped) = tail(alloc, behind)?;
+    Ok((table, condition, grouped))
 }
 
-/// The predicate of WHERE, where there is one, and GROUP BY.
-fn tail(alloc: Global, tokens: &[Token]) -> Result<(Option<Predicate<Text>>, Groups), Refused>
+/// The predicate of WHERE, where there is one, GROUP BY and HAVING.
+fn tail(alloc: Global, tokens: &[Token]) -> Result<(Option<Predicate<Text>>, Grouped), Refused>
     ensures { ReadsPhrase (λ x. ((x.0, x.1), [])) (Whole SpellsTail tokens.now) result }
 {
     if let Some(more) = after_word(tokens, "WHERE") {
         return where_tail(alloc, more);
     }
-    let groups = groups(alloc, tokens)?;
-    Ok((None, groups))
+    let grouped = grouped(alloc, tokens)?;
+    Ok((None, grouped))
 }
 
-/// The predicate behind WHERE, and GROUP BY.
-fn where_tail(alloc: Global, tokens: &[Token]) -> Result<(Option<Predicate<Text>>, Groups), Refused>
+/// The predicate behind WHERE, GROUP BY and HAVING.
+fn where_tail(
+    alloc: Global,
+    tokens: &[Token],
+) -> Result<(Option<Predicate<Text>>, Grouped), Refused>
     ensures { ReadsPhrase (λ x. ((x.0, x.1), [])) (Whole SpellsTail (WHERE ∷ tokens.now)) result }
 {
     let (condition, behind) = predicate(alloc, tokens)?;
-    beside(groups(alloc, behind), Some(condition))
+    beside(grouped(alloc, behind), Some(condition))
 }
 
-/// GROUP BY, with which the tokens end. Without it, it is as with `GROUP BY ()`.
-fn groups(alloc: Global, tokens: &[Token]) -> Result<Groups, Refused>
-    ensures { ReadsPhrase (λ g. (g, [])) (Whole SpellsEnd tokens.now) result }
+/// GROUP BY and HAVING, with which the tokens end. Without GROUP BY, it is as with `GROUP BY ()`.
+fn grouped(alloc: Global, tokens: &[Token]) -> Result<Grouped, Refused>
+    ensures { ReadsPhrase (λ g. (g, [])) (Whole SpellsGrouped tokens.now) result }
 {
-    if is_end(tokens) {
-        return Ok(Groups::all_rows(alloc)?);
+    if let Some(more) = after_group_by(tokens) {
+        return grouped_by(alloc, more);
     }
-    let Some(more) = after_group_by(tokens) else {
-        return Err(Refused::QuerySyntax);
-    };
-    last_groups(alloc, more)
+    let having = having(alloc, tokens)?;
+    let groups = Groups::all_rows(alloc)?;
+    Ok(Grouped { groups, having })
 }
 
-/// What stands behind GROUP BY, with which the tokens end.
-fn last_groups(alloc: Global, tokens: &[Token]) -> Result<Groups, Refused>
-    ensures { ReadsPhrase (λ g. (g, [])) (Whole SpellsEnd (GROUP ∷ BY ∷ tokens.now)) result }
+/// What stands behind GROUP BY, and HAVING, with which the tokens end.
+fn grouped_by(alloc: Global, tokens: &[Token]) -> Result<Grouped, Refused>
+    ensures { ReadsPhrase (λ g. (g, [])) (Whole SpellsGrouped (GROUP ∷ BY ∷ tokens.now)) result }
+{
+    let (groups, rest) = groups(alloc, tokens)?;
+    let (groups, having) = beside(having(alloc, rest), groups)?;
+    Ok(Grouped { groups, having })
+}
+
+/// DISTINCT, where it stands there, and the elements behind it, and what follows them.
+fn groups(alloc: Global, tokens: &[Token]) -> Result<(Groups, &[Token]), Refused>
+    ensures { ReadsPhrase (λ x. (x.0, x.1.now)) (Starts SpellsBy (Ends comma Any) tokens.now) result }
 {
     let (distinct, more) = word_mark(tokens, "DISTINCT");
-    let elements = last_elements(alloc, more)?;
-    Ok(Groups { distinct, elements })
+    let (elements, rest) = elements(alloc, more)?;
+    Ok((Groups { distinct, elements }, rest))
 }
 
-/// The elements with which the tokens end.
-fn last_elements(alloc: Global, tokens: &[Token]) -> Result<Vec<Element>, Refused>
-    ensures { ReadsPhrase (λ v. (v.items, [])) (Whole SpellsLast tokens.now) result }
+/// HAVING, with which the tokens end, where they do not end already.
+fn having(alloc: Global, tokens: &[Token]) -> Result<Having, Refused>
+    ensures { ReadsPhrase (λ h. (h, [])) (Whole SpellsEnd tokens.now) result }
 {
-    let (elements, rest) = elements(alloc, tokens)?;
+    if is_end(tokens) {
+        return Ok(Having::none(alloc));
+    }
+    let Some(more) = after_word(tokens, "HAVING") else {
+        return Err(Refused::QuerySyntax);
+    };
+    let predicate = last_predicate(alloc, more)?;
+    Ok(Having::of(alloc, predicate)?)
+}
+
+/// The predicate over items with which the tokens end.
+fn last_predicate(alloc: Global, tokens: &[Token]) -> Result<Predicate<Item<Text>>, Refused>
+    ensures { ReadsPhrase (λ p. (p, [])) (Whole SpellsLast tokens.now) result }
+{
+    let (predicate, rest) = predicate(alloc, tokens)?;
     if is_end(rest) {
-        return Ok(elements);
+        return Ok(predicate);
     }
     Err(Refused::QuerySyntax)
 }

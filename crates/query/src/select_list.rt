@@ -29,7 +29,7 @@ pub fn items(alloc: Global, tokens: &[Token]) -> Result<(Vec<Item<Text>>, &[Toke
 }
 
 /// The item at the front by the rule of the grammar, and what follows it.
-fn item(alloc: Global, tokens: &[Token]) -> Result<(Item<Text>, &[Token]), Refused>
+pub fn item(alloc: Global, tokens: &[Token]) -> Result<(Item<Text>, &[Token]), Refused>
     ensures reads { ReadsPhrase (λ x. (x.0, x.1.now)) (Starts SpellsItem Any tokens.now) result }
     ensures shorter { IfOk result (λ x. length x.1.now < length tokens.now) }
 {

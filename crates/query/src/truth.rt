@@ -1,11 +1,13 @@
-//! The truth of a predicate over a row, in three values.
-ghost use Rattle.std.specs.Prelude.{◌≡◌, length};
-ghost use Rattle.query.specs.Lent.{cell_of};
-ghost use Rattle.query.specs.Truth.{IsOver, IsTestWithin, IsWithin, among, and_truth, between, compared, is_null, literal_cell, meets, negated, not_truth, or_truth, test_truth, truth, value_of};
+//! The truth of a predicate over a row, or over the values of a group, in three values.
+ghost use Rattle.std.specs.Prelude.{◌≡◌, map};
+ghost use Rattle.cells.specs.TotalOrder.{cell_total};
+ghost use Rattle.cells.specs.declared.total.Total.{Total};
+ghost use Rattle.query.specs.Lent.{total_of};
+ghost use Rattle.query.specs.Truth.{among, and_truth, between, compared, is_null, literal_total, meets, negated, not_truth, or_truth, test_truth, truth, value_of};
 
 use crate::predicate::{Predicate, PredicateForm};
 use crate::test::{Comparison, Literal, Operand, Test};
-use cells::{Cell, Row, Text};
+use cells::{Cell, Row, Text, Total};
 use std::cmp::Ordering;
 
 /// One of the three truth values of the standard (ISO/IEC 9075-2:1999, `<boolean value expression>`).
@@ -16,12 +18,45 @@ pub enum Truth {
     Unknown,
 }
 
-/// A value that a row or a query lends.
+/// A value that a row, a group or a query lends. Integers have 128 bits, as sums do.
 #[derive(Clone, Copy, Drop)]
 enum Value<'a> {
     Null,
-    Int(i64),
+    Int(i128),
     Text(&'a Text),
+}
+
+/// What a predicate may be asked of a list of.
+trait Valued {
+    /// Its value.
+    ghost total: { Self → Total };
+
+    fn value(&self) -> Value<'_>
+        ensures { total_of result ≡ total self.now };
+}
+
+impl Valued for Cell {
+    ghost total = { cell_total };
+
+    fn value(&self) -> Value<'_> {
+        match self {
+            Cell::Null => Value::Null,
+            Cell::Int(n) => Value::Int(i128::from(*n)),
+            Cell::Text(text) => Value::Text(text),
+        }
+    }
+}
+
+impl Valued for Total {
+    ghost total = { λ t. t };
+
+    fn value(&self) -> Value<'_> {
+        match self {
+            Total::Null => Value::Null,
+            Total::Int(n) => Value::Int(*n),
+            Total::Text(text) => Value::Text(text),
+        }
+    }
 }
 
 impl Truth {
@@ -65,24 +100,22 @@ impl Truth {
 
 /// The value of a literal.
 fn literal_value(literal: &Literal) -> Value
-    ensures { cell_of result ≡ literal_cell literal.now }
+    ensures { total_of result ≡ literal_total literal.now }
 {
     match literal {
-        Literal::Int(n) => Value::Int(*n),
+        Literal::Int(n) => Value::Int(i128::from(*n)),
         Literal::Text(text) => Value::Text(text),
     }
 }
 
-/// The value of an operand in a row.
-fn value_at<'a>(operand: &'a Operand<usize>, row: &'a [Cell]) -> Value<'a>
-    requires { IsWithin (length row.now) operand.now }
-    ensures { cell_of result ≡ value_of operand.now row.now }
+/// The value of an operand among the values, and NULL where there is none at its place.
+fn value_at<'a, V: Valued>(operand: &'a Operand<usize>, values: &'a [V]) -> Value<'a>
+    ensures { total_of result ≡ value_of operand.now (map V.total values.now) }
 {
     match operand {
-        Operand::Column(place) => match &row[*place] {
-            Cell::Null => Value::Null,
-            Cell::Int(n) => Value::Int(*n),
-            Cell::Text(text) => Value::Text(text),
+        Operand::Column(place) => match values.get(*place) {
+            Some(value) => value.value(),
+            None => Value::Null,
         },
         Operand::Literal(literal) => literal_value(literal),
     }
@@ -104,7 +137,7 @@ fn meets(order: Ordering, comparison: Comparison) -> bool
 
 /// Whether the comparison holds. It is unknown where a value is NULL.
 fn compared(a: Value, comparison: Comparison, b: Value) -> Truth
-    ensures { result ≡ compared (cell_of a.entry) comparison (cell_of b.entry) }
+    ensures { result ≡ compared (total_of a.entry) comparison (total_of b.entry) }
 {
     let order = match (a, b) {
         (Value::Null, _) | (_, Value::Null) => return Truth::Unknown,
@@ -122,7 +155,7 @@ fn compared(a: Value, comparison: Comparison, b: Value) -> Truth
 
 /// Whether the value is NULL.
 fn is_null(value: Value) -> Truth
-    ensures { result ≡ is_null (cell_of value.entry) }
+    ensures { result ≡ is_null (total_of value.entry) }
 {
     match value {
         Value::Null => Truth::True,
@@ -132,7 +165,7 @@ fn is_null(value: Value) -> Truth
 
 /// Whether the value lies between the other two, or is one of them.
 fn between(value: Value, low: Value, high: Value) -> Truth
-    ensures { result ≡ between (cell_of value.entry) (cell_of low.entry) (cell_of high.entry) }
+    ensures { result ≡ between (total_of value.entry) (total_of low.entry) (total_of high.entry) }
 {
     let above = compared(value, Comparison::GreaterOrEqual, low);
     let below = compared(value, Comparison::LessOrEqual, high);
@@ -141,7 +174,7 @@ fn between(value: Value, low: Value, high: Value) -> Truth
 
 /// Whether the value equals one of the literals.
 fn among(value: Value, literals: &[Literal]) -> Truth
-    ensures { result ≡ among (cell_of value.entry) literals.now }
+    ensures { result ≡ among (total_of value.entry) literals.now }
 {
     let mut found = Truth::False;
     for literal in literals {
@@ -151,10 +184,9 @@ fn among(value: Value, literals: &[Literal]) -> Truth
 }
 
 impl Test<usize> {
-    /// The truth of the test over the cells of a row.
-    fn truth(&self, row: &[Cell]) -> Truth
-        requires { IsTestWithin (length row.now) self.now }
-        ensures { result ≡ test_truth self.now row.now }
+    /// The truth of the test over the values.
+    fn truth<V: Valued>(&self, row: &[V]) -> Truth
+        ensures { result ≡ test_truth self.now (map V.total row.now) }
     {
         match self {
             Test::Compare(a, comparison, b) => {
@@ -184,29 +216,41 @@ impl Test<usize> {
 }
 
 impl Predicate<usize> {
-    /// The truth of the predicate over a row that has a cell at each place that it names. Only
+    /// The truth of the predicate over a row. A place that the row does not have is as NULL. Only
     /// `Truth::True` keeps a row. It takes no memory.
     pub fn truth(&self, row: &Row) -> Truth
-        requires { IsOver (length row.now.cells) self.now }
-        ensures { result ≡ truth self.now row.now.cells }
+        ensures { result ≡ truth self.now (map cell_total row.now.cells) }
+    {
+        self.truth_over(row.cells())
+    }
+
+    /// The truth of the predicate over values, one at each place that it names. It takes no memory.
+    pub fn truth_of(&self, values: &[Total]) -> Truth
+        ensures { result ≡ truth self.now values.now }
+    {
+        self.truth_over(values)
+    }
+
+    fn truth_over<V: Valued>(&self, values: &[V]) -> Truth
+        ensures { result ≡ truth self.now (map V.total values.now) }
     {
         match &self.form {
             PredicateForm::Or(predicates) => {
                 let mut any = Truth::False;
                 for predicate in predicates {
-                    any = any.or(predicate.truth(row));
+                    any = any.or(predicate.truth_over(values));
                 }
                 any
             }
             PredicateForm::And(predicates) => {
                 let mut all = Truth::True;
                 for predicate in predicates {
-                    all = all.and(predicate.truth(row));
+                    all = all.and(predicate.truth_over(values));
                 }
                 all
             }
-            PredicateForm::Not(inner) => inner.truth(row).negated(),
-            PredicateForm::Test(test) => test.truth(row.cells()),
+            PredicateForm::Not(inner) => inner.truth_over(values).negated(),
+            PredicateForm::Test(test) => test.truth(values),
         }
     }
 }

@@ -1,8 +1,9 @@
 //! Whether a query puts integers beside texts.
-ghost use Rattle.std.specs.Prelude.{◌≡◌};
+ghost use Rattle.std.specs.Prelude.{◌≡◌, Bool};
 ghost use Rattle.std.specs.List.{list_any};
-ghost use Rattle.query.specs.Checks.{differ, is_mixed, is_text_column, is_text_literal, is_text_operand, is_text_sum, is_text_type, is_wrong_type};
-ghost use Rattle.query.specs.Names.{tests_of};
+ghost use Rattle.query.specs.Checks.{differ, is_mixed, is_text_column, is_text_item, is_text_literal, is_text_operand, is_text_at, is_text_sum, is_text_type, is_wrong_type};
+ghost use Rattle.query.specs.Names.{tests_of, tests_where};
+ghost use Rattle.query.specs.Values.{items_of};
 
 use crate::item::Item;
 use crate::predicate::{Predicate, PredicateForm};
@@ -16,12 +17,98 @@ pub fn is_wrong_type(query: &Query, schema: &Schema) -> bool
     ensures { result ≡ is_wrong_type schema.now query.now }
 {
     let columns = schema.columns();
+    if sums_text(query, columns) {
+        return true;
+    }
+    if is_mixed_condition(query, columns) {
+        return true;
+    }
+    is_mixed_having(query, columns)
+}
+
+/// Whether some item, of the select list or of HAVING, is SUM of a TEXT column.
+fn sums_text(query: &Query, columns: &[Column]) -> bool
+    ensures { result ≡ list_any (is_text_sum columns.now) (items_of query.now) }
+{
     if has_text_sum(columns, query.items()) {
         return true;
     }
+    has_text_sum(columns, query.having_items())
+}
+
+/// Whether some test of WHERE puts an integer beside a text.
+fn is_mixed_condition(query: &Query, columns: &[Column]) -> bool
+    ensures { result ≡ list_any (is_mixed (is_text_column columns.now)) (tests_where query.now.condition) }
+{
     match query.condition() {
-        Some(predicate) => is_mixed_predicate(columns, predicate),
+        Some(predicate) => is_mixed_predicate(&ColumnTypes { columns }, predicate),
         None => false,
+    }
+}
+
+/// Whether some test of HAVING puts an integer beside a text.
+fn is_mixed_having(query: &Query, columns: &[Column]) -> bool
+    ensures { result ≡ list_any (is_mixed (is_text_at columns.now query.now.having.items)) (tests_where query.now.having.predicate) }
+{
+    let items = query.having_items();
+    match query.having() {
+        Some(predicate) => is_mixed_predicate(&ItemTypes { columns, items }, predicate),
+        None => false,
+    }
+}
+
+/// What tells which leaves of a predicate are texts.
+trait Types<C> {
+    ghost is_text: { Self → C → Bool };
+
+    /// Whether the leaf is a text.
+    fn is_text(&self, leaf: &C) -> bool
+        ensures { result ≡ is_text self.now leaf.now };
+}
+
+/// The types of columns by their names.
+#[derive(Clone, Copy, Drop)]
+struct ColumnTypes<'a> {
+    columns: &'a [Column],
+}
+
+impl Types<Text> for ColumnTypes<'_> {
+    ghost is_text = { λ t name. is_text_column t.columns.now name };
+
+    fn is_text(&self, name: &Text) -> bool {
+        is_text_column(self.columns, name)
+    }
+}
+
+/// The types of the items that HAVING names, by their places.
+#[derive(Clone, Copy, Drop)]
+struct ItemTypes<'a> {
+    columns: &'a [Column],
+    items: &'a [Item<Text>],
+}
+
+impl Types<usize> for ItemTypes<'_> {
+    ghost is_text = { λ t place. is_text_at t.columns.now t.items.now place };
+
+    fn is_text(&self, place: &usize) -> bool {
+        match self.items.get(*place) {
+            Some(item) => is_text_item(self.columns, item),
+            None => false,
+        }
+    }
+}
+
+/// Whether the values of the item are texts: those of a column, of MIN and of MAX are where the column is of type TEXT.
+fn is_text_item(columns: &[Column], item: &Item<Text>) -> bool
+    ensures { result ≡ is_text_item columns.now item.now }
+{
+    match item {
+        Item::Column(name) | Item::Min(name) | Item::Max(name) => is_text_column(columns, name),
+        Item::Grouping(_)
+        | Item::CountRows
+        | Item::Count(_)
+        | Item::CountDistinct(_)
+        | Item::Sum(_) => false,
     }
 }
 
@@ -64,29 +151,29 @@ fn is_text_type(kind: ColumnType) -> bool
 }
 
 /// Whether some test of the predicate puts an integer beside a text.
-fn is_mixed_predicate(columns: &[Column], predicate: &Predicate<Text>) -> bool
-    ensures { result ≡ list_any (is_mixed columns.now) (tests_of predicate.now) }
+fn is_mixed_predicate<C, T: Types<C>>(types: &T, predicate: &Predicate<C>) -> bool
+    ensures { result ≡ list_any (is_mixed (T.is_text types.now)) (tests_of predicate.now) }
 {
     match &predicate.form {
         PredicateForm::Or(inners) | PredicateForm::And(inners) => {
             for inner in inners {
-                if is_mixed_predicate(columns, inner) {
+                if is_mixed_predicate(types, inner) {
                     return true;
                 }
             }
             false
         }
-        PredicateForm::Not(inner) => is_mixed_predicate(columns, &**inner),
-        PredicateForm::Test(test) => is_mixed(columns, test),
+        PredicateForm::Not(inner) => is_mixed_predicate(types, &**inner),
+        PredicateForm::Test(test) => is_mixed(types, test),
     }
 }
 
 /// Whether the test puts an integer beside a text.
-fn is_mixed(columns: &[Column], test: &Test<Text>) -> bool
-    ensures { result ≡ is_mixed columns.now test.now }
+fn is_mixed<C, T: Types<C>>(types: &T, test: &Test<C>) -> bool
+    ensures { result ≡ is_mixed (T.is_text types.now) test.now }
 {
     match test {
-        Test::Compare(a, _, b) => differ(is_text_operand(columns, a), is_text_operand(columns, b)),
+        Test::Compare(a, _, b) => differ(is_text_operand(types, a), is_text_operand(types, b)),
         Test::IsNull { .. } => false,
         Test::Between {
             operand,
@@ -94,24 +181,24 @@ fn is_mixed(columns: &[Column], test: &Test<Text>) -> bool
             high,
             ..
         } => {
-            let is_text = is_text_operand(columns, operand);
-            if differ(is_text, is_text_operand(columns, low)) {
+            let is_text = is_text_operand(types, operand);
+            if differ(is_text, is_text_operand(types, low)) {
                 return true;
             }
-            differ(is_text, is_text_operand(columns, high))
+            differ(is_text, is_text_operand(types, high))
         }
         Test::In { operand, list, .. } => {
-            has_other(is_text_operand(columns, operand), list.as_slice())
+            has_other(is_text_operand(types, operand), list.as_slice())
         }
     }
 }
 
 /// Whether the operand is a text.
-fn is_text_operand(columns: &[Column], operand: &Operand<Text>) -> bool
-    ensures { result ≡ is_text_operand columns.now operand.now }
+fn is_text_operand<C, T: Types<C>>(types: &T, operand: &Operand<C>) -> bool
+    ensures { result ≡ is_text_operand (T.is_text types.now) operand.now }
 {
     match operand {
-        Operand::Column(name) => is_text_column(columns, name),
+        Operand::Column(leaf) => types.is_text(leaf),
         Operand::Literal(literal) => is_text_literal(literal),
     }
 }

@@ -7,76 +7,76 @@ use Rattle.query.proofs.Predicates.{term_factors, factor_not, factor_plain, or_e
 use Rattle.query.proofs.conditions.+reader.Goals as goal
 
 pub primary-returns-in-Some-clause-reads : goal.primary-returns-in-Some-clause-reads
-primary-returns-in-Some-clause-reads t c =
-    turn_reads (λ x. (x.0, x.1.now)) c.predicate_in.result (primary_parens c.args.tokens.now c.in-Some.more.now c.in-Some.ensures) c.predicate_in.ensures.reads
+primary-returns-in-Some-clause-reads g t c =
+    turn_reads (λ x. (x.0, x.1.now)) c.predicate_in.result (primary_parens g.met.C.Leaf.begins c.args.tokens.now c.in-Some.more.now c.in-Some.ensures) c.predicate_in.ensures.reads
 
 pub primary-returns-clause-reads : goal.primary-returns-clause-reads
-primary-returns-clause-reads t c =
+primary-returns-clause-reads g t c =
     rw c.test-2.ensures (turn_found (primary_test c.args.tokens.now c.in_default.ensures) c.in_ok-test.ensures.reads)
 
 pub factor-returns-in_err-inner-clause-reads : goal.factor-returns-in_err-inner-clause-reads
-factor-returns-in_err-inner-clause-reads t c =
+factor-returns-in_err-inner-clause-reads g t c =
     let p = err_from_is_err_and c.from_residual.result c.from_residual.ensures.1 in
-    rw (p.1, p.2) (turn_err (factor_not c.args.tokens.now c.in-Some.more.now c.in-Some.ensures) c.in_err-inner.ensures.reads)
+    rw (p.1, p.2) (turn_err (factor_not g.met.C.Leaf.begins c.args.tokens.now c.in-Some.more.now c.in-Some.ensures) c.in_err-inner.ensures.reads)
 
 pub factor-returns-in-Some-clause-reads : goal.factor-returns-in-Some-clause-reads
-factor-returns-in-Some-clause-reads t c =
-    rw c.in_ok-not.ensures (turn_found (factor_not c.args.tokens.now c.in-Some.more.now c.in-Some.ensures) c.in_ok-inner.ensures.reads)
+factor-returns-in-Some-clause-reads g t c =
+    rw c.in_ok-not.ensures (turn_found (factor_not g.met.C.Leaf.begins c.args.tokens.now c.in-Some.more.now c.in-Some.ensures) c.in_ok-inner.ensures.reads)
 
 pub factor-returns-clause-reads : goal.factor-returns-clause-reads
-factor-returns-clause-reads t c =
+factor-returns-clause-reads g t c =
     turn_reads (λ x. (x.0, x.1.now)) c.primary-2.result (factor_plain c.args.tokens.now c.in_default.ensures) c.primary-2.ensures.reads
 
 pub term-returns-in_err-factors-clause-reads : goal.term-returns-in_err-factors-clause-reads
-term-returns-in_err-factors-clause-reads t c =
+term-returns-in_err-factors-clause-reads g t c =
     let p = err_from_is_err_and c.from_residual.result c.from_residual.ensures.1 in
     rw (p.1, p.2) (turn_err (term_factors c.args.tokens.now) c.in_err-factors.ensures.reads)
 
 pub term-returns-clause-reads : goal.term-returns-clause-reads
-term-returns-clause-reads t c =
+term-returns-clause-reads g t c =
     rw c.all_of.ensures (turn_found (term_factors c.args.tokens.now) c.in_ok-factors.ensures.reads)
 
 pub predicate-returns-in_err-terms-clause-reads : goal.predicate-returns-in_err-terms-clause-reads
-predicate-returns-in_err-terms-clause-reads t c =
+predicate-returns-in_err-terms-clause-reads g t c =
     let p = err_from_is_err_and c.from_residual.result c.from_residual.ensures.1 in
     rw (p.1, p.2) (turn_err (predicate_terms c.args.tokens.now) c.in_err-terms.ensures.reads)
 
 pub predicate-returns-clause-reads : goal.predicate-returns-clause-reads
-predicate-returns-clause-reads t c =
+predicate-returns-clause-reads g t c =
     rw c.any_of.ensures (turn_found (predicate_terms c.args.tokens.now) c.in_ok-terms.ensures.reads)
 
 pub factors-returns-in_default-clause-reads : goal.factors-returns-in_default-clause-reads
-factors-returns-in_default-clause-reads t c =
-    kept_end AND SpellsFactor Any (λ us. tt) c.args.tokens.now c.loop-found.rest.now c.loop-found.found.items c.loop-found.invariant.kept
+factors-returns-in_default-clause-reads g t c =
+    kept_end AND (SpellsFactor g.C.Leaf.spells) Any (λ us. tt) c.args.tokens.now c.loop-found.rest.now c.loop-found.found.items c.loop-found.invariant.kept
     c.in_ok-factor.factor c.in_ok-factor.behind.now c.push.new.self.items c.in_ok-factor.ensures.reads c.in_ok-push.ensures.items c.in_default.ensures
 
 pub factors-loop-found-preserved : goal.factors-loop-found-preserved
-factors-loop-found-preserved t c =
+factors-loop-found-preserved g t c =
     let more = ap length c.in-Some.ensures in
     record {
       kept =
-          kept_next AND SpellsFactor Any (λ us. tt) c.args.tokens.now c.loop-found.rest.now c.loop-found.found.items c.loop-found.invariant.kept
+          kept_next AND (SpellsFactor g.C.Leaf.spells) Any (λ us. tt) c.args.tokens.now c.loop-found.rest.now c.loop-found.found.items c.loop-found.invariant.kept
           c.in_ok-factor.factor c.in_ok-factor.behind.now c.push.new.self.items c.in_ok-factor.ensures.reads c.in_ok-push.ensures.items
           c.in-Some.more.now c.in-Some.ensures;
       shorter = omega (arith, c.in_ok-factor.ensures.shorter);
     }
 
 pub terms-returns-in_default-clause-reads : goal.terms-returns-in_default-clause-reads
-terms-returns-in_default-clause-reads t c =
-    kept_end OR SpellsTerm AfterAnd or_ends_and c.args.tokens.now c.loop-found.rest.now c.loop-found.found.items c.loop-found.invariant.kept
+terms-returns-in_default-clause-reads g t c =
+    kept_end OR (SpellsTerm g.C.Leaf.spells) AfterAnd or_ends_and c.args.tokens.now c.loop-found.rest.now c.loop-found.found.items c.loop-found.invariant.kept
     c.in_ok-term.term c.in_ok-term.behind.now c.push.new.self.items c.in_ok-term.ensures.reads c.in_ok-push.ensures.items c.in_default.ensures
 
 pub terms-loop-found-preserved : goal.terms-loop-found-preserved
-terms-loop-found-preserved t c =
+terms-loop-found-preserved g t c =
     let more = ap length c.in-Some.ensures in
     record {
       kept =
-          kept_next OR SpellsTerm AfterAnd or_ends_and c.args.tokens.now c.loop-found.rest.now c.loop-found.found.items c.loop-found.invariant.kept
+          kept_next OR (SpellsTerm g.C.Leaf.spells) AfterAnd or_ends_and c.args.tokens.now c.loop-found.rest.now c.loop-found.found.items c.loop-found.invariant.kept
           c.in_ok-term.term c.in_ok-term.behind.now c.push.new.self.items c.in_ok-term.ensures.reads c.in_ok-push.ensures.items
           c.in-Some.more.now c.in-Some.ensures;
       shorter = omega (arith, c.in_ok-term.ensures.shorter);
     }
 
 pub predicate_in-returns-clause-reads : goal.predicate_in-returns-clause-reads
-predicate_in-returns-clause-reads t c =
+predicate_in-returns-clause-reads g t c =
     reads_closed rparen c.args.tokens.now paren_ends (λ s. s.now) c.in_ok-predicate.predicate c.in_ok-predicate.rest.now c.closed.result c.in_ok-predicate.ensures.reads c.closed.ensures

@@ -6,34 +6,34 @@ use Rattle.query.proofs.Predicates.{or_ends_and}
 use Rattle.query.proofs.conditions.+reader.Given as goal
 
 abbrev pub decreases-primary : goal.decreases-primary
-decreases-primary l = 7 * length l.tokens.now + 0
+decreases-primary g l = 7 * length l.tokens.now + 0
 
 abbrev pub decreases-factor : goal.decreases-factor
-decreases-factor l = 7 * length l.tokens.now + 1
+decreases-factor g l = 7 * length l.tokens.now + 1
 
 abbrev pub decreases-factors : goal.decreases-factors
-decreases-factors l = 7 * length l.tokens.now + 2
+decreases-factors g l = 7 * length l.tokens.now + 2
 
 abbrev pub decreases-term : goal.decreases-term
-decreases-term l = 7 * length l.tokens.now + 3
+decreases-term g l = 7 * length l.tokens.now + 3
 
 abbrev pub decreases-terms : goal.decreases-terms
-decreases-terms l = 7 * length l.tokens.now + 4
+decreases-terms g l = 7 * length l.tokens.now + 4
 
 abbrev pub decreases-predicate : goal.decreases-predicate
-decreases-predicate l = 7 * length l.tokens.now + 5
+decreases-predicate g l = 7 * length l.tokens.now + 5
 
 abbrev pub decreases-predicate_in : goal.decreases-predicate_in
-decreases-predicate_in l = 7 * length l.tokens.now + 6
+decreases-predicate_in g l = 7 * length l.tokens.now + 6
 
 abbrev pub invariant-factors-loop-found : goal.invariant-factors-loop-found
-invariant-factors-loop-found l = record { kept : Kept AND SpellsFactor Any (λ us. tt) l.tokens l.found.items l.rest; shorter : length l.rest ≤ length l.tokens }
+invariant-factors-loop-found g l = record { kept : Kept AND (SpellsFactor g.C.Leaf.spells) Any (λ us. tt) l.tokens l.found.items l.rest; shorter : length l.rest ≤ length l.tokens }
 
 abbrev pub decreases-factors-loop-found : goal.decreases-factors-loop-found
-decreases-factors-loop-found l = length l.rest
+decreases-factors-loop-found g l = length l.rest
 
 abbrev pub invariant-terms-loop-found : goal.invariant-terms-loop-found
-invariant-terms-loop-found l = record { kept : Kept OR SpellsTerm AfterAnd or_ends_and l.tokens l.found.items l.rest; shorter : length l.rest ≤ length l.tokens }
+invariant-terms-loop-found g l = record { kept : Kept OR (SpellsTerm g.C.Leaf.spells) AfterAnd or_ends_and l.tokens l.found.items l.rest; shorter : length l.rest ≤ length l.tokens }
 
 abbrev pub decreases-terms-loop-found : goal.decreases-terms-loop-found
-decreases-terms-loop-found l = length l.rest
+decreases-terms-loop-found g l = length l.rest

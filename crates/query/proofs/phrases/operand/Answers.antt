@@ -1,7 +1,10 @@
-use Rattle.query.specs.Grammar.{SpellsOperand}
-use Rattle.query.specs.Phrases.{operand_at}
-use Rattle.query.proofs.PhrasesLemmas.{computed, operand_computes}
+use Rattle.std.proofs.Common.{◌∙◌, sym}
+use Rattle.query.proofs.Lists.{turn_found}
+use Rattle.query.proofs.TestsLemmas.{operand_leaf, operand_literal}
 use Rattle.query.proofs.phrases.operand.Goals as goal
 
+pub returns-then-begins_literal-clause-reads : goal.returns-then-begins_literal-clause-reads
+returns-then-begins_literal-clause-reads g c = turn_found (operand_literal g.met.C.Leaf.begins c.args.tokens.now (sym c.begins_literal.ensures ∙ c.if-begins_literal.true)) c.in_ok-literal.ensures.reads
+
 pub returns-clause-reads : goal.returns-clause-reads
-returns-clause-reads c = computed SpellsOperand _ c.args.tokens.now (operand_at c.args.tokens.now) c.operand_at.result (operand_computes c.args.tokens.now) c.operand_at.ensures.exact
+returns-clause-reads g c = turn_found (operand_leaf c.args.tokens.now (sym c.begins_literal.ensures ∙ c.if-begins_literal.false)) c.in_ok-leaf.ensures.reads

@@ -1,3 +1,4 @@
+use Rattle.std.proofs.Common.{sym}
 use Rattle.std.proofs.lemmas.Result.{err_from_is_err_and}
 use Rattle.query.proofs.Lists.{turn_err, turn_found}
 use Rattle.query.proofs.Ends.{query_items}
@@ -9,4 +10,5 @@ returns-in_err-table c =
     rw (p.1, p.2) (turn_err (query_items c.args.tokens.now c.in-Some.more.now c.in-Some.ensures c.in_ok-items.items.items c.in_ok-items.behind.now c.in_ok-items.ensures) c.in_err-table.ensures)
 
 pub returns : goal.returns
-returns c = turn_found (query_items c.args.tokens.now c.in-Some.more.now c.in-Some.ensures c.in_ok-items.items.items c.in_ok-items.behind.now c.in_ok-items.ensures) c.in_ok-table.ensures
+returns c =
+    turn_found (query_items c.args.tokens.now c.in-Some.more.now c.in-Some.ensures c.in_ok-items.items.items c.in_ok-items.behind.now c.in_ok-items.ensures) (rw (sym c.grouped.view_is) at c.in_ok-table.ensures)

@@ -1,7 +1,11 @@
-use Rattle.std.proofs.Common.{◌∙◌, ap, map}
+use Rattle.std.proofs.Common.{◌++◌, ◌∙◌, ap₂, map}
 use Rattle.query.specs.Plans.{placed_item}
-use Rattle.query.proofs.PlansLemmas.{short_placed}
+use Rattle.query.specs.Values.{items_of}
+use Rattle.query.proofs.ShortLemmas.{short_both, short_placed}
 use Rattle.query.proofs.plan.Outline.of.Goals as goal
 
 pub returns-clause-short : goal.returns-clause-short
-returns-clause-short c = short_placed c.args.columns.now c.args.query.now.items c.in_ok-items.items.items (c.in_ok-items.ensures ∙ ap (map (placed_item c.args.columns.now)) c.items.ensures.items) c.items.ensures.short
+returns-clause-short c =
+    let made = c.in_ok-items.ensures ∙ ap₂ (λ is more. map (placed_item c.args.columns.now) (is ++ more)) c.items.ensures.items c.having_items.ensures.items in
+    short_placed c.args.columns.now (items_of c.args.query.now) c.in_ok-items.items.items made
+    (short_both c.args.query.now.items c.args.query.now.having.items c.items.ensures.short c.having_items.ensures.short)

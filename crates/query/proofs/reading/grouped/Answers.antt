@@ -1,0 +1,9 @@
+use Rattle.query.proofs.Lists.{turn_found}
+use Rattle.query.proofs.Ends.{grouped_none}
+use Rattle.query.proofs.reading.grouped.Goals as goal
+
+pub returns-in-Some : goal.returns-in-Some
+returns-in-Some c = rw c.in-Some.ensures c.grouped_by.ensures
+
+pub returns : goal.returns
+returns c = rw c.in_ok-groups.ensures (turn_found (grouped_none c.args.tokens.now c.in_default.ensures) c.in_ok-having.ensures)
