@@ -5,7 +5,7 @@ use Rattle.std.specs.List.{AllByRecursion, Contains, flat_map}
 use Rattle.std.specs.List.Sorted.{IsPermutation, IsSorted}
 use Rattle.std.specs.Map.{keys_of}
 use Rattle.std.proofs.Common.{get_or, ap, ap₂, sym, ◌∙◌, subst, arith, inl, inr}
-use Rattle.std.proofs.lemmas.List.{append_assoc, append-nil, get_or-map, length-map, map-append, take_more}
+use Rattle.std.proofs.lemmas.List.{append_assoc, append-nil, flat_map_more, get_or-map, length-map, take_more}
 use Rattle.std.proofs.lemmas.List.Sorted.{IsPermutation-map}
 use Rattle.std.proofs.lemmas.Map.Views.{lookup-from_Contains}
 use Rattle.aggs.specs.Accs.{acc_finishes}
@@ -18,7 +18,7 @@ use Rattle.cells.specs.declared.total.Total.{Total}
 use Rattle.cells.specs.declared.total.Total.TheVariants as total
 use Rattle.groups.specs.Accumulators.{accs_of, aggregations_of, group}
 use Rattle.groups.specs.Finishing.{row_by, rows_by}
-use Rattle.groups.specs.Groups.{cell_at, column_of, item_value, members, rows_over, set_rows}
+use Rattle.groups.specs.Groups.{cell_at, column_of, item_value, members, rows_over, set_rows, shown}
 use Rattle.groups.specs.Partials.{Stands, StandsAt, StandsEach}
 use Rattle.groups.proofs.BagLemmas.{all_from, all_in_order}
 use Rattle.groups.proofs.OrderLemmas.{rising_differ, value_by_tuple}
@@ -56,50 +56,52 @@ same_at (x ∷ xs) (suc k) d e h = same_at xs k d e (omega (arith, h))
 same_some : {X : Type 0} (a b : X) → Some a ≡ Some b → a ≡ b
 same_some a b e = cc
 
+-- ---- the rows of groups
+-- what is shown of the group of a tuple
+abbrev shown_of : List ℕ → PlanTree → List RowValue → List Cell → List (List Total)
+shown_of set plan rows t = shown plan (map (item_value set t (members set t rows)) plan.items)
+
 module _ {H : Type 0} where
-  -- ---- the rows of groups
-  rows_more : (set : List ℕ) (items : List (Item ℕ)) (xs : List (Bor (List Cell) × Bor (List (Acc H)))) (i : ℕ) (x : Bor (List Cell) × Bor (List (Acc H))) →
-      i < length xs → x ≡ get_or xs i x →
-      rows_by set items (take (i + 1) (lent xs)) ≡ rows_by set items (take i (lent xs)) ++ row_by set x.0.now items x.1.now ∷ []
-  rows_more set items xs i x h is =
+  next_group : (xs : List (Bor (List Cell) × Bor (List (Acc H)))) (i : ℕ) (x : Bor (List Cell) × Bor (List (Acc H))) → i < length xs → x ≡ get_or xs i x →
+      take (i + 1) (lent xs) ≡ take i (lent xs) ++ (x.0.now, x.1.now) ∷ []
+  next_group xs i x h is =
       let one : List Cell × List (Acc H) = (x.0.now, x.1.now) in
       let e : get_or (lent xs) i one ≡ one = get_or-map (λ p. (p.0.now, p.1.now)) xs i x one h ∙ ap (λ p. (p.0.now, p.1.now)) (sym is) in
       let n : i < length (lent xs) = omega (arith, h, length-map {B = List Cell × List (Acc H)} xs (λ p. (p.0.now, p.1.now))) in
-      ap (rows_by set items) (take_more (lent xs) i one n ∙ ap (λ g. take i (lent xs) ++ g ∷ []) e)
-      ∙ map-append (λ g. row_by set g.0 items g.1) (take i (lent xs)) (one ∷ [])
+      take_more (lent xs) i one n ∙ ap (λ g. take i (lent xs) ++ g ∷ []) e
 
-  pub rows_next : (set : List ℕ) (items : List (Item ℕ)) (xs : List (Bor (List Cell) × Bor (List (Acc H)))) (i : ℕ) (x : Bor (List Cell) × Bor (List (Acc H))) →
-      i < length xs → x ≡ get_or xs i x → (old made new : List (List Total)) (row : List Total) → made ≡ old ++ rows_by set items (take i (lent xs)) →
-      row ≡ row_by set x.0.now items x.1.now → new ≡ made ++ row ∷ [] → new ≡ old ++ rows_by set items (take (i + 1) (lent xs))
-  rows_next set items xs i x h is old made new row now of e = e ∙ ap (λ l. l ++ row ∷ []) now ∙ append_assoc old (rows_by set items (take i (lent xs))) (row ∷ [])
-      ∙ ap (λ l. old ++ l) (ap (λ r. rows_by set items (take i (lent xs)) ++ r ∷ []) of ∙ sym (rows_more set items xs i x h is))
+  pub rows_next : (set : List ℕ) (plan : PlanTree) (xs : List (Bor (List Cell) × Bor (List (Acc H)))) (i : ℕ) (x : Bor (List Cell) × Bor (List (Acc H))) →
+      i < length xs → x ≡ get_or xs i x → (old made new more : List (List Total)) (row : List Total) → made ≡ old ++ rows_by set plan (take i (lent xs)) →
+      row ≡ row_by set x.0.now plan.items x.1.now → more ≡ shown plan row → new ≡ made ++ more → new ≡ old ++ rows_by set plan (take (i + 1) (lent xs))
+  rows_next set plan xs i x h is old made new more row now of show e = e ∙ ap₂ (λ (l m : List (List Total)). l ++ m) now (show ∙ ap (shown plan) of)
+      ∙ flat_map_more (λ g. shown plan (row_by set g.0 plan.items g.1)) old (take i (lent xs)) (x.0.now, x.1.now)
+      ∙ ap (λ gs. old ++ rows_by set plan gs) (sym (next_group xs i x h is))
 
-  module _ (hash : List Cell → ℕ) (set : List ℕ) (items : List (Item ℕ)) (rows : List RowValue) where
+  module _ (hash : List Cell → ℕ) (set : List ℕ) (plan : PlanTree) (rows : List RowValue) where
     -- a group has the accumulators of its tuple's rows
     abbrev HasAccs : List Cell × List (Acc H) → Type 0
-    HasAccs g = g.1 ≡ accs_of (aggregations_of items) (members set g.0 rows)
+    HasAccs g = g.1 ≡ accs_of (aggregations_of plan.items) (members set g.0 rows)
 
-    each_row : (gs : List (List Cell × List (Acc H))) → AllByRecursion HasAccs gs →
-        rows_by set items gs ≡ map (λ t. map (item_value set t (members set t rows)) items) (keys_of gs)
+    each_row : (gs : List (List Cell × List (Acc H))) → AllByRecursion HasAccs gs → rows_by set plan gs ≡ flat_map (shown_of set plan rows) (keys_of gs)
     each_row [] all = refl
-    each_row (g ∷ gs) all = ap₂ (λ (x : List Total) (l : List (List Total)). x ∷ l)
-        (ap (row_by set g.0 items) all.0 ∙ row_is H set g.0 (members set g.0 rows) items) (each_row gs all.1)
+    each_row (g ∷ gs) all = ap₂ (λ (l m : List (List Total)). l ++ m)
+        (ap (shown plan) (ap (row_by set g.0 plan.items) all.0 ∙ row_is H set g.0 (members set g.0 rows) plan.items)) (each_row gs all.1)
 
     module _ (es : List (List Cell × List (Acc H))) (rising : IsRising (digit_order hash tuple_cmp) (keys_of es))
-        (stands : StandsAt hash (aggregations_of items) set rows es) where
+        (stands : StandsAt hash (aggregations_of plan.items) set rows es) where
       has_accs : (g : List Cell × List (Acc H)) → Contains es g → HasAccs g
       has_accs g there =
-          let got : group (aggregations_of items) set rows g.0 ≡ Some g.1 = sym (stands.gives g.0) ∙ value_by_tuple hash es g.0
+          let got : group (aggregations_of plan.items) set rows g.0 ≡ Some g.1 = sym (stands.gives g.0) ∙ value_by_tuple hash es g.0
           ∙ lookup-from_Contains tuple_eq-equiv g.0 g.1 es (rising_differ hash (keys_of es) rising) there in
-          let has : has_group set rows g.0 ≡ true = sym (group_is_some H (aggregations_of items) set rows g.0) ∙ ap is_some got in
-          same_some _ _ (sym got ∙ group_is (aggregations_of items) set rows g.0 has)
+          let has : has_group set rows g.0 ≡ true = sym (group_is_some H (aggregations_of plan.items) set rows g.0) ∙ ap is_some got in
+          same_some _ _ (sym got ∙ group_is (aggregations_of plan.items) set rows g.0 has)
 
       -- in whatever order the groups come with their tuples rising
-      pub rows_are : (gs : List (List Cell × List (Acc H))) → IsPermutation es gs → IsSorted tuple_cmp (keys_of gs) → rows_by set items gs ≡ set_rows items set rows
+      pub rows_are : (gs : List (List Cell × List (Acc H))) → IsPermutation es gs → IsSorted tuple_cmp (keys_of gs) → rows_by set plan gs ≡ set_rows plan set rows
       rows_are gs all up = each_row gs
           (all_in_order HasAccs es gs all (all_from HasAccs es (λ k d h. has_accs (get_or es k d) (k, h, same_at es k (get_or es k d) d h))))
-          ∙ ap (map (λ t. map (item_value set t (members set t rows)) items))
-          (all_tuples hash (aggregations_of items) set rows es rising stands (keys_of gs) (IsPermutation-map (λ g. g.0) es gs all) up)
+          ∙ ap (flat_map (shown_of set plan rows))
+          (all_tuples hash (aggregations_of plan.items) set rows es rising stands (keys_of gs) (IsPermutation-map (λ g. g.0) es gs all) up)
 
 module _ {H : Type 0} where
   -- ---- set by set
@@ -107,7 +109,7 @@ module _ {H : Type 0} where
   pub record Finishing (hash : List Cell → ℕ) (plan : PlanTree) (tries : List (List (List Cell × List (Acc H))))
       (made : List (List Total)) (left : List (List ℕ)) (later : List (List (List Cell × List (Acc H)))) : Type 0 where
     pub stand : (rows : List RowValue) → Stands hash plan rows tries → StandsEach hash (aggregations_of plan.items) left rows later
-    pub same : (rows : List RowValue) → Stands hash plan rows tries → made ++ flat_map (λ set. set_rows plan.items set rows) left ≡ rows_over plan rows
+    pub same : (rows : List RowValue) → Stands hash plan rows tries → made ++ flat_map (λ set. set_rows plan set rows) left ≡ rows_over plan rows
 
   module _ (hash : List Cell → ℕ) (plan : PlanTree) (tries : List (List (List Cell × List (Acc H)))) where
     pub finishing_first : (made : List (List Total)) → made ≡ [] → Finishing hash plan tries made plan.sets tries
@@ -116,7 +118,7 @@ module _ {H : Type 0} where
     module _ {made : List (List Total)} {left : List (List ℕ)} {later : List (List (List Cell × List (Acc H)))} (now : Finishing hash plan tries made left later) where
       pub finishing_more : {set : List ℕ} {t : List (List Cell × List (Acc H))} {sets : List (List ℕ)} {more : List (List (List Cell × List (Acc H)))} →
           left ≡ set ∷ sets → later ≡ t ∷ more → (new : List (List Total)) →
-          ((rows : List RowValue) → StandsAt hash (aggregations_of plan.items) set rows t → new ≡ made ++ set_rows plan.items set rows) →
+          ((rows : List RowValue) → StandsAt hash (aggregations_of plan.items) set rows t → new ≡ made ++ set_rows plan set rows) →
           Finishing hash plan tries new sets more
       finishing_more {set} {t} {sets} {more} p q new e =
           let at : (rows : List RowValue) → Stands hash plan rows tries → StandsEach hash (aggregations_of plan.items) (set ∷ sets) rows (t ∷ more) =
@@ -124,9 +126,9 @@ module _ {H : Type 0} where
           (subst (λ l. StandsEach hash (aggregations_of plan.items) left rows l) q (now.stand rows s)) in
           record {
             stand = λ rows s. (at rows s).1;
-            same = λ rows s. ap (λ l. l ++ flat_map (λ set. set_rows plan.items set rows) sets) (e rows (at rows s).0)
-                ∙ append_assoc made (set_rows plan.items set rows) (flat_map (λ set. set_rows plan.items set rows) sets)
-                ∙ ap (λ l. made ++ flat_map (λ set. set_rows plan.items set rows) l) (sym p) ∙ now.same rows s;
+            same = λ rows s. ap (λ l. l ++ flat_map (λ set. set_rows plan set rows) sets) (e rows (at rows s).0)
+                ∙ append_assoc made (set_rows plan set rows) (flat_map (λ set. set_rows plan set rows) sets)
+                ∙ ap (λ l. made ++ flat_map (λ set. set_rows plan set rows) l) (sym p) ∙ now.same rows s;
           }
 
       no_sets : (rows : List RowValue) (ss : List (List ℕ)) (ts : List (List (List Cell × List (Acc H)))) →
@@ -138,4 +140,4 @@ module _ {H : Type 0} where
 
       pub finishing_all : (left ≡ []) ⊎ (later ≡ []) → (rows : List RowValue) → Stands hash plan rows tries → made ≡ rows_over plan rows
       finishing_all h rows s = sym (append-nil made)
-          ∙ ap (λ l. made ++ flat_map (λ set. set_rows plan.items set rows) l) (sym (no_sets rows left later (now.stand rows s) h)) ∙ now.same rows s
+          ∙ ap (λ l. made ++ flat_map (λ set. set_rows plan set rows) l) (sym (no_sets rows left later (now.stand rows s) h)) ∙ now.same rows s

@@ -18,7 +18,7 @@ use Rattle.groups.specs.declared.folding.Folding.{Folding}
 use Rattle.groups.specs.declared.pool.SetBag.{SetBag}
 use Rattle.groups.specs.declared.visiting.KeptRows.{KeptRows}
 use Rattle.groups.proofs.BagLemmas.{all_in_order}
-use Rattle.groups.proofs.PlanLemmas.{CanFold, PlansFitRows, can_fold}
+use Rattle.groups.proofs.PlanLemmas.{CanFold, RowsFitColumns, can_fold}
 use Rattle.groups.proofs.TuplesLemmas.{all_at, all_through}
 use Rattle.groups.proofs.VisitingLemmas.{can_count_kept}
 use Rattle.query.specs.Plans.{PlanTree}
@@ -112,11 +112,11 @@ may_fold_any_order plan xs ys p may = record {
   few = omega (arith, may.few, length_permutation xs ys p);
 }
 
-can_by : (laws : PlansFitRows) (plan : PlanTree) (rows : List RowValue) (columns : List ℕ) → MayFold plan rows → Contains plan.sets columns → CanFoldSet plan.condition (aggregations_of plan.items) columns rows
+can_by : (laws : RowsFitColumns) (plan : PlanTree) (rows : List RowValue) (columns : List ℕ) → MayFold plan rows → Contains plan.sets columns → CanFoldSet (aggregations_of plan.items) columns rows
 can_by laws plan rows columns may contains =
     let can : CanFold plan (aggregations_of plan.items) rows = can_fold laws plan (aggregations_of plan.items) rows refl may in
-    subst (λ s. CanFoldSet plan.condition (aggregations_of plan.items) s rows) contains.2
-    (all_at (λ s. CanFoldSet plan.condition (aggregations_of plan.items) s rows) plan.sets contains.0 columns can.each contains.1)
+    subst (λ s. CanFoldSet (aggregations_of plan.items) s rows) contains.2
+    (all_at (λ s. CanFoldSet (aggregations_of plan.items) s rows) plan.sets contains.0 columns can.each contains.1)
 
 module _ {H : Type 0} where
   finer_by_sets : (set : List ℕ) (old new : List (SetBag H)) → sets_of new ≡ sets_of old → has_finer new set ≡ has_finer old set
@@ -159,7 +159,7 @@ module _ {H : Type 0} where
           (subst (λ p. IsPool rows.aggregations.now (befores ++ kept p.condition (rows_of rows.piece.now)) new.sources.items) is_plan
           (all.serves befores (subst (λ a. IsPool a befores old.sources.items) (sym are) folds.covers)))
 
-  go_each : (rows : KeptRows H) (plan : PlanTree) (taken : List RowValue) → ((set : List ℕ) → Contains plan.sets set → CanFoldSet rows.plan.now.condition rows.aggregations.now set (taken ++ rows_of rows.piece.now)) →
+  go_each : (rows : KeptRows H) (plan : PlanTree) (taken : List RowValue) → ((set : List ℕ) → Contains plan.sets set → CanFoldSet rows.aggregations.now set (taken ++ rows_of rows.piece.now)) →
       (sources : List (SetBag H)) → AllByRecursion (Contains plan.sets) (sets_of sources) →
       AllByRecursion (λ (f : SetBag H). Covers rows.aggregations.now f.set.items (kept rows.plan.now.condition taken) f.bag) sources → AllByRecursion (MayFillSource rows) sources
   go_each rows plan taken can [] among covers = tt
@@ -168,25 +168,25 @@ module _ {H : Type 0} where
     go_each rows plan taken can sources among.1 covers.1,
   )
 
-  pub may_fill_sources : (laws : PlansFitRows) (folding : Folding H) (rows : KeptRows H) → rows.plan.now ≡ folding.plan.now → rows.aggregations.now ≡ folding.aggregations.items →
+  pub may_fill_sources : (laws : RowsFitColumns) (folding : Folding H) (rows : KeptRows H) → rows.plan.now ≡ folding.plan.now → rows.aggregations.now ≡ folding.aggregations.items →
       MayTakeMore folding (rows_of rows.piece.now) → MayFillSources rows folding.sources.items
   may_fill_sources laws folding rows by with may =
       let is_plan : rows.plan.now ≡ may.plan = by ∙ (may.folds).planned in
       let are : rows.aggregations.now ≡ aggregations_of (may.plan).items = with ∙ (may.folds).aggregations in
       record {
         each = go_each rows may.plan may.taken
-            (λ s contains. rw (is_plan, are) (can_by laws may.plan (may.taken ++ rows_of rows.piece.now) s may.may contains))
+            (λ s contains. rw are (can_by laws may.plan (may.taken ++ rows_of rows.piece.now) s may.may contains))
             folding.sources.items (may.folds).among (rw (is_plan, are) ((may.folds).covers).each);
       }
 
-  pub end_counted : (laws : PlansFitRows) (folding : Folding H) (aggregations : List Aggregation) → aggregations ≡ folding.aggregations.items → MayEnd folding →
+  pub end_counted : (laws : RowsFitColumns) (folding : Folding H) (aggregations : List Aggregation) → aggregations ≡ folding.aggregations.items → MayEnd folding →
       AreCounted aggregations folding.sources.items
   end_counted laws folding aggregations is may =
       subst (λ a. AreCounted a folding.sources.items) (sym (is ∙ (may.folds).aggregations)) (record {
         rows = kept (may.plan).condition may.taken;
         covers = (may.folds).covers;
         can = can_count_kept (may.plan).condition (aggregations_of (may.plan).items) (get_or (may.plan).sets 0 []) may.taken
-            (all_at (λ s. CanFoldSet (may.plan).condition (aggregations_of (may.plan).items) s may.taken) (may.plan).sets 0 []
+            (all_at (λ s. CanFoldSet (aggregations_of (may.plan).items) s may.taken) (may.plan).sets 0 []
             (can_fold laws may.plan (aggregations_of (may.plan).items) may.taken refl may.may).each ((may.may).planned).some);
       })
 

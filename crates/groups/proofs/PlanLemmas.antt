@@ -1,5 +1,5 @@
 -- What a plan asks of the rows of its table.
-use Rattle.std.specs.Prelude.{◌≡◌, ◌≢◌, ℕ, zero, suc, ◌<◌, Bool, true, false, List, [], ◌∷◌, IfSome, length, option_map, Option, Some, None, refl, slice_index_or}
+use Rattle.std.specs.Prelude.{◌≡◌, ◌≢◌, ℕ, zero, suc, ◌<◌, Bool, true, false, List, [], ◌∷◌, length, option_map, Option, Some, None, refl, slice_index_or}
 use Rattle.std.specs.List.{AllByRecursion, slice_get}
 use Rattle.std.proofs.Common.{ap, sym, ◌∙◌, subst, arith}
 use Rattle.aggs.specs.Values.{IsNoText}
@@ -18,16 +18,11 @@ use Rattle.groups.specs.Partials.{MayFold}
 use Rattle.groups.specs.declared.aggregation.Aggregation.{Aggregation}
 use Rattle.groups.proofs.TuplesLemmas.{all_through}
 use Rattle.query.specs.Plans.{IsItemOf, IsPlanOf, IsSetOf, PlanTree, type_at}
-use Rattle.query.specs.Trees.{PredicateTree}
-use Rattle.query.specs.Truth.{IsOver}
 use Rattle.query.specs.declared.item.Item.{Item}
 use Rattle.query.specs.declared.item.Item.TheVariants as item
-use Rattle.query.specs.declared.test.Test.{Test}
 
--- what the laws of plans and rows say
-pub record PlansFitRows : Type 0 where
-  pub asked : (table : Table) (plan : PlanTree) (row : RowValue) (predicate : PredicateTree (Test ℕ)) →
-      IsPlanOf table plan → plan.condition ≡ Some predicate → IsRowOf table row → IsOver (length row.cells) predicate
+-- what the law of rows says
+pub record RowsFitColumns : Type 0 where
   pub cells : (table : Table) (row : RowValue) → IsRowOf table row → length row.cells ≡ length table.columns
   pub integers : (table : Table) (row : RowValue) (place : ℕ) (text : List ℕ) →
       IsRowOf table row → type_at table.columns place ≡ Some column.Int → slice_index_or row.cells place cell.Null ≢ cell.Text text
@@ -64,7 +59,7 @@ no_sum k f e = absurd (clash (sym f ∙ ap is_sum e))
     clash : false ≡ true → ⊥
     clash c = cc
 
-module _ (laws : PlansFitRows) (table : Table) (row : RowValue) (fits : IsRowOf table row) where
+module _ (laws : RowsFitColumns) (table : Table) (row : RowValue) (fits : IsRowOf table row) where
   within : (place : ℕ) → place < length table.columns → place < length row.cells
   within place h = omega (arith, h, laws.cells table row fits)
 
@@ -86,22 +81,17 @@ module _ (laws : PlansFitRows) (table : Table) (row : RowValue) (fits : IsRowOf 
   may_take (item.Min p ∷ items) all = (take_other kind.Min p refl (within p all.0), may_take items all.1)
   may_take (item.Max p ∷ items) all = (take_other kind.Max p refl (within p all.0), may_take items all.1)
 
-  fits_set : (plan : PlanTree) (set : List ℕ) → IsPlanOf table plan → IsSetOf table.columns set → FitsSet plan.condition (aggregations_of plan.items) set row
+  fits_set : (plan : PlanTree) (set : List ℕ) → IsPlanOf table plan → IsSetOf table.columns set → FitsSet (aggregations_of plan.items) set row
   fits_set plan set planned of = record {
     counted = record { stored = cells_are_stored row.cells table.columns fits.cells; each = may_take plan.items planned.items };
-    asked = by_condition plan.condition (λ p e. laws.asked table plan row p planned e fits);
     grouped = subst (λ n. AreWithin n set) (sym (laws.cells table row fits)) of.within;
   }
-    where
-      by_condition : (o : Option (PredicateTree (Test ℕ))) → ((p : PredicateTree (Test ℕ)) → o ≡ Some p → IsOver (length row.cells) p) → IfSome o (λ p. IsOver (length row.cells) p)
-      by_condition None h = tt
-      by_condition (Some p) h = h p refl
 
 -- rows that can be folded into the groups of each set of the plan
 pub record CanFold (plan : PlanTree) (aggregations : List Aggregation) (rows : List RowValue) : Type 0 where
-  pub each : AllByRecursion (λ set. CanFoldSet plan.condition aggregations set rows) plan.sets
+  pub each : AllByRecursion (λ set. CanFoldSet aggregations set rows) plan.sets
 
-pub can_fold : (laws : PlansFitRows) (plan : PlanTree) (aggregations : List Aggregation) (rows : List RowValue) → aggregations ≡ aggregations_of plan.items →
+pub can_fold : (laws : RowsFitColumns) (plan : PlanTree) (aggregations : List Aggregation) (rows : List RowValue) → aggregations ≡ aggregations_of plan.items →
     MayFold plan rows → CanFold plan aggregations rows
 can_fold laws plan aggregations rows e may = rw e (record {
   each = all_through (IsSetOf may.table.columns) _

@@ -12,7 +12,7 @@ use Rattle.cells.specs.declared.cell.Cell.{Cell}
 use Rattle.cells.specs.declared.total.Total.{Total}
 use Rattle.groups.specs.Accumulators.{accs_of, accs_together, aggregations_of, both, group}
 use Rattle.groups.specs.Finishing.{row_by}
-use Rattle.groups.specs.Groups.{item_value, kept, members, report_rows, set_rows, tuple_of, tuples}
+use Rattle.groups.specs.Groups.{item_value, kept, members, report_rows, set_rows, shown, tuple_of, tuples}
 use Rattle.groups.specs.Laws.{accs_any_order, accs_join, group_any_order, group_joins, kept_join}
 use Rattle.groups.specs.declared.aggregation.Aggregation.{Aggregation}
 use Rattle.groups.proofs.FinishLemmas.{row_is}
@@ -58,23 +58,23 @@ module _ (condition : Option (PredicateTree (Test ℕ))) (set : List ℕ) (t : L
   row_order items xs ys p = sym (row_is (Unit {0}) set t (of xs) items)
       ∙ ap (row_by set t items) (kept_accs (aggregations_of items) xs ys p) ∙ row_is (Unit {0}) set t (of ys) items
 
-module _ (condition : Option (PredicateTree (Test ℕ))) (items : List (Item ℕ)) (xs ys : List RowValue) (p : IsPermutation xs ys) where
-  tuples_order : (set : List ℕ) → tuples set (kept condition xs) ≡ tuples set (kept condition ys)
-  tuples_order set = tuples_by_groups set (kept condition xs) (kept condition ys) (λ t. kept_has condition set t xs ys p)
+module _ (plan : PlanTree) (xs ys : List RowValue) (p : IsPermutation xs ys) where
+  tuples_order : (set : List ℕ) → tuples set (kept plan.condition xs) ≡ tuples set (kept plan.condition ys)
+  tuples_order set = tuples_by_groups set (kept plan.condition xs) (kept plan.condition ys) (λ t. kept_has plan.condition set t xs ys p)
 
   rows_order : (set : List ℕ) (ts : List (List Cell)) →
-      map (λ t. map (item_value set t (members set t (kept condition xs))) items) ts
-      ≡ map (λ t. map (item_value set t (members set t (kept condition ys))) items) ts
+      flat_map (λ t. shown plan (map (item_value set t (members set t (kept plan.condition xs))) plan.items)) ts
+      ≡ flat_map (λ t. shown plan (map (item_value set t (members set t (kept plan.condition ys))) plan.items)) ts
   rows_order set [] = refl
-  rows_order set (t ∷ ts) = ap₂ (λ (x : List Total) (l : List (List Total)). x ∷ l) (row_order condition set t items xs ys p) (rows_order set ts)
+  rows_order set (t ∷ ts) = ap₂ (λ (l m : List (List Total)). l ++ m) (ap (shown plan) (row_order plan.condition set t plan.items xs ys p)) (rows_order set ts)
 
   sets_order : (sets : List (List ℕ)) →
-      flat_map (λ set. set_rows items set (kept condition xs)) sets ≡ flat_map (λ set. set_rows items set (kept condition ys)) sets
+      flat_map (λ set. set_rows plan set (kept plan.condition xs)) sets ≡ flat_map (λ set. set_rows plan set (kept plan.condition ys)) sets
   sets_order [] = refl
   sets_order (set ∷ sets) = ap₂ (λ (l m : List (List Total)). l ++ m)
-      (rows_order set (tuples set (kept condition xs))
-      ∙ ap (map (λ t. map (item_value set t (members set t (kept condition ys))) items)) (tuples_order set))
+      (rows_order set (tuples set (kept plan.condition xs))
+      ∙ ap (flat_map (λ t. shown plan (map (item_value set t (members set t (kept plan.condition ys))) plan.items))) (tuples_order set))
       (sets_order sets)
 
 pub report_any_order : (plan : PlanTree) (xs ys : List RowValue) → IsPermutation xs ys → report_rows plan xs ≡ report_rows plan ys
-report_any_order plan xs ys p = sets_order plan.condition plan.items xs ys p plan.sets
+report_any_order plan xs ys p = sets_order plan xs ys p plan.sets

@@ -30,9 +30,9 @@ module _ {H : Type 0} (condition : Option (PredicateTree (Test ℕ))) (aggregati
 
 -- ---- rows that are kept may be counted
 can_count : (condition : Option (PredicateTree (Test ℕ))) (aggregations : List Aggregation) (set : List ℕ) (before after : List RowValue) (row : RowValue) →
-    CanFoldSet condition aggregations set (before ++ row ∷ after) → CanCount aggregations (kept condition before ++ row ∷ [])
+    CanFoldSet aggregations set (before ++ row ∷ after) → CanCount aggregations (kept condition before ++ row ∷ [])
 can_count condition aggregations set before after row can =
-    let P : RowValue → Type 0 = FitsSet condition aggregations set in
+    let P : RowValue → Type 0 = FitsSet aggregations set in
     let Q : RowValue → Type 0 = FitsRow aggregations in
     let firsts : AllByRecursion P before = all_first P before (row ∷ after) can.each in
     let here : P row = (all_second P before (row ∷ after) can.each).0 in
@@ -42,9 +42,9 @@ can_count condition aggregations set before after row can =
     }
 
 pub can_count_kept : (condition : Option (PredicateTree (Test ℕ))) (aggregations : List Aggregation) (set : List ℕ) (rows : List RowValue) →
-    CanFoldSet condition aggregations set rows → CanCount aggregations (kept condition rows)
+    CanFoldSet aggregations set rows → CanCount aggregations (kept condition rows)
 can_count_kept condition aggregations set rows can = record {
-  each = all_kept (FitsRow aggregations) (keeps condition) rows (all_through (FitsSet condition aggregations set) (FitsRow aggregations) (λ r fits. fits.counted) rows can.each);
+  each = all_kept (FitsRow aggregations) (keeps condition) rows (all_through (FitsSet aggregations set) (FitsRow aggregations) (λ r fits. fits.counted) rows can.each);
   few = omega (arith, can.few, kept_short (keeps condition) rows);
 }
 
@@ -92,24 +92,24 @@ module _ {S H : Type 0} (condition : S → Option (PredicateTree (Test ℕ))) (a
   visited_all old new es t = (visited old new es t).serves
 
   may_visit_at : (old mid : S) (taken before after : List RowValue) (key : Cell) (row : RowValue) → Covers (aggregations old) (set old) (kept (condition old) taken) (groups old) →
-      Visited old before mid → CanFoldSet (condition old) (aggregations old) (set old) ((taken ++ before) ++ row ∷ after) → MayVisit condition aggregations set groups mid key row
+      Visited old before mid → CanFoldSet (aggregations old) (set old) ((taken ++ before) ++ row ∷ after) → MayVisit condition aggregations set groups mid key row
   may_visit_at old mid taken before after key row covers v can =
-      let fits : FitsSet (condition old) (aggregations old) (set old) row = (all_second _ (taken ++ before) (row ∷ after) can.each).0 in
+      let fits : FitsSet (aggregations old) (set old) row = (all_second _ (taken ++ before) (row ∷ after) can.each).0 in
       let room : HasRoom (aggregations old) (set old) row (groups mid) = record {
         rows = kept (condition old) (taken ++ before);
         covers = subst (λ l. Covers (aggregations old) (set old) l (groups mid)) (sym (kept_join (condition old) taken before)) (v.serves (kept (condition old) taken) covers);
         can = can_count (condition old) (aggregations old) (set old) (taken ++ before) after row can;
       } in
       record {
-        fits = rw (v.condition_stays, v.aggregations_stay, v.set_stays) fits;
+        fits = rw (v.aggregations_stay, v.set_stays) fits;
         room = rw (v.aggregations_stay, v.set_stays) room;
       }
 
   pub may_visit : (old : S) (taken : List RowValue) (es : List (Cell × RowValue)) → Covers (aggregations old) (set old) (kept (condition old) taken) (groups old) →
-      CanFoldSet (condition old) (aggregations old) (set old) (taken ++ rows_of es) → MayTakeAll (MayVisit condition aggregations set groups) (Visits condition aggregations set groups) old es
+      CanFoldSet (aggregations old) (set old) (taken ++ rows_of es) → MayTakeAll (MayVisit condition aggregations set groups) (Visits condition aggregations set groups) old es
   may_visit old taken es covers can = record {
     asked = λ before after x mid split t.
         may_visit_at old mid taken (rows_of before) (rows_of after) x.0 x.1 covers (visited old mid before t)
-        (subst (CanFoldSet (condition old) (aggregations old) (set old))
+        (subst (CanFoldSet (aggregations old) (set old))
         (ap (λ l. taken ++ l) (ap rows_of split ∙ map-append (λ x. x.1) before (x ∷ after)) ∙ sym (append_assoc taken (rows_of before) (x.1 ∷ rows_of after))) can);
   }

@@ -1,5 +1,5 @@
 -- Bags of groups: a list of groups that rows go into, of which several may have one tuple.
-use Rattle.std.specs.Prelude.{◌≡◌, ℕ, ◌<◌, ◌≤◌, false, ◌⊎◌, List, [], ◌∷◌, ◌++◌, IfSome, Option, length, map, set, slice_index_or, ⊤}
+use Rattle.std.specs.Prelude.{◌≡◌, ℕ, ◌<◌, ◌≤◌, false, ◌⊎◌, List, [], ◌∷◌, ◌++◌, length, map, set, slice_index_or, ⊤}
 use Rattle.std.specs.List.{AllByRecursion, flat_map}
 use Rattle.std.specs.List.Sorted.{IsPermutation}
 use Rattle.aggs.specs.Room.{cell_limit}
@@ -13,9 +13,6 @@ use Rattle.cells.specs.declared.cell.Cell.TheVariants.{Null}
 use Rattle.groups.specs.Accumulators.{CanStep, accs_of, no_rows, stepped}
 use Rattle.groups.specs.Groups.{cell_at, tuple_of}
 use Rattle.groups.specs.declared.aggregation.Aggregation.{Aggregation}
-use Rattle.query.specs.Trees.{PredicateTree}
-use Rattle.query.specs.Truth.{IsOver}
-use Rattle.query.specs.declared.test.Test.{Test}
 
 -- a group: its tuple and its accumulators
 abbrev pub Group : Type 0 → Type 0
@@ -100,13 +97,12 @@ module _ {H : Type 0} (aggregations : List Aggregation) where
 
 -- ---- the rows of a plan
 
--- the row can be asked for the predicate, and has the columns of the set and of the aggregates
-pub record FitsSet (condition : Option (PredicateTree (Test ℕ))) (aggregations : List Aggregation) (set : List ℕ) (row : RowValue) : Type 0 where
+-- the row has the columns of the set and of the aggregates
+pub record FitsSet (aggregations : List Aggregation) (set : List ℕ) (row : RowValue) : Type 0 where
   pub counted : FitsRow aggregations row
-  pub asked : IfSome condition (λ p. IsOver (length row.cells) p)
   pub grouped : AreWithin (length row.cells) set
 
 -- the rows can be folded into the groups of a set
-pub record CanFoldSet (condition : Option (PredicateTree (Test ℕ))) (aggregations : List Aggregation) (set : List ℕ) (rows : List RowValue) : Type 0 where
-  pub each : AllByRecursion (FitsSet condition aggregations set) rows
+pub record CanFoldSet (aggregations : List Aggregation) (set : List ℕ) (rows : List RowValue) : Type 0 where
+  pub each : AllByRecursion (FitsSet aggregations set) rows
   pub few : length rows ≤ cell_limit

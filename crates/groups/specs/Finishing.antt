@@ -1,12 +1,14 @@
 -- How the rows of a report come from groups: group by group, and item by item with the next accumulator for each aggregate.
-use Rattle.std.specs.Prelude.{ℕ, pos, List, [], ◌∷◌, map}
+use Rattle.std.specs.Prelude.{ℕ, pos, List, [], ◌∷◌}
+use Rattle.std.specs.List.{flat_map}
 use Rattle.aggs.specs.Accs.{acc_total}
-use Rattle.aggs.specs.Values.{cell_total}
 use Rattle.aggs.specs.declared.acc.Acc.{Acc}
+use Rattle.cells.specs.TotalOrder.{cell_total}
 use Rattle.cells.specs.declared.cell.Cell.{Cell}
 use Rattle.cells.specs.declared.total.Total.{Total}
 use Rattle.cells.specs.declared.total.Total.TheVariants as total
-use Rattle.groups.specs.Groups.{cell_of_place, grouping, place_in}
+use Rattle.groups.specs.Groups.{cell_of_place, grouping, place_in, shown}
+use Rattle.query.specs.Plans.{PlanTree}
 use Rattle.query.specs.declared.item.Item.{Item}
 use Rattle.query.specs.declared.item.Item.TheVariants as item
 
@@ -47,6 +49,6 @@ module _ {H : Type 0} where
   row_by set tuple [] accs = []
   row_by set tuple (i ∷ items) accs = value_by set tuple i accs ∷ row_by set tuple items (left_by i accs)
 
-  -- the rows of groups, in their order
-  abbrev pub rows_by : List ℕ → List (Item ℕ) → List (List Cell × List (Acc H)) → List (List Total)
-  rows_by set items groups = map (λ g. row_by set g.0 items g.1) groups
+  -- the rows of groups, in their order, but of those that HAVING drops
+  abbrev pub rows_by : List ℕ → PlanTree → List (List Cell × List (Acc H)) → List (List Total)
+  rows_by set plan groups = flat_map (λ g. shown plan (row_by set g.0 plan.items g.1)) groups

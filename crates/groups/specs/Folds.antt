@@ -23,7 +23,7 @@ module _ {H : Type 0} where
   pub record MayFill (rows : KeptRows H) (set : List ℕ) (groups : List (Group H)) : Type 0 where
     pub taken : List RowValue
     pub covers : Covers rows.aggregations.now set (kept rows.plan.now.condition taken) groups
-    pub can : CanFoldSet rows.plan.now.condition rows.aggregations.now set (taken ++ rows_of rows.piece.now)
+    pub can : CanFoldSet rows.aggregations.now set (taken ++ rows_of rows.piece.now)
 
   abbrev pub MayFillSource : KeptRows H → SetBag H → Type 0
   MayFillSource rows source = MayFill rows source.set.items source.bag

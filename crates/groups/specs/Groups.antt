@@ -1,9 +1,10 @@
--- Grouped queries over lists of rows (ISO/IEC 9075-2:1999, 7.8 <where clause>, 7.9 <group by clause>, 7.11 <query specification>;
--- GROUPING of several columns after ISO/IEC 9075-2:2016, feature T433).
-use Rattle.std.specs.Prelude.{ℕ, pos, ◌==◌, ◌+◌, ◌*◌, ◌^◌, Bool, true, false, List, [], ◌∷◌, filter, length, map, slice_index_or, Option, Some, None, position}
+-- Grouped queries over lists of rows (ISO/IEC 9075-2:1999, 7.8 <where clause>, 7.9 <group by clause>, 7.10 <having clause>, 7.11
+-- <query specification>; GROUPING of several columns after ISO/IEC 9075-2:2016, feature T433).
+use Rattle.std.specs.Prelude.{ℕ, pos, ◌==◌, ◌+◌, ◌*◌, ◌^◌, Bool, true, false, List, [], ◌∷◌, drop, filter, if◌then◌else◌, length, map, slice_index_or, take, Option, Some, None, position}
 use Rattle.std.specs.List.{flat_map}
 use Rattle.std.specs.Ordering.{match_ordering}
-use Rattle.aggs.specs.Values.{cell_total, count, different_count, greatest, least, sum}
+use Rattle.aggs.specs.Values.{count, different_count, greatest, least, sum}
+use Rattle.cells.specs.TotalOrder.{cell_total}
 use Rattle.cells.specs.TupleOrder.{tuple_cmp, tuple_eq}
 use Rattle.cells.specs.Values.{RowValue}
 use Rattle.cells.specs.declared.cell.Cell.{Cell}
@@ -19,17 +20,21 @@ use Rattle.query.specs.declared.test.Test.{Test}
 use Rattle.query.specs.declared.truth.Truth.{Truth}
 use Rattle.query.specs.declared.truth.Truth.TheVariants.{True, False, Unknown}
 
--- ---- WHERE (7.8)
-
 abbrev pub is_true : Truth → Bool
 is_true True = true
 is_true False = false
 is_true Unknown = false
 
--- the predicate is true for the row; where there is none, each row is kept
+-- the predicate is true for the values; where there is none, it is as if it were
+abbrev pub holds : Option (PredicateTree (Test ℕ)) → List Total → Bool
+holds None values = true
+holds (Some p) values = is_true (truth p values)
+
+-- ---- WHERE (7.8)
+
+-- the predicate is true for the row's cells
 abbrev pub keeps : Option (PredicateTree (Test ℕ)) → RowValue → Bool
-keeps None row = true
-keeps (Some p) row = is_true (truth p row.cells)
+keeps condition row = holds condition (map cell_total row.cells)
 
 abbrev pub kept : Option (PredicateTree (Test ℕ)) → List RowValue → List RowValue
 kept condition rows = filter (keeps condition) rows
@@ -100,15 +105,22 @@ item_value set tuple group (item.Sum c) = sum (column_of c group)
 item_value set tuple group (item.Min c) = least (column_of c group)
 item_value set tuple group (item.Max c) = greatest (column_of c group)
 
+-- ---- HAVING (7.10)
+
+-- the values of a group that are shown: those of the select list, where HAVING is true for the values of its own items, which
+-- stand behind them; else the group is dropped
+abbrev pub shown : PlanTree → List Total → List (List Total)
+shown plan values = if holds plan.having (drop (length plan.headings) values) then take (length plan.headings) values ∷ [] else []
+
 -- ---- the report
 
--- the rows of the report for a grouping set, one for each of its tuples
-abbrev pub set_rows : List (Item ℕ) → List ℕ → List RowValue → List (List Total)
-set_rows items set rows = map (λ t. map (item_value set t (members set t rows)) items) (tuples set rows)
+-- the rows of the report for a grouping set, one for each of its tuples whose group is not dropped
+abbrev pub set_rows : PlanTree → List ℕ → List RowValue → List (List Total)
+set_rows plan set rows = flat_map (λ t. shown plan (map (item_value set t (members set t rows)) plan.items)) (tuples set rows)
 
 -- the rows of the report for rows that are kept: those of each grouping set, in the order of the sets
 abbrev pub rows_over : PlanTree → List RowValue → List (List Total)
-rows_over plan rows = flat_map (λ set. set_rows plan.items set rows) plan.sets
+rows_over plan rows = flat_map (λ set. set_rows plan set rows) plan.sets
 
 -- the grouped query over a table's rows
 abbrev pub report_rows : PlanTree → List RowValue → List (List Total)

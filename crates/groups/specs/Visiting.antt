@@ -16,7 +16,7 @@ pub record TakesKept {H : Type 0} (condition : Option (PredicateTree (Test ℕ))
 module _ {S H : Type 0} (condition : S → Option (PredicateTree (Test ℕ))) (aggregations : S → List Aggregation) (set : S → List ℕ) (groups : S → List (Group H)) where
   -- it may be lent the row
   pub record MayVisit (filler : S) (key : Cell) (row : RowValue) : Type 0 where
-    pub fits : FitsSet (condition filler) (aggregations filler) (set filler) row
+    pub fits : FitsSet (aggregations filler) (set filler) row
     pub room : HasRoom (aggregations filler) (set filler) row (groups filler)
 
   -- it takes the row, and nothing but its groups changes

@@ -1,12 +1,19 @@
 -- Worked reports: four sales, one of them of an unknown region, by ROLLUP of the region.
-use Rattle.std.specs.Prelude.{ℕ, ℤ, pos, negsuc, List, [], ◌∷◌, codes, None}
+use Rattle.std.specs.Prelude.{ℕ, ℤ, pos, negsuc, List, [], ◌∷◌, codes, None, Some}
 use Rattle.cells.specs.Values.{RowValue}
 use Rattle.cells.specs.declared.cell.Cell.{Cell}
 use Rattle.cells.specs.declared.cell.Cell.TheVariants.{Null, Int, Text}
 use Rattle.cells.specs.declared.total.Total.{Total}
 use Rattle.cells.specs.declared.total.Total.TheVariants as total
 use Rattle.query.specs.Plans.{PlanTree}
+use Rattle.query.specs.Trees.{And, Holds, MorePredicates, NoPredicates, PredicateTree}
 use Rattle.query.specs.declared.item.Item.TheVariants as item
+use Rattle.query.specs.declared.test.Comparison.{Comparison}
+use Rattle.query.specs.declared.test.Comparison.TheVariants.{Greater, Less}
+use Rattle.query.specs.declared.test.Literal.TheVariants as literal
+use Rattle.query.specs.declared.test.Operand.TheVariants as operand
+use Rattle.query.specs.declared.test.Test.{Test}
+use Rattle.query.specs.declared.test.Test.TheVariants.{Compare}
 
 abbrev sale : ℤ → Cell → Cell → RowValue
 sale number region units = record { key = Int number; cells = Int number ∷ region ∷ units ∷ [] }
@@ -19,9 +26,10 @@ sales = sale (pos 1) (Text (codes "north")) (Int (pos 10)) ∷ sale (pos 2) (Tex
 abbrev pub by_sets : List (List ℕ) → PlanTree
 by_sets sets = record {
   items = item.Column 1 ∷ item.Grouping (1 ∷ []) ∷ item.CountRows ∷ item.Count 2 ∷ item.Sum 2 ∷ [];
-  headings = [];
+  headings = codes "REGION" ∷ codes "GROUPING(REGION)" ∷ codes "COUNT(*)" ∷ codes "COUNT(UNITS)" ∷ codes "SUM(UNITS)" ∷ [];
   condition = None;
   sets = sets;
+  having = None;
 }
 
 -- ROLLUP(REGION)
@@ -44,8 +52,9 @@ nothing_by_region = line total.Null 1 0 0 total.Null ∷ []
 abbrev pub by_two : PlanTree
 by_two = record {
   items = item.Grouping (1 ∷ 2 ∷ []) ∷ item.CountRows ∷ [];
-  headings = [];
+  headings = codes "GROUPING(REGION, UNITS)" ∷ codes "COUNT(*)" ∷ [];
   condition = None;
+  having = None;
   sets = (1 ∷ 2 ∷ []) ∷ (1 ∷ []) ∷ (2 ∷ []) ∷ [] ∷ [];
 }
 
@@ -56,3 +65,20 @@ marked marks rows = total.Int (pos marks) ∷ total.Int (pos rows) ∷ []
 abbrev pub sales_by_two : List (List Total)
 sales_by_two = marked 0 1 ∷ marked 0 1 ∷ marked 0 1 ∷ marked 0 1 ∷ marked 1 1 ∷ marked 1 2 ∷ marked 1 1
     ∷ marked 2 1 ∷ marked 2 1 ∷ marked 2 1 ∷ marked 2 1 ∷ marked 3 4 ∷ []
+
+abbrev compares : ℕ → Comparison → ℕ → PredicateTree (Test ℕ)
+compares place comparison number = Holds (Compare (operand.Column place) comparison (operand.Literal (literal.Int (pos number))))
+
+-- SELECT REGION, SUM(UNITS) .. GROUP BY ROLLUP(REGION) HAVING SUM(UNITS) > 0 AND COUNT(*) < 4
+abbrev pub by_having : PlanTree
+by_having = record {
+  items = item.Column 1 ∷ item.Sum 2 ∷ item.Sum 2 ∷ item.CountRows ∷ [];
+  headings = codes "REGION" ∷ codes "SUM(UNITS)" ∷ [];
+  condition = None;
+  sets = (1 ∷ []) ∷ [] ∷ [];
+  having = Some (And (MorePredicates (compares 0 Greater 0) (MorePredicates (compares 1 Less 4) NoPredicates)));
+}
+
+-- the sum of the south is below 0, and all of them are four
+abbrev pub sales_by_having : List (List Total)
+sales_by_having = (total.Null ∷ total.Int (pos 5) ∷ []) ∷ (total.Text (codes "north") ∷ total.Int (pos 10) ∷ []) ∷ []

@@ -1,4 +1,4 @@
-//! The aggregates that a select list asks for.
+//! The aggregates that a plan asks for.
 ghost use Rattle.std.specs.Prelude.{◌≡◌, IfOk};
 ghost use Rattle.groups.specs.Accumulators.{aggregation_of, aggregations_of};
 
@@ -13,7 +13,7 @@ pub struct Aggregation {
     pub column: usize,
 }
 
-/// The aggregates that the items of a select list ask for, in their order.
+/// The aggregates that the items of a plan ask for, those of HAVING behind those of the select list.
 pub fn aggregations(alloc: Global, items: &[Item<usize>]) -> Result<Vec<Aggregation>, AllocError>
     ensures { IfOk result (λ v. v.items ≡ aggregations_of items.now) }
 {

@@ -1,21 +1,20 @@
 //! The rows of a grouping set, from its groups.
-ghost use Rattle.std.specs.Prelude.{◌≡◌, ℕ, List, ◌++◌, IfOk, false};
-ghost use Rattle.std.specs.List.{list_any};
+ghost use Rattle.std.specs.Prelude.{◌≡◌, ℕ, List, ◌++◌, IfOk, drop, length};
 ghost use Rattle.std.specs.List.Sorted.{IsPermutation, IsSorted};
 ghost use Rattle.std.specs.Map.{keys_of};
+ghost use Rattle.std.specs.Option.{option_to_list};
 ghost use Rattle.cells.specs.TupleOrder.{tuple_cmp};
 ghost use Rattle.cells.specs.Values.{RowValue};
 ghost use Rattle.groups.specs.Accumulators.{aggregations_of};
 ghost use Rattle.groups.specs.Finishing.{rows_by};
-ghost use Rattle.groups.specs.Groups.{set_rows};
+ghost use Rattle.groups.specs.Groups.{holds, set_rows, shown};
 ghost use Rattle.groups.specs.Partials.{StandsAt};
-ghost use Rattle.query.specs.Values.{is_long};
 ghost use Rattle.trie.specs.Holding.{lent};
 
 use crate::accumulators::Accumulators;
 use crate::report_row::{ReportRow, row_of};
-use cells::{Cell, KeyHash, Tuple};
-use query::{GroupSet, Item, Plan};
+use cells::{Cell, KeyHash, Total, Tuple};
+use query::{GroupSet, Plan, Truth};
 use std::alloc::{AllocError, Global};
 use trie::Trie;
 
@@ -32,19 +31,54 @@ fn by_tuple<'a, H: KeyHash<Cell> + KeyHash<Tuple>>(
     Ok(rising)
 }
 
-/// Adds the row of each group, in their order.
+/// The values of a group that HAVING asks for: those of its own items, which stand behind the select list's.
+fn asked<'a>(plan: &Plan, row: &'a ReportRow) -> &'a [Total]
+    ensures { result.now ≡ drop (length plan.now.headings) row.now }
+{
+    let shown = plan.headings().len();
+    let totals = row.totals.as_slice();
+    if shown > totals.len() {
+        return &[];
+    }
+    &totals[shown..]
+}
+
+/// Whether the plan's HAVING is true for the values of a group, if it has one.
+fn holds(plan: &Plan, row: &ReportRow) -> bool
+    ensures { result ≡ holds plan.now.having (drop (length plan.now.headings) row.now) }
+{
+    match plan.having() {
+        None => true,
+        Some(predicate) => matches!(predicate.truth_of(asked(plan, row)), Truth::True),
+    }
+}
+
+/// The row of a group as it is shown: the values of the select list, unless HAVING drops the group.
+fn shown(plan: &Plan, mut row: ReportRow) -> Option<ReportRow>
+    ensures { option_to_list result ≡ shown plan.now row }
+{
+    if !holds(plan, &row) {
+        return None;
+    }
+    row.totals.truncate(plan.headings().len());
+    Some(row)
+}
+
+/// Adds the row of each group that HAVING does not drop, in their order.
 fn add_rows<H: KeyHash<Cell>>(
     alloc: Global,
     rows: &mut Vec<ReportRow>,
+    plan: &Plan,
     set: &[usize],
-    items: &[Item<usize>],
     groups: &[(&Tuple, &Accumulators<H>)],
 ) -> Result<(), AllocError>
-    requires { list_any is_long items.now ≡ false }
-    ensures { IfOk result (λ _. rows.new.items ≡ rows.old.items ++ rows_by set.now items.now (lent groups.now)) }
+    ensures { IfOk result (λ _. rows.new.items ≡ rows.old.items ++ rows_by set.now plan.now (lent groups.now)) }
 {
     for group in groups {
-        let row = row_of(alloc, set, items, group.0, group.1)?;
+        let row = row_of(alloc, set, plan.items(), group.0, group.1)?;
+        let Some(row) = shown(plan, row) else {
+            continue;
+        };
         rows.push(row)?;
     }
     Ok(())
@@ -59,15 +93,9 @@ pub(crate) fn add_rows_of_set<H: KeyHash<Cell> + KeyHash<Tuple>>(
     groups: &Trie<Tuple, Accumulators<H>, H>,
 ) -> Result<(), AllocError>
     ensures { (kept : List RowValue) → StandsAt H.KeyHash-2.hash_of (aggregations_of plan.now.items) set.now kept groups.now →
-        IfOk result (λ _. rows.new.items ≡ rows.old.items ++ set_rows plan.now.items set.now kept) }
+        IfOk result (λ _. rows.new.items ≡ rows.old.items ++ set_rows plan.now set.now kept) }
 {
     groups.keys_rise();
     let rising = by_tuple(alloc, groups)?;
-    add_rows(
-        alloc,
-        rows,
-        set.columns.as_slice(),
-        plan.items(),
-        rising.as_slice(),
-    )
+    add_rows(alloc, rows, plan, set.columns.as_slice(), rising.as_slice())
 }

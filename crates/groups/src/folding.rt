@@ -13,7 +13,7 @@ use crate::pool_tries::tries_of;
 use crate::sources::sources_of;
 use crate::visiting::{KeptRows, fill_source};
 use cells::{Cell, KeyHash, Row, Tuple};
-use query::{Plan, predicates_fit_rows, rows_fit_columns};
+use query::{Plan, rows_fit_columns};
 use std::alloc::{AllocError, Global};
 use trie::Piece;
 
@@ -50,7 +50,6 @@ impl<'a, H: KeyHash<Cell> + KeyHash<Tuple>> Folding<'a, H> {
         ensures { (plan : PlanTree) (rows : List RowValue) → Folds plan rows self.old →
             IfOk result (λ _. Folds plan (rows ++ kept plan.condition (rows_of piece.now)) self.new) }
     {
-        predicates_fit_rows();
         rows_fit_columns();
         let rows = KeptRows {
             piece,
@@ -78,7 +77,6 @@ impl<'a, H: KeyHash<Cell> + KeyHash<Tuple>> Folding<'a, H> {
         ensures { (plan : PlanTree) (rows : List RowValue) → Folds plan rows self.entry →
             IfOk result (λ p. Stands H.KeyHash-2.hash_of plan rows p) }
     {
-        predicates_fit_rows();
         rows_fit_columns();
         let Folding {
             plan,

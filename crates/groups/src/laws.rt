@@ -6,7 +6,7 @@ ghost use Rattle.cells.specs.Values.{RowValue};
 ghost use Rattle.cells.specs.declared.cell.Cell.{Cell};
 ghost use Rattle.groups.specs.Groups.{kept, report_rows};
 ghost use Rattle.groups.specs.Partials.{MayFold, MayJoinRows, Stands};
-ghost use Rattle.groups.specs.Worked.{by_region, by_two, nothing_by_region, sales, sales_by_region, sales_by_two};
+ghost use Rattle.groups.specs.Worked.{by_having, by_region, by_two, nothing_by_region, sales, sales_by_having, sales_by_region, sales_by_two};
 ghost use Rattle.query.specs.Plans.{PlanTree};
 
 use cells::{Cell, KeyHash, Tuple};
@@ -31,9 +31,12 @@ pub fn parts_may_meet()
 {}
 
 /// Worked reports, computed by the definitions: four sales by ROLLUP of their region, which is NULL in one of them, the
-/// same query over no rows, and GROUPING of two columns over the four sets of them.
+/// same query over no rows, and GROUPING of two columns over the four sets of them; then HAVING, which drops two groups of
+/// the four, and of no rows the empty set's one group, for whose sum it is unknown.
 pub fn worked_reports()
     ensures sales { report_rows by_region sales ≡ sales_by_region }
     ensures nothing { report_rows by_region [] ≡ nothing_by_region }
     ensures two { report_rows by_two sales ≡ sales_by_two }
+    ensures having { report_rows by_having sales ≡ sales_by_having }
+    ensures unknown { report_rows by_having [] ≡ [] }
 {}

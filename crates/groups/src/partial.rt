@@ -85,7 +85,7 @@ impl<H: KeyHash<Cell> + KeyHash<Tuple>> Partial<H> {
     }
 
     /// The rows of the report, for each list of rows that the partial result stands for: set by set in the plan's
-    /// order, and within a set by the tuples' cells.
+    /// order, and within a set by the tuples' cells. A group for which HAVING is not true has none.
     pub fn finish(
         alloc: Global,
         plan: &Plan,

@@ -1,7 +1,7 @@
 //! The rows of a report.
 ghost use Rattle.std.specs.Prelude.{◌≡◌, ◌≤◌, IfOk, false, length, pos};
 ghost use Rattle.std.specs.List.{list_any};
-ghost use Rattle.aggs.specs.Values.{cell_total};
+ghost use Rattle.cells.specs.TotalOrder.{cell_total};
 ghost use Rattle.groups.specs.Finishing.{behind_first, first_total, left_by, row_by, value_by};
 ghost use Rattle.groups.specs.Groups.{cell_of_place, grouping, mark, place_in};
 ghost use Rattle.query.specs.Limits.{grouping_limit};
@@ -110,7 +110,7 @@ fn value_of<'a, H: KeyHash<Cell>>(
     }
 }
 
-/// The row of a group.
+/// The row of a group: the values of all items of a plan, those of HAVING behind those of the select list.
 pub(crate) fn row_of<H: KeyHash<Cell>>(
     alloc: Global,
     set: &[usize],

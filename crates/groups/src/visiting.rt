@@ -1,10 +1,9 @@
 //! Rows of a piece folded into the bag of a source.
-ghost use Rattle.std.specs.Prelude.{◌≡◌, ◌++◌, List, IfOk, IfSome, length};
+ghost use Rattle.std.specs.Prelude.{◌≡◌, ◌++◌, List, IfOk};
 ghost use Rattle.cells.specs.Values.{RowValue};
 ghost use Rattle.groups.specs.Bags.{Covers};
 ghost use Rattle.groups.specs.Folds.{FillsSource, MayFill, MayFillSource, kept_of};
 ghost use Rattle.groups.specs.Groups.{keeps};
-ghost use Rattle.query.specs.Truth.{IsOver};
 
 use crate::aggregation::Aggregation;
 use crate::bag::Bag;
@@ -15,7 +14,7 @@ use std::alloc::{AllocError, Global};
 use std::mem;
 use trie::{Piece, Visitor};
 
-/// The rows of a piece for which a plan's WHERE is true, and the aggregates of its select list.
+/// The rows of a piece for which a plan's WHERE is true, and the aggregates of its items.
 #[derive(Drop)]
 pub struct KeptRows<'a, H: KeyHash<Cell>> {
     pub piece: &'a Piece<Cell, Row, H>,
@@ -51,7 +50,6 @@ impl<'a, H: KeyHash<Cell>> Visitor<Cell, Row> for BagFiller<'a, H> {
 
 /// Whether the plan's WHERE is true for the row, if it has one.
 fn keeps(plan: &Plan, row: &Row) -> bool
-    requires { IfSome plan.now.condition (λ p. IsOver (length row.now.cells) p) }
     ensures { result ≡ keeps plan.now.condition row.now }
 {
     match plan.condition() {

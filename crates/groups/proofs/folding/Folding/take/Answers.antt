@@ -4,7 +4,7 @@ use Rattle.groups.proofs.folding.Folding.take.Goals as goal
 
 pub fill_sources-requires : goal.fill_sources-requires
 fill_sources-requires g c =
-    may_fill_sources (record { asked = c.predicates_fit_rows.ensures; cells = c.rows_fit_columns.ensures.cells; integers = c.rows_fit_columns.ensures.integers })
+    may_fill_sources (record { cells = c.rows_fit_columns.ensures.cells; integers = c.rows_fit_columns.ensures.integers })
     c.args.self.now _ refl c.as_slice.ensures.value c.requires
 
 pub returns : goal.returns
