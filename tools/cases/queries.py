@@ -47,6 +47,8 @@ QUERIES = [
     ("SELECT grouping (A, K, A) FROM T GROUP BY A, K", "edition 1\nGROUPING(A, K, A)\n0"),
     ("SELECT GROUPING(A, B) FROM T", 12),
     ("SELECT A FROM T GROUP BY DISTINCT A", "edition 1\nA\n5"),
+    ("SELECT A FROM T HAVING A = 1", 12),
+    ("SELECT A FROM T GROUP BY A having max (B) > 5", "edition 1\nA\n5"),
     (f"{COUNT} group by distinct()", [1]),
     (f"{COUNT} WHERE K = 1 GROUP BY DISTINCT (A), ROLLUP(A)", [1]),
 ]
@@ -81,7 +83,6 @@ NO_QUERIES = [
     "SELECT SELECT FROM T",
     "SELECT COUNT(*) FROM TEXT",
     "SELECT 1 FROM T",
-    "SELECT A FROM T HAVING A = 1",
     f"{COUNT} WHERE",
     f"{COUNT} WHERE K",
     f"{COUNT} WHERE (K) = 1",
