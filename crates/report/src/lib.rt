@@ -5,6 +5,7 @@
 mod answering;
 mod audience;
 mod backlog;
+mod failing;
 mod limits;
 mod out;
 mod pour;
@@ -16,6 +17,7 @@ mod watching;
 pub use answering::answer;
 pub use audience::Audience;
 pub use backlog::Backlog;
+pub use failing::Failing;
 pub use limits::{MAX_REPORTS, MAX_WORKERS};
 pub use out::{Out, OutFault, write_whole};
 pub use pour::Pour;

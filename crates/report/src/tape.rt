@@ -2,8 +2,9 @@
 ghost use Rattle.std.specs.Prelude.{◌≡◌, ◌+◌, ◌<◌, ◌≤◌, ◌^◌, Some, IfErr, IfOk, OnErr, OnOk, length, take};
 ghost use Rattle.std.specs.Io.KnownBytes.{Appends};
 ghost use Rattle.report.specs.Taken.{TakesBeginning};
-ghost use Rattle.report.specs.Tapes.{after_write, answer, blank};
+ghost use Rattle.report.specs.Tapes.{after_write, answer, blank, taking_at};
 
+use crate::failing::Failing;
 use crate::out::{Out, OutFault};
 use cells::Refused;
 use std::alloc::Global;
@@ -15,7 +16,7 @@ pub struct Tape {
     bytes: Vec<u8>,
     room: usize,
     most: usize,
-    fails_at: Option<u64>,
+    failing: Option<Failing>,
     calls: u64,
     faults: u64,
 }
@@ -30,7 +31,7 @@ impl Model for Tape {
       taken = t.bytes.items;
       room = t.room;
       most = t.most;
-      fails_at = t.fails_at;
+      failing = t.failing;
       calls = t.calls;
       faults = t.faults;
     } };
@@ -41,18 +42,18 @@ impl Model for Tape {
 
 impl Tape {
     /// A tape with room for `room` bytes, which are allocated here and never later. It takes at most
-    /// `most` bytes a call. The call of number `fails_at`, counted from 1, fails and takes nothing, and
-    /// so does a call with bytes that finds no room left.
+    /// `most` bytes a call. The call that `failing` names fails, and takes no more than `failing` says. A call
+    /// with bytes that finds no room left fails, too.
     ///
     /// [`Refused::OutOfMemory`] where the allocation was refused.
     pub fn new(
         alloc: Global,
         room: usize,
         most: usize,
-        fails_at: Option<u64>,
+        failing: Option<Failing>,
     ) -> Result<Tape, Refused>
         requires { 0 < most }
-        ensures blank { IfOk result (λ t. t ≡ blank room most fails_at) }
+        ensures blank { IfOk result (λ t. t ≡ blank room most failing) }
         ensures refused { IfErr result (λ e. e ≡ Refused.OutOfMemory) }
     {
         let bytes = Vec::with_capacity(alloc, room)?;
@@ -60,7 +61,7 @@ impl Tape {
             bytes,
             room,
             most,
-            fails_at,
+            failing,
             calls: 0,
             faults: 0,
         })
@@ -71,6 +72,13 @@ impl Tape {
         ensures { result.now ≡ self.now.taken }
     {
         self.bytes.as_slice()
+    }
+
+    /// How many calls there were, those that failed among them. It takes no memory.
+    pub fn calls(&self) -> u64
+        ensures { result ≡ self.now.calls }
+    {
+        self.calls
     }
 }
 
@@ -92,17 +100,28 @@ impl Out for Tape {
         ensures fault { OnErr result (self.new.faults ≡ self.old.faults + 1) }
     {
         self.calls = self.calls.saturating_add(1);
-        let n = bytes.len().min(self.most).min(self.room - self.bytes.len());
-        if self.fails_at == Some(self.calls) || (n == 0 && !bytes.is_empty()) {
+        let share = bytes.len().min(self.most).min(self.room - self.bytes.len());
+        let taking = taking_at(self.failing, self.calls);
+        let fails = taking.is_some() || (share == 0 && !bytes.is_empty());
+        let n = share.min(taking.unwrap_or(share));
+        let Ok(()) = self.bytes.extend_from_slice(&bytes[..n]) else {
+            self.faults += 1;
+            return Err(OutFault);
+        };
+        if fails {
             self.faults += 1;
             return Err(OutFault);
         }
-        match self.bytes.extend_from_slice(&bytes[..n]) {
-            Ok(()) => Ok(n),
-            Err(_) => {
-                self.faults += 1;
-                Err(OutFault)
-            }
-        }
+        Ok(n)
+    }
+}
+
+/// How many bytes the call of this number is to take before it fails, where it is to fail.
+fn taking_at(failing: Option<Failing>, call: u64) -> Option<usize>
+    ensures { result ≡ taking_at failing call }
+{
+    match failing {
+        Some(failing) if failing.call == call => Some(failing.taking),
+        _ => None,
     }
 }

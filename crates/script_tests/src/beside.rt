@@ -4,7 +4,7 @@
 use crate::runs::CUTTING;
 use cells::{Fnv, Plain, Refused};
 use crew::Gate;
-use report::{Pour, Tape};
+use report::{Failing, Pour, Tape};
 use script::{Ended, How, run};
 use std::alloc::{AllocError, Global};
 use std::sync::Wait;
@@ -81,10 +81,11 @@ fn a_report_runs_beside_later_lines(rt: HostRuntime) -> Result<(), Fail> {
     Ok(())
 }
 
-/// Holds the first reports until so many have come, and keeps how many were there at most.
+/// Holds the first reports until so many have come, and keeps how many were there at most, and the last edition.
 #[derive(Drop)]
 struct Held {
     until: u64,
+    published: AtomicU64,
     entered: AtomicU64,
     left: AtomicU64,
     late: AtomicU64,
@@ -95,6 +96,7 @@ impl Held {
     fn until(until: u64) -> Held {
         Held {
             until,
+            published: AtomicU64::new(0),
             entered: AtomicU64::new(0),
             left: AtomicU64::new(0),
             late: AtomicU64::new(0),
@@ -104,6 +106,10 @@ impl Held {
 }
 
 impl Gate for Held {
+    fn published(&self, edition: u64) {
+        self.published.store(edition, SeqCst);
+    }
+
     fn entered(&self, _piece: u64) {
         let before = self.entered.fetch_add(1, SeqCst);
         let there = before.wrapping_add(1).wrapping_sub(self.left.load(SeqCst));
@@ -158,13 +164,15 @@ fn eight_reports_are_under_way(rt: HostRuntime) -> Result<(), Fail> {
     Ok(())
 }
 
-/// The writer fails while eight are under way: no ninth begins, and the eight are joined.
+/// The writer fails while eight are under way: no ninth begins, the eight are joined, and no line behind that of the
+/// ninth is read.
 #[test]
 fn a_fault_of_the_writer_leaves_no_report_under_way(rt: HostRuntime) -> Result<(), Fail> {
     let gate = Held::until(8);
     let (script, _reports) = ten(rt.alloc())?;
     let how = How::of(1, WHOLE, 20);
-    let mut tape = Tape::new(rt.alloc(), 1000, 7, Some(3))?;
+    let failing = Failing { call: 3, taking: 0 };
+    let mut tape = Tape::new(rt.alloc(), 1000, 7, Some(failing))?;
     let ended = run::<Fnv, _, _, _>(
         &rt,
         rt.alloc(),
@@ -178,6 +186,7 @@ fn a_fault_of_the_writer_leaves_no_report_under_way(rt: HostRuntime) -> Result<(
     assert_eq!(rt; tape.bytes(), b"line 4 edition".as_slice());
     assert_eq!(rt; gate.entered.load(SeqCst), 8);
     assert_eq!(rt; gate.left.load(SeqCst), 8);
+    assert_eq!(rt; gate.published.load(SeqCst), 9);
     Ok(())
 }
 

@@ -6,7 +6,7 @@ use crate::beside::reaches;
 use crate::runs::CUTTING;
 use cells::Fnv;
 use crew::{Gate, Open};
-use report::Pour;
+use report::{Failing, Pour, Tape};
 use script::{Ended, How, live};
 use std::alloc::Global;
 use std::sync::Wait;
@@ -78,6 +78,58 @@ fn viewers_are_turned_away(rt: HostRuntime) -> Result<(), Fail> {
     assert_eq!(rt; refused.as_slice(), b"viewers refused 11\n".as_slice());
     let empty = written(&rt, rt.alloc(), b"", 2, 1, "x", &Open)?;
     assert_eq!(rt; empty.as_slice(), b"viewers refused 1\n".as_slice());
+    Ok(())
+}
+
+/// How many turns a viewer stays where the gate is told of it.
+const STAY: u64 = 1_000;
+
+/// Counts the times that it is told of a viewer, who stays there for a while: one that nobody waits for has then come and
+/// not gone.
+#[derive(Drop)]
+struct Lingering {
+    came: AtomicU64,
+    gone: AtomicU64,
+}
+
+impl Gate for Lingering {
+    fn viewing(&self, _viewer: u64, _edition: u64) {
+        self.came.fetch_add(1, SeqCst);
+        for _ in 0..STAY {
+            thread::yield_now();
+        }
+        self.gone.fetch_add(1, SeqCst);
+    }
+}
+
+/// The writer fails at the line behind the table's, while two viewers report three times each: the lines behind it are not
+/// read, and the viewers are waited for.
+#[test]
+fn viewers_are_joined_where_a_run_ends_early(rt: HostRuntime) -> Result<(), Fail> {
+    let gate = Lingering {
+        came: AtomicU64::new(0),
+        gone: AtomicU64::new(0),
+    };
+    let how = How::of(1, CUTTING, 100);
+    let failing = Failing { call: 1, taking: 1 };
+    let mut tape = Tape::new(rt.alloc(), 100, 7, Some(failing))?;
+    let ended = live::<Fnv, _, _, _>(
+        &rt,
+        rt.alloc(),
+        b"table T (K INT KEY)\nput x\nput y",
+        &[],
+        &how,
+        2,
+        3,
+        "SELECT COUNT(*) FROM T",
+        &gate,
+        &mut tape,
+    );
+    let counts = (gate.came.load(SeqCst), gate.gone.load(SeqCst));
+    assert_eq!(rt; ended, Err(Ended::WriteFailed));
+    assert_eq!(rt; counts, (6, 6));
+    assert_eq!(rt; tape.bytes(), b"l".as_slice());
+    assert_eq!(rt; tape.calls(), 1);
     Ok(())
 }
 

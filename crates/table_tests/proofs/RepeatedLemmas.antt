@@ -4,14 +4,15 @@ use Rattle.std.specs.List.{AllByRecursion, flat_map}
 use Rattle.std.specs.Map.{keys_of}
 use Rattle.std.proofs.Common.{ap, sym, ◌∙◌, subst, arith}
 use Rattle.std.proofs.lemmas.List.{length-append, length-map}
+use Rattle.aggs.specs.declared.acc.Acc.{Acc}
 use Rattle.cells.specs.CellOrder.{cell_cmp}
 use Rattle.cells.specs.Fitting.{IsRowOf}
 use Rattle.cells.specs.Values.{RowValue, Table}
 use Rattle.cells.specs.declared.cell.Cell.{Cell}
 use Rattle.groups.specs.Folds.{Folds, MayTakeMore}
-use Rattle.groups.specs.Groups.{kept}
-use Rattle.groups.specs.Laws.{kept_join}
-use Rattle.groups.specs.Partials.{MayFold, rows_of}
+use Rattle.groups.specs.Groups.{keeps, kept}
+use Rattle.groups.specs.Laws.{all_kept, kept_join, kept_short}
+use Rattle.groups.specs.Partials.{MayFold, MayMeet, Stands, rows_of}
 use Rattle.groups.specs.declared.folding.Folding.{Folding}
 use Rattle.query.specs.Plans.{PlanTree}
 use Rattle.table_tests.specs.Repeated.{HasTaken, IsSale, MayRepeat}
@@ -80,4 +81,26 @@ module _ {H : Type 0} (plan : PlanTree) (rows : List RowValue) where
     fit = all_both (IsRowOf may.table) now.taken rows now.fit sale.fit;
     few = omega (arith, now.few, sale.few, length-append now.taken rows);
     folds = subst (λ l. Folds plan l new) (sym (kept_join plan.condition now.taken rows)) (more plan (kept plan.condition now.taken) now.folds);
+  }
+
+-- ---- partial results of it
+pub may_fold : (plan : PlanTree) (rows : List RowValue) → MayRepeat plan rows → MayFold plan rows
+may_fold plan rows may = let sale = may.sale in record { table = may.table; planned = may.planned; fit = sale.fit; few = omega (arith, sale.few) }
+
+module _ {H : Type 0} (hash : List Cell → ℕ) (plan : PlanTree) (rows : List RowValue) where
+  pub may_meet : (first second : List (List (List Cell × List (Acc H)))) → MayRepeat plan rows → Stands hash plan (kept plan.condition rows) first →
+      Stands hash plan (kept plan.condition rows) second → MayMeet hash first second
+  may_meet first second may firsts seconds = let sale = may.sale in let fit = all_kept (IsRowOf may.table) (keeps plan.condition) rows sale.fit in record {
+    plan = plan;
+    xs = kept plan.condition rows;
+    ys = kept plan.condition rows;
+    rows = record {
+      table = may.table;
+      planned = may.planned;
+      first = fit;
+      second = fit;
+      few = omega (arith, kept_short (keeps plan.condition) rows, sale.few);
+    };
+    firsts = firsts;
+    seconds = seconds;
   }

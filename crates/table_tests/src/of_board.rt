@@ -192,3 +192,25 @@ fn a_snapshot_stays(rt: HostRuntime) -> Result<(), Fail> {
     assert!(rt; stays?);
     Ok(())
 }
+
+/// A keeper whose last edition has so many rows.
+fn published(rt: &(impl Abort + Wait), alloc: Global, rows: u64) -> Result<Keeper<Plain>, Refused> {
+    let mut keeper = keeper_of(alloc, 1_000, 1)?;
+    for key in 0..rows {
+        let key = format!(in alloc; "{key}")?;
+        put(alloc, &mut keeper, key.as_str(), "0")?;
+    }
+    apply(rt, alloc, &mut keeper, &Publish)?;
+    Ok(keeper)
+}
+
+/// Run with each allocation refused in turn, too: no snapshot meets a refusal, however many rows it has.
+#[test]
+fn a_snapshot_takes_no_memory(rt: HostRuntime) -> Result<(), Fail> {
+    for rows in [1, 1_000] {
+        let keeper = published(&rt, rt.alloc(), rows)?;
+        let snapshot = keeper.snapshot();
+        assert!(rt; snapshot.is_ok());
+    }
+    Ok(())
+}

@@ -222,7 +222,7 @@ fn number_or(alloc: Global, text: &str) -> Result<usize, Refused> {
 
 #[test]
 fn texts_are_refused(rt: HostRuntime) -> Result<(), Fail> {
-    assert_eq!(rt; number_or(rt.alloc(), "a 1"), Ok(2));
+    assert_eq!(rt; number_or(rt.alloc(), "a 1")?, 2);
     assert_eq!(rt; number_or(rt.alloc(), "1a"), Err(Refused::BadKey));
     assert_eq!(rt; whole_number_of("007"), Some(7));
     assert_eq!(rt; whole_number_of("+7"), None);

@@ -1,15 +1,21 @@
-//! Groups while rows are folded into them: how many there are, since no clause rests on how a group is found.
+//! Groups while rows are folded into them: how many there are, since no clause rests on how a group is found; and partial
+//! results behind a refusal.
 ghost use Rattle.std.specs.List.{AllByRecursion};
 ghost use Rattle.std.specs.Prelude.{IfOk};
-ghost use Rattle.groups.specs.Partials.{rows_of};
+ghost use Rattle.groups.specs.Groups.{kept};
+ghost use Rattle.groups.specs.Partials.{MayFold, MayMeet, Stands, rows_of};
 ghost use Rattle.table_tests.specs.Repeated.{IsSale, MayRepeat};
 
-use cells::{Cell, Plain, Refused, Row, Schema};
-use groups::Folding;
+use cells::{Cell, KeyHash, Plain, Refused, Row, Schema, Total, Tuple};
+use groups::{Folding, Partial, ReportRow};
 use query::{Plan, check, read};
 use std::alloc::{AllocError, Global};
 use std::test::Fail;
 use trie::{Cutting, Piece, Ticks, Trie, pieces_are_parts};
+
+const TABLE: &str = "SALES (ID INT KEY, REGION TEXT)";
+
+const QUERY: &str = "SELECT REGION, COUNT(*) FROM SALES GROUP BY REGION";
 
 /// The pieces of a table of one sale, of which there is one.
 fn one_sale(alloc: Global, schema: &Schema) -> Result<Vec<Piece<Cell, Row, Plain>>, Refused>
@@ -36,16 +42,95 @@ fn groups_of(alloc: Global, plan: &Plan, sale: &Piece<Cell, Row, Plain>) -> Resu
 
 #[test]
 fn a_thousand_rows_of_one_region_are_one_group(rt: HostRuntime) -> Result<(), Fail> {
-    let schema = Schema::read(rt.alloc(), "SALES (ID INT KEY, REGION TEXT)")?;
-    let query = read(
-        rt.alloc(),
-        "SELECT REGION, COUNT(*) FROM SALES GROUP BY REGION",
-    )?;
+    let schema = Schema::read(rt.alloc(), TABLE)?;
+    let query = read(rt.alloc(), QUERY)?;
     let plan = check(rt.alloc(), query, &schema)?;
     let sales = one_sale(rt.alloc(), &schema)?;
     assert_eq!(rt; sales.len(), 1);
     for sale in &sales {
         assert_eq!(rt; groups_of(rt.alloc(), &plan, sale)?, 1);
+    }
+    Ok(())
+}
+
+/// The partial result of the sale; where it is refused, by the same call made again.
+fn folded<H: KeyHash<Cell> + KeyHash<Tuple>>(
+    alloc: Global,
+    plan: &Plan,
+    sale: &Piece<Cell, Row, H>,
+) -> Result<Partial<H>, AllocError>
+    requires { MayFold plan.now (rows_of sale.now) }
+    ensures { IfOk result (λ p. Stands H.KeyHash-2.hash_of plan.now (kept plan.now.condition (rows_of sale.now)) p) }
+{
+    if let Ok(partial) = Partial::of_piece(alloc, plan, sale) {
+        return Ok(partial);
+    }
+    Partial::of_piece(alloc, plan, sale)
+}
+
+/// Both partial results together; where that is refused, by the same call made again.
+fn joined<H: KeyHash<Cell> + KeyHash<Tuple>>(
+    alloc: Global,
+    first: &Partial<H>,
+    second: &Partial<H>,
+) -> Result<Partial<H>, AllocError>
+    requires { MayMeet H.KeyHash-2.hash_of first.now second.now }
+{
+    if let Ok(both) = first.join(alloc, second) {
+        return Ok(both);
+    }
+    first.join(alloc, second)
+}
+
+/// The report of both partial results together; where it is refused, of the same ones joined again.
+fn finished<H: KeyHash<Cell> + KeyHash<Tuple>>(
+    alloc: Global,
+    plan: &Plan,
+    first: &Partial<H>,
+    second: &Partial<H>,
+) -> Result<Vec<ReportRow>, AllocError>
+    requires { MayMeet H.KeyHash-2.hash_of first.now second.now }
+{
+    let both = joined(alloc, first, second)?;
+    if let Ok(rows) = Partial::finish(alloc, plan, both) {
+        return Ok(rows);
+    }
+    let both = joined(alloc, first, second)?;
+    Partial::finish(alloc, plan, both)
+}
+
+/// The report of the sale, which is taken twice.
+#[tactic(auto, using(crate::proofs::RepeatedLemmas::may_fold))]
+fn report_of_two<H: KeyHash<Cell> + KeyHash<Tuple>>(
+    alloc: Global,
+    plan: &Plan,
+    sale: &Piece<Cell, Row, H>,
+) -> Result<Vec<ReportRow>, AllocError>
+    requires { MayRepeat plan.now (rows_of sale.now) }
+{
+    let first = folded(alloc, plan, sale)?;
+    let second = folded(alloc, plan, sale)?;
+    finished(alloc, plan, &first, &second)
+}
+
+/// Whether the report has one row, whose second value is 2.
+fn counts_two(rows: &[ReportRow]) -> bool {
+    match rows {
+        [row] => matches!(row.totals.as_slice(), [_, Total::Int(2)]),
+        _ => false,
+    }
+}
+
+/// Run with each allocation refused in turn, too: what is folded, joined and finished again gives what it would have given.
+#[test]
+fn partial_results_behind_a_refusal(rt: HostRuntime) -> Result<(), Fail> {
+    let schema = Schema::read(rt.alloc(), TABLE)?;
+    let query = read(rt.alloc(), QUERY)?;
+    let plan = check(rt.alloc(), query, &schema)?;
+    let sales = one_sale(rt.alloc(), &schema)?;
+    assert_eq!(rt; sales.len(), 1);
+    for sale in &sales {
+        assert!(rt; counts_two(report_of_two(rt.alloc(), &plan, sale)?.as_slice()));
     }
     Ok(())
 }

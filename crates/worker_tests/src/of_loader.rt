@@ -1,6 +1,7 @@
 //! Lists of parts, read by one worker and by several, and one record.
 
 use crate::gates::{Hold, Watch};
+use board::Keeper;
 use cells::{Cell, Plain, Refused, Row, Schema};
 use crew::{Gate, Open};
 use loader::{PartFault, load, read_record};
@@ -139,5 +140,71 @@ fn no_parts_and_one_record(rt: HostRuntime) -> Result<(), Fail> {
     drop(schema);
     assert_eq!(rt; none?, Ok(0));
     assert!(rt; one?);
+    Ok(())
+}
+
+/// Lays the rows of two parts over the draft.
+fn absorb_two<R: Threads + Wait>(
+    rt: &R,
+    alloc: Global,
+    keeper: &mut Keeper<Plain>,
+) -> Result<(), Refused> {
+    match load(
+        rt,
+        alloc,
+        &[(1, LOW), (2, MIDDLE)],
+        keeper.schema(),
+        2,
+        &Open,
+    ) {
+        Ok(rows) => keeper.absorb(rows),
+        Err(PartFault::OutOfMemory) => Err(Refused::OutOfMemory),
+        Err(PartFault::NoWorker) => Err(Refused::NoWorker),
+        Err(PartFault::Bad { .. }) => Err(Refused::BadPart),
+    }
+}
+
+/// The same, loaded and absorbed again where that is refused: then the last edition is what it was.
+fn absorb_at_last<R: Abort + Threads + Wait>(
+    rt: &R,
+    alloc: Global,
+    keeper: &mut Keeper<Plain>,
+) -> Result<(), Refused> {
+    match absorb_two(rt, alloc, keeper) {
+        Err(Refused::OutOfMemory | Refused::NoWorker) => {}
+        answer => return answer,
+    }
+    assert!(*rt; keeper.edition() == 0);
+    assert!(*rt; keeper.snapshot()?.root().len() == 0);
+    absorb_two(rt, alloc, keeper)
+}
+
+/// How many rows the edition has that is published of two parts.
+fn publish_two<R: Abort + Threads + Wait>(
+    rt: &R,
+    alloc: Global,
+    keeper: &mut Keeper<Plain>,
+) -> Result<u64, Refused> {
+    absorb_at_last(rt, alloc, keeper)?;
+    assert!(*rt; keeper.edition() == 0);
+    keeper.publish(rt)?;
+    let snapshot = keeper.snapshot()?;
+    Ok(snapshot.root().len())
+}
+
+/// The same of a new keeper, whose draft may have three rows.
+fn published<R: Abort + Threads + Wait>(rt: &R, alloc: Global) -> Result<u64, Refused> {
+    let schema = Schema::read(alloc, "T (K INT KEY, V INT)")?;
+    let mut keeper = Keeper::new(alloc, schema, 3, 1)?;
+    let rows = publish_two(rt, alloc, &mut keeper);
+    keeper.close();
+    rows
+}
+
+/// Run with each allocation refused in turn, too: a load and an absorb that are refused are made again, and give what they
+/// would have given.
+#[test]
+fn parts_are_laid_over_a_draft(rt: HostRuntime) -> Result<(), Fail> {
+    assert_eq!(rt; published(&rt, rt.alloc())?, 3);
     Ok(())
 }

@@ -123,3 +123,25 @@ fn two_workers_gather_at_the_same_time(rt: HostRuntime) -> Result<(), Fail> {
     assert!(rt; hold.entering.is_over());
     Ok(())
 }
+
+/// Whether the report of the keys is right; where it is refused, by the same call made again.
+fn is_counted_at_last<R: Threads + Wait>(
+    rt: &R,
+    alloc: Global,
+    snapshot: &Snapshot<Plain>,
+) -> Result<bool, Refused> {
+    if let Ok(counted) = is_counted(rt, alloc, snapshot, 1, 2, &Open, FOUR) {
+        return Ok(counted);
+    }
+    is_counted(rt, alloc, snapshot, 1, 2, &Open, FOUR)
+}
+
+/// Run with each allocation refused in turn, too: the snapshot keeps its report and its shape, which has a line for all keys
+/// and one for those with the first digit 1.
+#[test]
+fn a_report_that_is_asked_for_again(rt: HostRuntime) -> Result<(), Fail> {
+    let edition = edition_of(&rt, rt.alloc(), &KEYS)?;
+    assert!(rt; is_counted_at_last(&rt, rt.alloc(), &edition)?);
+    assert_eq!(rt; edition.root().shape()?.len(), 2);
+    Ok(())
+}

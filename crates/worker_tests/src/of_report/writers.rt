@@ -1,25 +1,36 @@
 //! Tapes and writers, short writes and faults.
 
 use cells::Refused;
-use report::{Out, OutFault, Pour, Tape, write_whole};
+use report::{Failing, Out, OutFault, Pour, Tape, write_whole};
 use std::io::{Error, ErrorKind, Write};
 use std::test::Fail;
 
+/// A call that fails, and how many bytes it takes all the same.
+fn failing(call: u64, taking: usize) -> Option<Failing> {
+    Some(Failing { call, taking })
+}
+
 #[test]
 fn a_tape_takes_its_piece_in_parts(rt: HostRuntime) -> Result<(), Fail> {
+    let fault = Err(Refused::WriteFailed);
     let table = [
         (1, None, 5, Ok(()), "12345"),
         (2, None, 5, Ok(()), "12345"),
         (7, None, 5, Ok(()), "12345"),
-        (7, None, 4, Err(Refused::WriteFailed), "1234"),
-        (7, None, 0, Err(Refused::WriteFailed), ""),
-        (2, Some(1), 5, Err(Refused::WriteFailed), ""),
-        (2, Some(3), 5, Err(Refused::WriteFailed), "1234"),
-        (2, Some(4), 5, Ok(()), "12345"),
-        (2, Some(0), 5, Ok(()), "12345"),
+        (7, None, 4, fault, "1234"),
+        (7, None, 0, fault, ""),
+        (2, failing(1, 0), 5, fault, ""),
+        (2, failing(3, 0), 5, fault, "1234"),
+        (2, failing(4, 0), 5, Ok(()), "12345"),
+        (2, failing(0, 0), 5, Ok(()), "12345"),
+        (2, failing(2, 1), 5, fault, "123"),
+        // no more than it would take, and no more than there is
+        (2, failing(2, 9), 5, fault, "1234"),
+        (2, failing(3, 9), 5, fault, "12345"),
+        (2, failing(2, 2), 3, fault, "123"),
     ];
-    for (most, fails_at, room, wanted, taken) in table {
-        let mut tape = Tape::new(rt.alloc(), room, most, fails_at)?;
+    for (most, failing, room, wanted, taken) in table {
+        let mut tape = Tape::new(rt.alloc(), room, most, failing)?;
         assert_eq!(rt; write_whole(&mut tape, b"12345"), wanted);
         assert_eq!(rt; tape.bytes(), taken.as_bytes());
     }
@@ -28,18 +39,19 @@ fn a_tape_takes_its_piece_in_parts(rt: HostRuntime) -> Result<(), Fail> {
 
 #[test]
 fn a_tape_goes_on_after_a_failing_call(rt: HostRuntime) -> Result<(), Fail> {
-    let mut tape = Tape::new(rt.alloc(), 5, 2, Some(2))?;
+    let mut tape = Tape::new(rt.alloc(), 5, 2, failing(2, 1))?;
     assert_eq!(rt; tape.write(b"123"), Ok(2));
-    assert_eq!(rt; tape.write(b"3"), Err(OutFault));
-    assert_eq!(rt; tape.write(b"3"), Ok(1));
+    assert_eq!(rt; tape.write(b"34"), Err(OutFault));
+    assert_eq!(rt; tape.write(b"4"), Ok(1));
     assert_eq!(rt; tape.write(b""), Ok(0));
-    assert_eq!(rt; tape.bytes(), "123".as_bytes());
+    assert_eq!(rt; tape.bytes(), "1234".as_bytes());
+    assert_eq!(rt; tape.calls(), 4);
     Ok(())
 }
 
 #[test]
 fn no_bytes_make_no_call(rt: HostRuntime) -> Result<(), Fail> {
-    let mut tape = Tape::new(rt.alloc(), 5, 2, Some(1))?;
+    let mut tape = Tape::new(rt.alloc(), 5, 2, failing(1, 0))?;
     assert_eq!(rt; write_whole(&mut tape, b""), Ok(()));
     assert_eq!(rt; write_whole(&mut tape, b"1"), Err(Refused::WriteFailed));
     Ok(())
