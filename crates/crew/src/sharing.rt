@@ -1,5 +1,6 @@
 //! Places shared out among workers.
-ghost use Rattle.std.specs.Prelude.{◌≡◌, ◌≤◌, ◌⊎◌, [], map, min, Ok, vec_capacity, vec_len, IfErr, IfOk};
+ghost use Rattle.std.specs.Prelude.{◌≡◌, ◌≤◌, ◌⊎◌, ◌↔◌, [], Any, map, min, Ok, true, vec_capacity, vec_len, IfErr, IfOk, IsErrOf};
+ghost use Rattle.std.specs.Result.{is_err};
 ghost use Rattle.cells.specs.declared.refused.Refused.TheVariants as Refused;
 ghost use Rattle.crew.specs.Limits.{piece_limit, seat_limit};
 ghost use Rattle.crew.specs.Shares.{AreShared};
@@ -32,6 +33,9 @@ pub fn share_out<K: Task, R: Threads + Wait>(
     ensures shared { IfOk result (λ v. AreShared (K.gives task.now) count v.items) }
     ensures workers { IfOk result (λ v. vec_len v ≡ min workers count) }
     ensures refused { IfErr result (λ e. (e ≡ Refused.NoWorker) ⊎ (e ≡ Refused.OutOfMemory)) }
+
+    // Where there are no places, nothing is refused.
+    ensures some { IfErr result (λ _. 1 ≤ count) }
 {
     if count == 0 {
         return Ok(Vec::new(alloc));
@@ -50,6 +54,8 @@ fn all_given<T: Drop>(mut all: Vec<T>, given: Vec<Result<T, Refused>>) -> Result
     requires { (all.items ≡ []) × (vec_len given ≤ vec_capacity all) }
     ensures given { IfOk result (λ v. given.items ≡ map Ok v.items) }
     ensures refused { IfErr result (λ e. (e ≡ Refused.NoWorker) ⊎ (e ≡ Refused.OutOfMemory)) }
+    ensures worker { IsErrOf result Refused.NoWorker ↔ Any (λ one. IsErrOf one Refused.NoWorker) given.items }
+    ensures memory { IsErrOf result Refused.OutOfMemory → Any (λ one. is_err one ≡ true) given.items }
 {
     if given
         .iter()

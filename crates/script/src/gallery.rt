@@ -5,7 +5,7 @@ ghost use Rattle.board.specs.Editions.{edition, schema as schema_of};
 ghost use Rattle.report.specs.Limits.{worker_limit};
 ghost use Rattle.report.specs.Watching.{IsOf};
 ghost use Rattle.script.specs.Desks.{IsBehind, Keeps};
-ghost use Rattle.script.specs.Endings.{Delivers};
+ghost use Rattle.script.specs.Endings.{Delivers, Ends};
 ghost use Rattle.script.specs.Givens.{Givens, givens};
 ghost use Rattle.script.specs.Output.{editions};
 ghost use Rattle.script.specs.Says.{IsRefused, MeansPlan};
@@ -208,11 +208,11 @@ fn plans_of(alloc: Global, request: Request<'_>, schema: &Schema) -> Result<Vec<
     Ok(plans)
 }
 
-/// Writes the line that stands in place of all blocks of viewers.
+/// Writes the line that stands in place of all blocks of viewers. It starts no thread and wants no viewer's place.
 #[tactic(auto, using(report::specs::Laws::takes_nothing))]
 fn write_refused<O: Out>(alloc: Global, out: &mut O, fault: Refused) -> Result<(), Ended>
     requires { O.faults out.old + 1 < 2 ^ 64 }
-    ensures { Delivers O.taken O.faults out.old out.new (λ bytes. bytes ≡ viewers_refused fault) result }
+    ensures { Ends O.taken O.faults out.old out.new (λ bytes. bytes ≡ viewers_refused fault) ⊥ ⊥ result }
 {
     let line = viewers_refused_line(alloc, fault)?;
     let Ok(()) = write_whole(out, line.as_slice()) else {

@@ -8,7 +8,7 @@ use Rattle.script.proofs.gallery.Gallery.write_tail.Goals as goal
 pub returns-in_default-desk-clause-tail : goal.returns-in_default-desk-clause-tail
 returns-in_default-desk-clause-tail g c = λ before stands.
     delivers_undeclared g.O.Out.taken g.O.Out.faults c.args.out.now c.write_refused.new.out (givens c.args.setup.now.how.now.rows c.args.setup.now.parts.now) before c.write_refused.result (viewing_of c.in-Some.request)
-    (asked_of c.args.setup.now.asked) c.args.desk.now (ap asked_of c.in-Some.is) (search rules) stands c.write_refused.ensures
+    (asked_of c.args.setup.now.asked) c.args.desk.now (ap asked_of c.in-Some.is) (search rules) stands c.write_refused.ensures.delivered
 
 pub write_viewers-requires-clause-many : goal.write_viewers-requires-clause-many
 write_viewers-requires-clause-many g c κs within =
@@ -30,4 +30,4 @@ returns-in-Turned-clause-tail g c = λ before stands.
     delivers_turned g.O.Out.taken g.O.Out.faults c.args.out.now c.write_refused-in-Turned.new.out given before c.write_refused-in-Turned.result (viewing_of c.in-Some.request)
     (asked_of c.args.setup.now.asked) c.in-Some-desk.keeper c.args.self.now.stage c.args.self.now.audience c.in-Turned.fault (ap asked_of c.in-Some.is) c.in-Turned.is
     (subst (λ d. HasAttended (asked_of c.args.setup.now.asked) d c.args.self.now.stage c.args.self.now.audience) c.in-Some-desk.is c.requires.attended)
-    (subst (IsBehind given before) c.in-Some-desk.is stands) c.write_refused-in-Turned.ensures
+    (subst (IsBehind given before) c.in-Some-desk.is stands) c.write_refused-in-Turned.ensures.delivered
