@@ -27,7 +27,7 @@ pub record IsNoQuery (tokens : List Token) : Type 0 where
   pub none : (q : QueryTree) → SpellsQuery tokens q → ⊥
 
 -- the first fault of a text, in this order: it is too long, it is no list of tokens, its parentheses are too deep, it is
--- no query, it has too many items or a GROUPING of too many columns
+-- no query, it has too many items, too many aggregates in HAVING, or a GROUPING of too many columns
 pub data FirstFault (text : List ℕ) : Refused → Type 0 where
   too_long : query_limit < length text → FirstFault text Limit
   no_tokens : length text ≤ query_limit → tokens_of text ≡ None → FirstFault text QuerySyntax

@@ -1,4 +1,4 @@
-//! Reads the predicate of WHERE. Chains of OR and of AND are read by loops, so that only parentheses go deep.
+//! Reads the predicates of WHERE and of HAVING. Chains of OR and of AND are read by loops, so that only parentheses go deep.
 ghost use Rattle.std.specs.Prelude.{◌≡◌, ◌<◌, ◌∷◌, IfOk, List, Some, length};
 ghost use Rattle.cells.specs.declared.token.Token.{Token};
 ghost use Rattle.query.specs.Grammar.{AND, BETWEEN, IN, OR, Separated, SpellsFactor, SpellsLiteral, SpellsOperand, SpellsPredicate, SpellsPrimary, SpellsTerm, SpellsTest, comma, lparen, rparen};

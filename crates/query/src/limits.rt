@@ -6,7 +6,7 @@ pub const MAX_QUERY_BYTES: usize = 65_536;
 /// The most parentheses of a query that may be open at once.
 pub const MAX_OPEN_PARENTHESES: usize = 64;
 
-/// The most items of a select list.
+/// The most items of a select list, and the most aggregates of HAVING.
 pub const MAX_ITEMS: usize = 32;
 
 /// The most columns of a GROUPING.

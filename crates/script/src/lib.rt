@@ -1,5 +1,6 @@
 //! Scripts: the runner, which goes from line to line over one table, what a script writes, and the laws of that. A
-//! program that runs scripts calls [`run`] or [`run_by`], and one that ends behind its run [`run_last`].
+//! program that runs scripts calls [`run`] or [`run_by`], and one that ends behind its run [`run_last`]. With viewers beside the
+//! lines it calls [`live`], or, where it ends behind it, [`live_last`].
 #![tactic(auto)]
 
 mod block;
