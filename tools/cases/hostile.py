@@ -1,7 +1,7 @@
 """Input that is made to be a burden: lines, names, texts, parts and queries at their limits, and keys of one hash."""
 
 from cases.live import counts, live
-from cases.table import block, lines, lines_by, script
+from cases.table import Case, block, lines, lines_by, of_lines, script
 
 TABLE = "table T (K INT KEY)"
 COUNT = "report SELECT COUNT(*) FROM T"
@@ -156,7 +156,7 @@ LOADED = [
 # A part that is listed as often as a line has room for.
 LISTED = [TABLE, "load 1" + 500_000 * " 1", "publish", (COUNT, counted(1))]
 
-# A file that is handed in 64 times, and listed so.
+# 64 parts with the same thousand keys, each listed once: files of one text, or one file that is handed in 64 times.
 EVERY = [
     TABLE,
     f"load {' '.join(map(str, range(1, 65)))}",
@@ -165,6 +165,14 @@ EVERY = [
     (COUNT, counted(1_000)),
 ]
 THOUSAND = "K\n" + "".join(f"{key}\n" for key in range(1_000))
+
+
+def one_file(workers):
+    """One file that is handed in 64 times."""
+    text, output = of_lines(EVERY)
+    words = ["run", "--workers", workers, "every.olap", *["part.csv"] * 64]
+    return Case(f"64 times one file, --workers {workers}", words, {"every.olap": text, "part.csv": THOUSAND}, output=output)
+
 
 # A draft of two rows, which is all that it may have.
 ROOM = [
@@ -246,6 +254,7 @@ CASES = [
     lines("parts of a million bytes", LOADED, [text for text, _ in PARTS]),
     lines("a part that is listed 500,001 times", LISTED, ["K\n1\n"]),
     *lines_by("64 parts of one text", EVERY, 64 * [THOUSAND], [("--workers", workers) for workers in ("1", "64")]),
+    *[one_file(workers) for workers in ("1", "64")],
     lines("a draft that is full", ROOM, [part("2", 11), part("23", 4)], ["--rows", "2"]),
     live("viewers with a query of 65,536 bytes", [TABLE], LONG_QUERY, counts(1, (0, 0), (0, 0))),
     live("viewers with a query of a byte more", [TABLE], LONG_QUERY + " ", "viewers refused 15\n"),

@@ -1,4 +1,5 @@
-"""Worked reports: queries over sales and other tables, and their bytes, under both hashes and at three depths."""
+"""Worked reports: queries over sales and other tables, and their bytes, under both hashes and at three depths, and by two
+workers."""
 
 from cases.table import block, lines_by
 
@@ -189,6 +190,7 @@ REPORTS = [
 ]
 
 OPTIONS = [("--depth", depth, "--hash", hash) for depth in ("0", "1", "13") for hash in ("fnv", "plain")]
+OPTIONS.append(("--workers", "2", "--depth", "13"))
 
 CASES = [
     case

@@ -8,6 +8,7 @@ use std::alloc::{AllocError, Global};
 use std::process::Abort;
 use std::sync::Wait;
 use std::test::Fail;
+use trie::Prefix;
 
 /// A call that changes a keeper: the key and the value of a row, a key, or nothing.
 #[derive(Clone, Copy)]
@@ -57,9 +58,8 @@ fn value(root: &Root<Plain>, key: i64) -> i64 {
     }
 }
 
-/// What the keeper's last edition holds.
-fn held_by(keeper: &Keeper<Plain>) -> Result<Held, Refused> {
-    let snapshot = keeper.snapshot()?;
+/// What a snapshot holds.
+fn held_in(snapshot: &Snapshot<Plain>) -> Held {
     let root = snapshot.root();
     let values = [
         value(root, 1),
@@ -67,7 +67,28 @@ fn held_by(keeper: &Keeper<Plain>) -> Result<Held, Refused> {
         value(root, 3),
         value(root, 4),
     ];
-    Ok(Held(snapshot.edition(), values, root.len()))
+    Held(snapshot.edition(), values, root.len())
+}
+
+/// What the keeper's last edition holds.
+fn held_by(keeper: &Keeper<Plain>) -> Result<Held, Refused> {
+    let snapshot = keeper.snapshot()?;
+    Ok(held_in(&snapshot))
+}
+
+/// Whether this is the shape of so many of the keys 1 to 4: they share no digit, so all of them share the prefix of none.
+fn is_shape_of(shape: &[(Prefix, u64)], rows: u64) -> bool {
+    match shape {
+        [] => rows < 2,
+        [(prefix, keys)] => rows >= 2 && *keys == rows && prefix.digits().is_empty(),
+        _ => false,
+    }
+}
+
+/// Whether a snapshot holds this still, and has its shape.
+fn still_holds(snapshot: &Snapshot<Plain>, held: &Held) -> Result<bool, Refused> {
+    let shape = snapshot.root().shape()?;
+    Ok(is_shape_of(shape.as_slice(), held.2) && held_in(snapshot) == *held)
 }
 
 const NONE: Held = Held(0, [0, 0, 0, 0], 0);
@@ -98,19 +119,23 @@ const CALLS: [(Step, Result<(), Refused>, Held); 14] = [
     (Publish, Ok(()), Held(5, [11, 0, 33, 40], 3)),
 ];
 
-/// Makes the call, again where memory was refused: then the last edition is what it was before.
+/// Makes the call, again where memory was refused: then the last edition is what it was before, and so is a snapshot of it
+/// that was taken before.
 fn make(
     rt: &(impl Abort + Wait),
     alloc: Global,
     keeper: &mut Keeper<Plain>,
     (step, wanted, held): &(Step, Result<(), Refused>, Held),
 ) -> Result<(), Refused> {
-    let before = held_by(keeper)?;
+    let taken = keeper.snapshot()?;
+    let before = held_in(&taken);
     let mut answer = apply(rt, alloc, keeper, step);
     if answer == Err(Refused::OutOfMemory) {
+        assert!(rt; still_holds(&taken, &before)?);
         assert!(rt; held_by(keeper)? == before);
         answer = apply(rt, alloc, keeper, step);
     }
+    drop(taken);
     assert!(rt; answer == *wanted);
     assert!(rt; held_by(keeper)? == *held);
     Ok(())

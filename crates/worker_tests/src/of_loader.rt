@@ -4,7 +4,8 @@ use crate::gates::{Hold, Watch};
 use board::Keeper;
 use cells::{Cell, Plain, Refused, Row, Schema};
 use crew::{Gate, Open};
-use loader::{PartFault, load, read_record};
+use csv::ByteRecord;
+use loader::{PartFault, Records, load, read_record};
 use std::alloc::Global;
 use std::process::Abort;
 use std::sync::Wait;
@@ -21,6 +22,18 @@ fn faulty(fault: PartFault) -> Result<Found, Refused> {
         PartFault::Bad { part, entry } => Ok(Err((part, entry))),
         PartFault::OutOfMemory => Err(Refused::OutOfMemory),
         PartFault::NoWorker => Err(Refused::NoWorker),
+    }
+}
+
+/// What was loaded, where no part is faulty.
+fn loaded(
+    rows: Result<Trie<Cell, Row, Plain>, PartFault>,
+) -> Result<Trie<Cell, Row, Plain>, Refused> {
+    match rows {
+        Ok(rows) => Ok(rows),
+        Err(PartFault::OutOfMemory) => Err(Refused::OutOfMemory),
+        Err(PartFault::NoWorker) => Err(Refused::NoWorker),
+        Err(PartFault::Bad { .. }) => Err(Refused::BadPart),
     }
 }
 
@@ -120,9 +133,102 @@ fn two_parts_with_or_without_memory(rt: HostRuntime) -> Result<(), Fail> {
     Ok(())
 }
 
+/// The row that the next record spells, or None where none is left.
+fn next_row(
+    alloc: Global,
+    records: &mut Records<'_>,
+    schema: &Schema,
+) -> Result<Option<Row>, Refused> {
+    let mut record = ByteRecord::new(alloc);
+    if !records.next(&mut record)? {
+        return Ok(None);
+    }
+    let mut fields = Vec::new(alloc);
+    for field in &record {
+        fields.push(field)?;
+    }
+    Ok(Some(Row::read(alloc, fields.as_slice(), schema)?))
+}
+
+/// Whether the map has this row.
+fn has_row(rows: &Trie<Cell, Row, Plain>, row: &Row) -> bool {
+    match rows.get(row.key()) {
+        Some(loaded) => loaded.cells() == row.cells(),
+        None => false,
+    }
+}
+
+/// Whether the map has just the rows that are left in the records, of which no two have one key.
+fn are_left(
+    alloc: Global,
+    records: &mut Records<'_>,
+    schema: &Schema,
+    rows: &Trie<Cell, Row, Plain>,
+) -> Result<bool, Refused> {
+    for number in 0..100 {
+        let Some(row) = next_row(alloc, records, schema)? else {
+            return Ok(rows.len() == number);
+        };
+        if !has_row(rows, &row) {
+            return Ok(false);
+        }
+    }
+    Ok(false)
+}
+
+/// Whether a part is loaded as just the rows that its records spell.
+fn is_loaded_by_records<R: Abort + Threads + Wait>(
+    rt: &R,
+    alloc: Global,
+    part: &[u8],
+) -> Result<bool, Refused> {
+    assert!(*rt; part.len() <= 100);
+    let schema = Schema::read(alloc, "T (K INT KEY, V TEXT)")?;
+    let rows = loaded(load(rt, alloc, &[(1, part)], &schema, 1, &Open))?;
+    let mut records = Records::new(alloc, part);
+    // The first of them is the header.
+    records.next(&mut ByteRecord::new(alloc))?;
+    are_left(alloc, &mut records, &schema, &rows)
+}
+
+/// Parts whose last field is a quoted one that the part's end cuts off: behind its first quote, a letter, a comma, a line end
+/// and a quote that is written twice.
+const CUT_OFF: [&[u8]; 5] = [
+    b"K,V\n1,a\n2,\"",
+    b"K,V\n1,a\n2,\"b",
+    b"K,V\n1,a\n2,\"b,",
+    b"K,V\n1,a\n2,\"b\n3,d\n",
+    b"K,V\n1,a\n2,\"b\"\"",
+];
+
+/// What such a field is is for the reader of records to say.
+#[test]
+fn a_quoted_field_that_is_cut_off(rt: HostRuntime) -> Result<(), Fail> {
+    for part in &CUT_OFF {
+        assert!(rt; is_loaded_by_records(&rt, rt.alloc(), part)?);
+    }
+    Ok(())
+}
+
 /// What a load of no parts finds.
 fn load_none<R: Threads + Wait>(rt: &R, alloc: Global, schema: &Schema) -> Result<Found, Refused> {
     told(load(rt, alloc, &[], schema, 64, &Open))
+}
+
+/// One worker reads three parts in their order. The second has no bytes, so that no memory is wanted between the reading of
+/// the first and that of the third, of which the gate is told before: it is never told of just the first two, also where
+/// memory is refused.
+#[test]
+fn a_part_is_told_of_before_it_is_read(rt: HostRuntime) -> Result<(), Fail> {
+    let schema = Schema::read(rt.alloc(), "T (K INT KEY, V INT)")?;
+    let watch = Watch::new();
+    let parts: [(u64, &[u8]); 3] = [(1, LOW), (2, b""), (3, HIGH)];
+    let found = told(load(&rt, rt.alloc(), &parts, &schema, 1, &watch));
+    drop(schema);
+    assert!(rt; watch.reading.get() != 3);
+    assert_eq!(rt; found?, Err((2, 0)));
+    assert_eq!(rt; watch.reading.get(), 6);
+    Ok(())
 }
 
 /// Whether a record is read into its row.

@@ -99,6 +99,61 @@ fn pieces_lend_the_entries(rt: HostRuntime) -> Result<(), Fail> {
     Ok(())
 }
 
+/// 0, and a key that differs from it in each digit alone: in the first, in the second, and so on.
+const CHAIN: [(i64, i64); 14] = [
+    (0, 0),
+    (1, 0),
+    (1 << 5, 0),
+    (1 << 10, 0),
+    (1 << 15, 0),
+    (1 << 20, 0),
+    (1 << 25, 0),
+    (1 << 30, 0),
+    (1 << 35, 0),
+    (1 << 40, 0),
+    (1 << 45, 0),
+    (1 << 50, 0),
+    (1 << 55, 0),
+    (1 << 60, 0),
+];
+
+/// How many pieces the map has at this depth, and what the first lends.
+fn first_of(
+    rt: &impl Abort,
+    alloc: Global,
+    map: &Trie<Cell, Cell, Plain>,
+    depth: u8,
+) -> Result<(usize, u64, i64), AllocError> {
+    let pieces = map.split(alloc, &Cutting { depth, small: 0 })?;
+    let Some(first) = pieces.first() else {
+        return Ok((0, 0, 0));
+    };
+    let (number, key) = lent(rt, alloc, first)?;
+    Ok((pieces.len(), number, key))
+}
+
+/// At each depth one key more has a piece of its own, behind that of the keys that share as many digits with 0.
+#[test]
+fn each_depth_cuts_off_one_key_more(rt: HostRuntime) -> Result<(), Fail> {
+    let map = filled::<Plain>(&rt, rt.alloc(), &CHAIN)?;
+    for depth in 0..=MAX_DEPTH {
+        let cut = first_of(&rt, rt.alloc(), &map, depth)?;
+        assert_eq!(rt; cut, (depth as usize + 1, 14 - depth as u64, 0));
+    }
+    Ok(())
+}
+
+/// Two of these keys share their first digit and no more, so that each depth from 2 on cuts all of them apart.
+#[test]
+fn each_depth_from_2_on_cuts_all_apart(rt: HostRuntime) -> Result<(), Fail> {
+    let map = filled::<Plain>(&rt, rt.alloc(), &[(1, 1), (17, 1), (33, 1), (2, 1)])?;
+    for depth in 2..=MAX_DEPTH {
+        let apart: (u8, u64, &[(u64, i64)]) = (depth, 0, &[(1, 1), (1, 33), (1, 2), (1, 17)]);
+        assert!(rt; is_cut(&rt, rt.alloc(), &map, apart)?);
+    }
+    Ok(())
+}
+
 /// A map without entries has no piece, and lends none.
 #[test]
 fn no_entries(rt: HostRuntime) -> Result<(), Fail> {

@@ -4,7 +4,7 @@ ghost use Rattle.board.specs.Editions.{board};
 
 use crate::of_board::{keeper_of, number_of, publish, seen_by};
 use board::{Keeper, Snapshot, Told, Viewer, viewers_cross_threads};
-use cells::{Plain, Refused};
+use cells::{Cell, Plain, Refused};
 use std::alloc::Global;
 use std::sync::Wait;
 use std::sync::atomic::AtomicU64;
@@ -131,5 +131,69 @@ fn a_viewer_watches_beside_its_keeper(rt: HostRuntime) -> Result<(), Fail> {
     let next = seen_once_told(&mut viewer, told);
     drop(viewer);
     assert_eq!(rt; (first, next?), (Some(0), Some(1)));
+    Ok(())
+}
+
+/// Puts a row and publishes, and does so again; what is told of the second edition.
+fn publish_two<R: Wait>(rt: &R, alloc: Global, keeper: &mut Keeper<Plain>) -> Result<Told, Refused>
+    ensures { IfOk result (λ t. t.board ≡ board keeper.old) }
+{
+    publish(rt, alloc, keeper)?;
+    publish(rt, alloc, keeper)
+}
+
+/// Whether a snapshot is of edition 2, with just the rows of 10,001 and 10,002, the first two keys that `publish` puts.
+fn has_both(snapshot: &Snapshot<Plain>) -> bool {
+    let root = snapshot.root();
+    root.get(&Cell::Int(10_001)).is_some() && number_of(snapshot) == Some(2)
+}
+
+/// Whether a viewer sees both rows once it learnt what was told.
+fn sees_both(mut viewer: Viewer<Plain>, told: Told) -> Result<bool, Refused>
+    requires { told.board ≡ viewer.board }
+{
+    viewer.learn(told);
+    let snapshot = viewer.snapshot()?;
+    Ok(has_both(&snapshot))
+}
+
+/// The same in another thread, into which both are moved as it starts.
+fn sees_both_elsewhere<R: Threads>(
+    rt: &R,
+    viewer: Viewer<Plain>,
+    told: Told,
+) -> Result<bool, Refused>
+    requires { told.board ≡ viewer.board }
+{
+    // The law by which a viewer may be moved to another thread; it does nothing.
+    viewers_cross_threads::<Plain>();
+    let job = move || -> Result<bool, Refused>
+        requires { told.board ≡ viewer.board }
+    { sees_both(viewer, told) };
+    match thread::spawn(rt, job) {
+        Ok(thread) => thread.join(rt),
+        Err(_) => Err(Refused::NoWorker),
+    }
+}
+
+/// Whether a viewer that was made before two publishes sees both rows in another thread.
+fn seen_elsewhere<R: Threads + Wait>(
+    rt: &R,
+    alloc: Global,
+    keeper: &mut Keeper<Plain>,
+) -> Result<bool, Refused> {
+    let viewer = keeper.viewer()?;
+    let told = publish_two(rt, alloc, keeper)?;
+    sees_both_elsewhere(rt, viewer, told)
+}
+
+/// A viewer that saw nothing learns of the second edition in the thread that both are moved to, while the keeper does
+/// nothing.
+#[test]
+fn a_viewer_learns_in_another_thread(rt: HostRuntime) -> Result<(), Fail> {
+    let mut keeper = keeper_of(rt.alloc(), 1)?;
+    let both = seen_elsewhere(&rt, rt.alloc(), &mut keeper);
+    keeper.close();
+    assert!(rt; both?);
     Ok(())
 }
