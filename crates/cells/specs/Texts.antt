@@ -5,5 +5,5 @@ use Rattle.cells.specs.declared.text.Form.{Form}
 
 -- its bytes, wherever they lie
 abbrev pub text_bytes : Form → List ℕ
-text_bytes (form.Short text) = text.bytes
-text_bytes (form.Long text) = string_bytes text
+text_bytes (form.Short text) = text
+text_bytes (form.Long text) = string_bytes text.value

@@ -29,6 +29,17 @@ impl Cell {
     }
 }
 
+/// NULL, as a column has it that nothing is said of.
+impl Default for Cell {
+    ghost use Rattle.cells.specs.declared.cell.Cell.{Cell};
+
+    ghost is_default = { λ cell. cell ≡ Cell.Null };
+
+    fn default() -> Cell {
+        Cell::Null
+    }
+}
+
 impl Clone for Cell {
     ghost is_clone = { λ s t. t ≡ s };
 

@@ -57,7 +57,7 @@ fn fnv_over_cell(hash: u64, cell: &Cell) -> u64
         Cell::Null => fnv_over(hash, &[0]),
         Cell::Int(n) => fnv_over(fnv_over(hash, &[1]), &n.to_le_bytes()),
         Cell::Text(text) => {
-            let bytes = text.as_str().as_bytes();
+            let bytes = text.as_bytes();
             let length = bytes.len() as u64;
             let kind_and_length = fnv_over(fnv_over(hash, &[2]), &length.to_le_bytes());
             fnv_over(kind_and_length, bytes)
@@ -103,7 +103,7 @@ fn plain_of(cell: &Cell) -> u64
     match cell {
         Cell::Null => 0,
         Cell::Int(n) => n.cast_unsigned(),
-        Cell::Text(text) => text.as_str().len() as u64,
+        Cell::Text(text) => text.as_bytes().len() as u64,
     }
 }
 

@@ -11,6 +11,7 @@ mod refused;
 mod row;
 mod scan;
 mod schema;
+mod short;
 mod stored;
 mod text;
 mod token;

@@ -11,13 +11,20 @@ use crate::limits::MAX_TEXT_BYTES;
 use crate::refused::Refused;
 use crate::schema::{ColumnType, Schema};
 use crate::text::Text;
+use smallvec::SmallVec;
 use std::alloc::{AllocError, Global};
 use std::marker::Model;
+
+/// Rows of at most so many cells lie in one block with whoever owns them: who comes to the row has come to its cells.
+const NEAR_CELLS: usize = 4;
+
+/// The cells of a row, in the row itself where there are few of them.
+type RowCells = SmallVec<Cell, NEAR_CELLS>;
 
 /// A row: a cell for each column, of the column's type or NULL, and no NULL at the key.
 #[derive(Debug, Drop)]
 pub struct Row {
-    cells: Vec<Cell>,
+    cells: RowCells,
     key: usize,
 }
 
@@ -83,7 +90,7 @@ impl Clone for Row {
 pub struct RowReader<'a> {
     alloc: Global,
     schema: &'a Schema,
-    cells: Vec<Cell>,
+    cells: RowCells,
 }
 
 impl<'a> Model for RowReader<'a> {
@@ -100,7 +107,7 @@ impl<'a> RowReader<'a> {
         ensures table { IfOk result (λ row. row.table ≡ schema.now) }
         ensures nothing { IfOk result (HasRead []) }
     {
-        let cells = Vec::with_capacity(alloc, schema.columns().len())?;
+        let cells = SmallVec::with_capacity(alloc, schema.columns().len())?;
         Ok(RowReader {
             alloc,
             schema,
@@ -139,7 +146,7 @@ impl<'a> RowReader<'a> {
         if cells.len() < schema.columns().len() {
             return Err(Refused::BadRecord);
         }
-        if cells[key].is_null() {
+        if cells.as_slice()[key].is_null() {
             return Err(Refused::BadRecord);
         }
         Ok(Row { cells, key })

@@ -82,7 +82,8 @@ fn word_at(alloc: Global, text: &str) -> Result<(Token, &str), TokenFault>
 {
     let (word, rest) = split_run(text, Class::InWord);
     let name = word.to_ascii_uppercase(alloc)?;
-    Ok((Token::Word(Text::new(name)), rest))
+    let word = Text::new(alloc, name)?;
+    Ok((Token::Word(word), rest))
 }
 
 /// The number at the front, which nothing may touch.
@@ -127,7 +128,8 @@ fn quoted_at(alloc: Global, text: &str) -> Result<(Token, &str), TokenFault>
     if string.len() > MAX_TEXT_BYTES {
         return Err(TokenFault::Bad);
     }
-    Ok((Token::Quoted(Text::new(string)), rest))
+    let quoted = Text::new(alloc, string)?;
+    Ok((Token::Quoted(quoted), rest))
 }
 
 /// What stands before the quote that ends the text, with doubled quotes undone, and what follows it.

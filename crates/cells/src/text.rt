@@ -5,13 +5,10 @@ ghost use Rattle.std.specs.Cmp.Lexicographic.{nat_list_cmp_total, nat_list_eq_eq
 ghost use Rattle.cells.specs.TextOrder.{bytes_cmp};
 ghost use Rattle.cells.specs.Texts.{text_bytes};
 
-use arrayvec::ArrayString;
+use crate::short::{SHORT_BYTES, ShortText};
 use std::alloc::{AllocError, Global};
 use std::cmp::Ordering;
 use std::marker::Model;
-
-/// Texts of at most so many bytes lie in the value itself. It is as many as fit in no more room than a `String` takes.
-const SHORT_BYTES: usize = 16;
 
 /// A text in UTF-8, of any length. It owns its bytes. Texts are ordered by their bytes: the first
 /// byte that differs decides, and a text stands after its own beginnings.
@@ -21,11 +18,11 @@ pub struct Text {
 }
 
 /// Where the bytes are. The texts of a table are short for the most part: a copy of such a one asks for no memory, and
-/// whoever reads its row has its bytes beside it.
+/// whoever reads its row has its bytes beside it. A long one stands behind one word, so that it makes no cell wider.
 #[derive(Debug, Drop)]
 enum Form {
-    Short(ArrayString<SHORT_BYTES>),
-    Long(String),
+    Short(ShortText),
+    Long(Box<String>),
 }
 
 impl Model for Text {
@@ -38,25 +35,33 @@ impl Model for Text {
 }
 
 impl Text {
-    /// The text of a string, which it takes over. It takes no memory.
-    pub fn new(string: String) -> Text
-        ensures { result ≡ string_bytes string }
+    /// The text of a string. Up to 14 bytes take no memory.
+    pub fn new(alloc: Global, string: String) -> Result<Text, AllocError>
+        ensures { IfOk result (λ text. text ≡ string_bytes string) }
     {
-        Text {
-            form: Form::Long(string),
+        if string.len() <= SHORT_BYTES {
+            return Ok(Text {
+                form: Form::Short(ShortText::of(string.as_str())),
+            });
         }
+        Ok(Text {
+            form: Form::Long(Box::new(alloc, string)?),
+        })
     }
 
-    /// A copy of the characters. Up to 16 bytes take no memory.
+    /// A copy of the characters. Up to 14 bytes take no memory.
     pub fn copied(alloc: Global, characters: &str) -> Result<Text, AllocError>
         ensures { IfOk result (λ text. text ≡ characters.now) }
     {
-        if let Ok(short) = ArrayString::from(characters) {
+        if characters.len() <= SHORT_BYTES {
             return Ok(Text {
-                form: Form::Short(short),
+                form: Form::Short(ShortText::of(characters)),
             });
         }
-        Ok(Text::new(String::from_str(alloc, characters)?))
+        let string = String::from_str(alloc, characters)?;
+        Ok(Text {
+            form: Form::Long(Box::new(alloc, string)?),
+        })
     }
 
     /// Its characters. It takes no memory.
@@ -64,16 +69,19 @@ impl Text {
         ensures { result.now ≡ self.now }
     {
         match &self.form {
-            Form::Short(string) => string.as_str(),
+            Form::Short(short) => short.as_str(),
             Form::Long(string) => string.as_str(),
         }
     }
 
-    /// Its bytes. It takes no memory.
-    fn as_bytes(&self) -> &[u8]
+    /// Its bytes, which are at hand without a look at what they spell. It takes no memory.
+    pub fn as_bytes(&self) -> &[u8]
         ensures { result.now ≡ self.now }
     {
-        self.as_str().as_bytes()
+        match &self.form {
+            Form::Short(short) => short.as_bytes(),
+            Form::Long(string) => string.as_bytes(),
+        }
     }
 }
 
@@ -82,7 +90,7 @@ impl Clone for Text {
 
     fn clone(&self) -> Result<Text, AllocError> {
         let form = match &self.form {
-            Form::Short(string) => Form::Short(*string),
+            Form::Short(short) => Form::Short(short.clone()?),
             Form::Long(string) => Form::Long(string.clone()?),
         };
         Ok(Text { form })

@@ -54,7 +54,7 @@ fn with_cell(hash: u64, cell: &Cell) -> u64 {
     match cell {
         Cell::Null => with_word(hash, u64::MAX),
         Cell::Int(n) => with_word(hash, n.cast_unsigned()),
-        Cell::Text(text) => with_bytes(hash, text.as_str().as_bytes()),
+        Cell::Text(text) => with_bytes(hash, text.as_bytes()),
     }
 }
 

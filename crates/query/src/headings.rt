@@ -42,7 +42,7 @@ fn call(alloc: Global, function: &str, word: &str, column: &Text) -> Result<Text
     text.push_str(word)?;
     text.push_str(column.as_str())?;
     text.push_str(")")?;
-    Ok(Text::new(text))
+    Text::new(alloc, text)
 }
 
 /// GROUPING with its columns in parentheses, a comma and a blank between them.
@@ -57,5 +57,5 @@ fn grouping_call(alloc: Global, names: &[Text]) -> Result<Text, AllocError>
         between = ", ";
     }
     text.push_str(")")?;
-    Ok(Text::new(text))
+    Text::new(alloc, text)
 }

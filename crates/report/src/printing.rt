@@ -32,7 +32,7 @@ fn push_header(text: &mut Vec<u8>, headings: &[Text]) -> Result<(), AllocError>
     ensures { OnOk result (text.new.items ≡ text.old.items ++ header_text headings.now) }
 {
     if let Some((first, rest)) = headings.split_first() {
-        text.extend_from_slice(first.as_str().as_bytes())?;
+        text.extend_from_slice(first.as_bytes())?;
         push_headings(text, rest)?;
     }
     text.push(b'\n')?;
@@ -45,7 +45,7 @@ fn push_headings(text: &mut Vec<u8>, headings: &[Text]) -> Result<(), AllocError
 {
     for heading in headings {
         text.extend_from_slice(SEPARATOR)?;
-        text.extend_from_slice(heading.as_str().as_bytes())?;
+        text.extend_from_slice(heading.as_bytes())?;
     }
     Ok(())
 }

@@ -37,7 +37,7 @@ fn equal_their_clones<K: Clone + Drop + PartialEq>(keys: &[K]) -> Result<bool, A
     Ok(true)
 }
 
-// Texts of 16 bytes and of 17 lie in different places, so some of each are beside each other.
+// Texts of 14 bytes and of 15 lie in different places, so some of each are beside each other.
 const CELLS: [Written; 15] = [
     Null,
     Int(i64::MIN),
@@ -50,9 +50,9 @@ const CELLS: [Written; 15] = [
     Text("a\0"),
     Text("ab"),
     Text("b"),
-    Text("b123456789012345"),
-    Text("b1234567890123456"),
-    Text("b1234567890123457"),
+    Text("b1234567890123"),
+    Text("b12345678901234"),
+    Text("b12345678901235"),
     Text("é"),
 ];
 
