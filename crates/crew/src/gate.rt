@@ -24,8 +24,8 @@ pub trait Gate: Sync {
     /// drew the place.
     fn reading(&self, _place: u64) {}
 
-    /// A half of a list of parts, the one that begins at this place, is about to be merged. Called by the thread
-    /// that merges it.
+    /// A trie is about to be made of a share of the rows of a list of parts, of which there are two: the first one's place
+    /// is 0, and the second one's that of the middle of the list. Called by the thread that makes it.
     fn merging(&self, _place: u64) {}
 }
 

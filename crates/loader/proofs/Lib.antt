@@ -1,5 +1,4 @@
 pub mod FieldsLemmas
-pub mod HalvesLemmas
 pub mod HeaderLemmas
 pub mod ListedLemmas
 pub mod OrderLemmas
@@ -8,4 +7,6 @@ pub mod PlainLemmas
 pub mod PutsLemmas
 pub mod ReaderLemmas
 pub mod RecordsLemmas
+pub mod SharesLemmas
 pub mod StatesLemmas
+pub mod TriesLemmas

@@ -1,6 +1,6 @@
 -- The rows of a part, one record after another.
-use Rattle.std.proofs.Common.{◌≡◌, ℕ, zero, suc, ◌+◌, ◌≤◌, ◌<◌, Bool, true, false, Option, Some, None, List, [], ◌∷◌, ◌++◌, length, refl, ap, sym, ◌∙◌, arith, append_assoc}
-use Rattle.std.proofs.lemmas.List.{append-nil, length-append, map-append}
+use Rattle.std.proofs.Common.{◌≡◌, ℕ, zero, suc, ◌+◌, ◌≤◌, Bool, true, false, Option, Some, None, List, [], ◌∷◌, ◌++◌, length, refl, ap, sym, subst, ◌∙◌, arith, append_assoc}
+use Rattle.std.proofs.lemmas.List.{append-nil, map-append}
 use Rattle.std.specs.List.{AllByRecursion}
 use Rattle.std.specs.Prelude.{Result, Ok, Err, if◌then◌else◌}
 use Rattle.csv.specs.Machine.{Read, next_record}
@@ -15,28 +15,29 @@ use Rattle.cells.specs.declared.cell.Cell.{Cell}
 use Rattle.loader.specs.Loads.{Content, IsRead, IsContent}
 use Rattle.loader.specs.Parts.{and_rows, is_header, rows_behind_header, rows_from}
 use Rattle.loader.specs.Records.{records_of}
+use Rattle.loader.specs.Shares.{AreSpread}
+use Rattle.loader.specs.declared.shares.Shares.{Shares}
 
 -- rows that were read, before those of the records that are left
 abbrev pub behind : List RowValue → Result (List RowValue) ℕ → Result (List RowValue) ℕ
 behind rs (Ok more) = Ok (rs ++ more)
 behind rs (Err number) = Err number
 
--- what is said of all records is said of those left, behind the rows that were read, each beside its key, of which there are
--- fewer than the number of the next record
-pub record Reached (t : Table) (said : Result (List RowValue) ℕ) (number : ℕ) (left : List (List (List ℕ))) (pairs : List (Cell × RowValue)) : Type 0 where
+-- what is said of all records is said of those left, behind the rows that were read, each beside its key, spread over shares
+pub record Reached (hash_of : Cell → ℕ) (t : Table) (said : Result (List RowValue) ℕ) (number : ℕ) (left : List (List (List ℕ))) (shares : Shares) : Type 0 where
   pub rs : List RowValue
-  pub keyed : pairs ≡ keyed_rows rs
+  pub spread : AreSpread hash_of (keyed_rows rs) shares
   pub fit : AllByRecursion (IsRowOf t) rs
   pub is : said ≡ behind rs (rows_from t number left)
-  pub few : length pairs < number
 
 behind_none : (o : Result (List RowValue) ℕ) → o ≡ behind [] o
 behind_none (Ok rs) = refl
 behind_none (Err number) = refl
 
 -- no record was read
-pub reached_first : (t : Table) (records : List (List (List ℕ))) (pairs : List (Cell × RowValue)) → pairs ≡ [] → Reached t (rows_from t 1 records) 1 records pairs
-reached_first t records pairs none = record { rs = []; keyed = none; fit = tt; is = behind_none (rows_from t 1 records); few = omega (arith, ap length none) }
+pub reached_first : (hash_of : Cell → ℕ) (t : Table) (records : List (List (List ℕ))) (shares : Shares) → AreSpread hash_of [] shares →
+    Reached hash_of t (rows_from t 1 records) 1 records shares
+reached_first hash_of t records shares none = record { rs = []; spread = none; fit = tt; is = behind_none (rows_from t 1 records) }
 
 all_more : (t : Table) (rs : List RowValue) (row : RowValue) → AllByRecursion (IsRowOf t) rs → IsRowOf t row → AllByRecursion (IsRowOf t) (rs ++ row ∷ [])
 all_more t [] row fit more = (more, tt)
@@ -48,49 +49,49 @@ row_behind rs row number (Ok more) = ap Ok (sym (append_assoc rs (row ∷ []) mo
 row_behind rs row number (Err other) = refl
 
 -- one record was read, which spells a row
-pub reached_more : (t : Table) (said : Result (List RowValue) ℕ) (number : ℕ) (old new : List (List (List ℕ))) (fields : List (List ℕ)) (row : RowValue) (pairs all : List (Cell × RowValue)) →
-    Reached t said number old pairs → old ≡ fields ∷ new → row_of t fields ≡ Some row → IsRowOf t row → all ≡ pairs ++ (row.key, row) ∷ [] → Reached t said (number + 1) new all
-reached_more t said number old new fields row pairs all reached took spelt fits more = record {
+pub reached_more : (hash_of : Cell → ℕ) (t : Table) (said : Result (List RowValue) ℕ) (number : ℕ) (old new : List (List (List ℕ))) (fields : List (List ℕ)) (row : RowValue) (shares all : Shares) →
+    Reached hash_of t said number old shares → old ≡ fields ∷ new → row_of t fields ≡ Some row → IsRowOf t row → (key : Cell) → key ≡ row.key →
+    ((pairs : List (Cell × RowValue)) → AreSpread hash_of pairs shares → AreSpread hash_of (pairs ++ (key, row) ∷ []) all) → Reached hash_of t said (number + 1) new all
+reached_more hash_of t said number old new fields row shares all reached took spelt fits key own more = record {
   rs = reached.rs ++ row ∷ [];
-  keyed = more ∙ ap (λ ps. ps ++ (row.key, row) ∷ []) reached.keyed ∙ sym (map-append (λ (r : RowValue). (r.key, r)) reached.rs (row ∷ []));
+  spread = subst (λ pairs. AreSpread hash_of pairs all)
+      (ap (λ k. keyed_rows reached.rs ++ (k, row) ∷ []) own ∙ sym (map-append (λ (r : RowValue). (r.key, r)) reached.rs (row ∷ [])))
+      (more (keyed_rows reached.rs) reached.spread);
   fit = all_more t reached.rs row reached.fit fits;
   is = reached.is ∙ ap (λ left. behind reached.rs (rows_from t number left)) took
       ∙ ap (λ o. behind reached.rs (and_rows number o (rows_from t (number + 1) new))) spelt
       ∙ row_behind reached.rs row number (rows_from t (number + 1) new);
-  few = omega (arith, reached.few, ap length more, length-append pairs ((row.key, row) ∷ []));
 }
 
 -- all records were read
-pub reached_end : (t : Table) (said : Result (List RowValue) ℕ) (number most : ℕ) (left : List (List (List ℕ))) (pairs : List (Cell × RowValue)) →
-    Reached t said number left pairs → left ≡ [] → number + length left ≡ most + 1 → IsRead t said most pairs
-reached_end t said number most left pairs reached none counted = record {
+pub reached_end : (hash_of : Cell → ℕ) (t : Table) (said : Result (List RowValue) ℕ) (number : ℕ) (left : List (List (List ℕ))) (shares : Shares) →
+    Reached hash_of t said number left shares → left ≡ [] → IsRead hash_of t said shares
+reached_end hash_of t said number left shares reached none = record {
   rs = reached.rs;
   is = reached.is ∙ ap (λ l. behind reached.rs (rows_from t number l)) none ∙ ap Ok (append-nil reached.rs);
-  keyed = reached.keyed;
+  spread = reached.spread;
   fit = reached.fit;
-  few = omega (arith, ap length none, counted, reached.few);
 }
 
 -- one record was read, which spells no row
-pub reached_fault : (t : Table) (said : Result (List RowValue) ℕ) (number : ℕ) (old new : List (List (List ℕ))) (fields : List (List ℕ)) (pairs : List (Cell × RowValue)) →
-    Reached t said number old pairs → old ≡ fields ∷ new → row_of t fields ≡ None → said ≡ Err number
-reached_fault t said number old new fields pairs reached took bad =
+pub reached_fault : (hash_of : Cell → ℕ) (t : Table) (said : Result (List RowValue) ℕ) (number : ℕ) (old new : List (List (List ℕ))) (fields : List (List ℕ)) (shares : Shares) →
+    Reached hash_of t said number old shares → old ≡ fields ∷ new → row_of t fields ≡ None → said ≡ Err number
+reached_fault hash_of t said number old new fields shares reached took bad =
     reached.is ∙ ap (λ left. behind reached.rs (rows_from t number left)) took
     ∙ ap (λ o. behind reached.rs (and_rows number o (rows_from t (number + 1) new))) bad
 
 -- ---- the header
 
 -- what is read behind the header is read from the whole part
-pub read_behind : (t : Table) (header : List (List ℕ)) (later all : List (List (List ℕ))) (most : ℕ) (content : Content) → all ≡ header ∷ later →
-    is_header t.columns header ≡ true → length later ≤ most → IsContent t (rows_from t 1 later) (length later) content → IsContent t (rows_behind_header t all) most content
-read_behind t header later all most (Ok rows) took is few read = record {
+pub read_behind : (hash_of : Cell → ℕ) (t : Table) (header : List (List ℕ)) (later all : List (List (List ℕ))) (content : Content) → all ≡ header ∷ later →
+    is_header t.columns header ≡ true → IsContent hash_of t (rows_from t 1 later) content → IsContent hash_of t (rows_behind_header t all) content
+read_behind hash_of t header later all (Ok shares) took is read = record {
   rs = read.rs;
   is = ap (rows_behind_header t) took ∙ ap (λ b. if b then rows_from t 1 later else Err 0) is ∙ read.is;
-  keyed = read.keyed;
+  spread = read.spread;
   fit = read.fit;
-  few = omega (arith, few, read.few);
 }
-read_behind t header later all most (Err number) took is few read =
+read_behind hash_of t header later all (Err number) took is read =
     ap (rows_behind_header t) took ∙ ap (λ b. if b then rows_from t 1 later else Err 0) is ∙ read
 
 -- the first record is no header

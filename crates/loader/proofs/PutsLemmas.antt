@@ -1,16 +1,15 @@
 -- What tries hold, as rows are put.
-use Rattle.std.proofs.Common.{◌≡◌, ◌+◌, ◌≤◌, Bool, true, false, List, [], ◌∷◌, ◌++◌, length, refl, ap, ap₂, sym, subst, ◌∙◌, append_assoc, arith}
-use Rattle.std.proofs.lemmas.List.{append-nil, map-append}
+use Rattle.std.proofs.Common.{◌≡◌, ◌+◌, ◌≤◌, Bool, true, false, List, [], ◌∷◌, ◌++◌, length, refl, ap, sym, subst, ◌∙◌, append_assoc, arith}
+use Rattle.std.proofs.lemmas.List.{append-nil}
 use Rattle.std.specs.Prelude.{if◌then◌else◌}
 use Rattle.std.specs.List.{AllByRecursion, fold}
 use Rattle.std.specs.Ordering.{is_eq, is_lt}
 use Rattle.std.specs.declared.cmp.Ordering.{Ordering}
-use Rattle.std.specs.Option.{option_or}
-use Rattle.std.specs.FinMap.{empty, get, insert}
+use Rattle.std.specs.FinMap.{empty, insert}
 use Rattle.cells.specs.CellOrder.{cell_cmp}
 use Rattle.cells.specs.Fitting.{IsRowOf}
-use Rattle.cells.specs.RowsFit.{rows_none, rows_over, rows_put}
-use Rattle.cells.specs.Tables.{AreRowsOf, Rows, keyed_rows, laid_over, table}
+use Rattle.cells.specs.RowsFit.{rows_none, rows_put}
+use Rattle.cells.specs.Tables.{AreRowsOf, Rows, keyed_rows, table}
 use Rattle.cells.specs.Updates.{Put, Update, puts, rows}
 use Rattle.cells.specs.Values.{RowValue, Table}
 use Rattle.cells.specs.declared.cell.Cell.{Cell}
@@ -27,7 +26,7 @@ abbrev pub inserted : Rows → List (Cell × RowValue) → Rows
 inserted m pairs = fold (λ (held : Rows) (p : Cell × RowValue). insert held p.0 p.1) m pairs
 
 -- that is what puts leave
-put_all : LaysRows → (us : List Update) (rs : List RowValue) → inserted (table (rows us)) (keyed_rows rs) ≡ table (rows (us ++ puts rs))
+pub put_all : LaysRows → (us : List Update) (rs : List RowValue) → inserted (table (rows us)) (keyed_rows rs) ≡ table (rows (us ++ puts rs))
 put_all put us [] = ap (λ l. table (rows l)) (sym (append-nil us))
 put_all put us (row ∷ rs) =
     ap (λ (m : Rows). inserted m (keyed_rows rs)) (sym (put us row)) ∙ put_all put (us ++ Put row ∷ []) rs
@@ -44,16 +43,6 @@ module _ (t : Table) where
   holds_all put pairs rs held keyed fit is = record {
     map = is ∙ ap (inserted empty) keyed ∙ put_all put [] rs;
     fit = subst (AreRowsOf t) (sym (is ∙ ap (inserted empty) keyed)) (all_fit t empty rs (rows_none t empty refl) fit);
-  }
-
-  -- the rows of one trie behind those of another
-  pub holds_both : ((us : List Update) (rs : List RowValue) → table (rows (us ++ puts rs)) ≡ laid_over (table (rows (puts rs))) (table (rows us))) →
-      ((later earlier : Rows) (key : Cell) → get (laid_over later earlier) key ≡ option_or (get later key) (get earlier key)) →
-      (first second both : Held) (rs more : List RowValue) → map_of cell_cmp both ≡ laid_over (map_of cell_cmp second) (map_of cell_cmp first) →
-      HoldsPuts t rs first → HoldsPuts t more second → HoldsPuts t (rs ++ more) both
-  holds_both over stands first second both rs more is one two = record {
-    map = is ∙ ap₂ laid_over two.map one.map ∙ sym (over (puts rs) more) ∙ ap (λ us. table (rows us)) (sym (map-append Put rs more));
-    fit = rows_over t (map_of cell_cmp second) (map_of cell_cmp first) (map_of cell_cmp both) (stands (map_of cell_cmp second) (map_of cell_cmp first)) is two.fit one.fit;
   }
 
 -- ---- how many

@@ -1,7 +1,6 @@
 -- What is read from a part, what a trie holds, and what is loaded from a list of parts.
-use Rattle.std.specs.Prelude.{◌≡◌, ◌≤◌, ⊤, ℕ, List, length, Result, Ok, Err, Vec}
+use Rattle.std.specs.Prelude.{◌≡◌, ⊤, ℕ, List, Result, Ok, Err}
 use Rattle.std.specs.List.{AllByRecursion}
-use Rattle.std.specs.declared.alloc.Global.{Global}
 use Rattle.cells.specs.CellOrder.{cell_cmp}
 use Rattle.cells.specs.Fitting.{IsRowOf}
 use Rattle.cells.specs.Tables.{AreRowsOf, keyed_rows, table}
@@ -12,8 +11,10 @@ use Rattle.cells.specs.declared.refused.Refused.{Refused}
 use Rattle.cells.specs.declared.refused.Refused.TheVariants as refused
 use Rattle.trie.specs.Maps.{map_of}
 use Rattle.loader.specs.Parts.{FaultyRecord, rows_of_part}
+use Rattle.loader.specs.Shares.{AreSpread}
 use Rattle.loader.specs.declared.fault.PartFault.{PartFault}
 use Rattle.loader.specs.declared.fault.PartFault.TheVariants.{Bad, OutOfMemory, NoWorker}
+use Rattle.loader.specs.declared.shares.Shares.{Shares}
 
 -- a trie of rows, as contracts see it: each row beside its key
 abbrev pub Held : Type 0
@@ -24,26 +25,25 @@ pub record HoldsPuts (t : Table) (rs : List RowValue) (held : Held) : Type 0 whe
   pub map : map_of cell_cmp held ≡ table (rows (puts rs))
   pub fit : AreRowsOf t (map_of cell_cmp held)
 
--- rows are said, which may stand in the table, and these are they, each beside its key; there are no more than this number
-pub record IsRead {E : Type 0} (t : Table) (said : Result (List RowValue) E) (most : ℕ) (pairs : List (Cell × RowValue)) : Type 0 where
+-- rows are said, which may stand in the table, and these are they, each beside its key, spread over shares
+pub record IsRead {E : Type 0} (hash_of : Cell → ℕ) (t : Table) (said : Result (List RowValue) E) (shares : Shares) : Type 0 where
   pub rs : List RowValue
   pub is : said ≡ Ok rs
-  pub keyed : pairs ≡ keyed_rows rs
+  pub spread : AreSpread hash_of (keyed_rows rs) shares
   pub fit : AllByRecursion (IsRowOf t) rs
-  pub few : length pairs ≤ most
 
--- the rows of a part, each beside its key, or the number of its first faulty record
+-- the rows of a part, spread over shares, or the number of its first faulty record
 abbrev pub Content : Type 0
-Content = Result (Vec (Cell × RowValue) Global) ℕ
+Content = Result Shares ℕ
 
 -- the rows that are said, or the number of the faulty record that is said
-abbrev pub IsContent : Table → Result (List RowValue) ℕ → ℕ → Content → Type 0
-IsContent t said most (Ok rows) = IsRead t said most rows.items
-IsContent t said most (Err number) = said ≡ Err number
+abbrev pub IsContent : (Cell → ℕ) → Table → Result (List RowValue) ℕ → Content → Type 0
+IsContent hash_of t said (Ok shares) = IsRead hash_of t said shares
+IsContent hash_of t said (Err number) = said ≡ Err number
 
--- a part's rows, of which there are no more than bytes, or the number of its first faulty record
-abbrev pub ReadsPart : Table → List ℕ → Content → Type 0
-ReadsPart t bytes content = IsContent t (rows_of_part t bytes) (length bytes) content
+-- a part's rows, or the number of its first faulty record
+abbrev pub ReadsPart : (Cell → ℕ) → Table → List ℕ → Content → Type 0
+ReadsPart hash_of t bytes content = IsContent hash_of t (rows_of_part t bytes) content
 
 -- no record is faulty, and the trie holds what the rows leave that are said
 pub record AreLoaded (said : Result (List RowValue) FaultyRecord) (held : Held) : Type 0 where

@@ -2,13 +2,14 @@
 #![tactic(auto)]
 
 mod fault;
-mod halves;
 mod header;
 mod limits;
 mod loading;
 mod part;
 mod plain;
 mod records;
+mod shares;
+mod tries;
 
 pub use fault::PartFault;
 pub use limits::MAX_LISTED_BYTES;

@@ -13,11 +13,13 @@ ghost use Rattle.loader.specs.Parts.{part_len, part_of, rows_of_parts};
 ghost use Rattle.cells.specs.Tables.{AreRowsOf};
 
 use crate::fault::PartFault;
-use crate::halves::{ListedRows, trie_of_list};
 use crate::part::{Content, read_part};
+use crate::shares::Shares;
+use crate::tries::trie_of_shares;
 use cells::{Cell, KeyHash, Row, Schema};
 use crew::{Gate, Task, share_out};
 use std::alloc::{AllocError, Global};
+use std::marker::PhantomData;
 use std::sync::Wait;
 use std::thread::Threads;
 use trie::Trie;
@@ -32,10 +34,10 @@ use trie::Trie;
 ///
 /// As many workers as the smaller of `workers`, which is 1 to [`MAX_SEATS`](crew::MAX_SEATS), and the number of places
 /// read the parts, each worker in a thread of its own; what is read depends neither on their number nor on which worker
-/// reads which part. The gate is told of each place before its part is read. Where no record is faulty and there are two
-/// places or more, a trie is then made of each half of the list, each told to the gate before: one after another for one
-/// worker, and else one of them in a thread of its own at the same time. This waits for all threads that it starts, however
-/// it ends.
+/// reads which part. The gate is told of each place before its part is read. Where no record is faulty, a trie is then made
+/// of each of two shares of the rows. Where there are two places or more, the gate is told of each share before, and they
+/// are made one after another for one worker, and else at the same time, one of them in a thread of its own. This waits for
+/// all threads that it starts, however it ends.
 ///
 /// [`PartFault::NoWorker`] where a thread could not be started; otherwise [`PartFault::OutOfMemory`] where there was no
 /// memory, here or for a worker; otherwise [`PartFault::Bad`] where a part has a faulty record, with the first listed
@@ -58,22 +60,24 @@ pub fn load<H: KeyHash<Cell> + Send + Sync, G: Gate, R: Threads + Wait>(
         parts,
         schema,
         gate,
+        hash: PhantomData::<H>,
     };
-    let shares = share_out(rt, alloc, parts.len() as u64, workers, &reading)?;
-    let found = in_order(alloc, parts, schema, shares)?;
-    let listed = rows_of(alloc, parts, schema, found)?;
-    trie_of_list(rt, alloc, listed, parts.len(), workers, gate)
+    let given = share_out(rt, alloc, parts.len() as u64, workers, &reading)?;
+    let found = in_order::<H>(alloc, parts, schema, given)?;
+    let shares = rows_of::<H>(alloc, parts, schema, found)?;
+    trie_of_shares(rt, alloc, shares, parts.len(), workers, gate)
 }
 
 /// The work on a list of parts: each worker reads those whose places it draws.
 #[derive(Drop)]
-struct Reading<'a, G> {
+struct Reading<'a, G, H> {
     parts: &'a [(u64, &'a [u8])],
     schema: &'a Schema,
     gate: &'a G,
+    hash: PhantomData<H>,
 }
 
-impl<'a, G> Reading<'a, G> {
+impl<'a, G, H> Reading<'a, G, H> {
     /// The bytes of the part at the place.
     fn bytes(&self, place: u64) -> &'a [u8]
         requires { place < length self.now.parts.now }
@@ -91,7 +95,7 @@ struct Found {
     content: Content,
 }
 
-impl<'a, G: Gate> Task for Reading<'a, G> {
+impl<'a, G: Gate, H: KeyHash<Cell> + Send + Sync> Task for Reading<'a, G, H> {
     ghost use Rattle.std.specs.Prelude.{length, map};
     ghost use Rattle.std.specs.List.{AllZip};
     ghost use Rattle.loader.specs.Listed.{IsFound};
@@ -103,9 +107,9 @@ impl<'a, G: Gate> Task for Reading<'a, G> {
 
     ghost count = { λ task. length task.parts.now };
 
-    ghost makes = { λ task places made. AllZip (IsFound task.schema.now (map part_of task.parts.now)) places made.items };
+    ghost makes = { λ task places made. AllZip (IsFound H.hash_of task.schema.now (map part_of task.parts.now)) places made.items };
 
-    ghost gives = { λ task places given. AllZip (IsFound task.schema.now (map part_of task.parts.now)) places given.items };
+    ghost gives = { λ task places given. AllZip (IsFound H.hash_of task.schema.now (map part_of task.parts.now)) places given.items };
 
     fn begin(&self, alloc: Global) -> Result<Vec<Found>, AllocError> {
         Ok(Vec::new(alloc))
@@ -114,7 +118,7 @@ impl<'a, G: Gate> Task for Reading<'a, G> {
     fn take(&self, alloc: Global, made: &mut Vec<Found>, place: u64) -> Result<(), AllocError> {
         self.gate.reading(place);
         // A faulty record is a result as any other, so that the parts of all places are read.
-        let content = read_part(alloc, self.bytes(place), self.schema)?;
+        let content = read_part::<H>(alloc, self.bytes(place), self.schema)?;
         Ok(made.push(Found { place, content })?)
     }
 
@@ -124,43 +128,38 @@ impl<'a, G: Gate> Task for Reading<'a, G> {
 }
 
 /// What all workers found, in the order of the places.
-fn in_order(
+fn in_order<H: KeyHash<Cell>>(
     alloc: Global,
     parts: &[(u64, &[u8])],
     schema: &Schema,
-    shares: Vec<Vec<Found>>,
+    given: Vec<Vec<Found>>,
 ) -> Result<Vec<Found>, AllocError>
-    requires { AreShared (λ places given. AllZip (IsFound schema.now (map part_of parts.now)) places given.items) (length parts.now) shares.items }
-    ensures { IfOk result (λ all. AreRead schema.now (map part_of parts.now) all.items) }
+    requires { AreShared (λ places found. AllZip (IsFound H.hash_of schema.now (map part_of parts.now)) places found.items) (length parts.now) given.items }
+    ensures { IfOk result (λ all. AreRead H.hash_of schema.now (map part_of parts.now) all.items) }
 {
     let mut all = Vec::new(alloc);
-    for mut share in shares {
-        all.append(&mut share)?;
+    for mut found in given {
+        all.append(&mut found)?;
     }
     all.sort_by_key(|found| found.place)?;
     Ok(all)
 }
 
-/// The rows of all parts, one part behind another, or the first listed part that has a faulty record.
-fn rows_of(
+/// The rows of all parts, those of one part behind those of another, or the first listed part that has a faulty record.
+fn rows_of<H: KeyHash<Cell>>(
     alloc: Global,
     parts: &[(u64, &[u8])],
     schema: &Schema,
     found: Vec<Found>,
-) -> Result<ListedRows, PartFault>
-    requires { AreRead schema.now (map part_of parts.now) found.items }
-    ensures { Lists schema.now (rows_of_parts schema.now (map part_of parts.now)) (sum_by part_len (map part_of parts.now)) result }
+) -> Result<Shares, PartFault>
+    requires { AreRead H.hash_of schema.now (map part_of parts.now) found.items }
+    ensures { Lists H.hash_of schema.now (rows_of_parts schema.now (map part_of parts.now)) result }
 {
-    let middle = parts.len() as u64 / 2;
-    let mut rows = Vec::new(alloc);
-    let mut front = 0;
+    let mut rows = Shares::new(alloc);
     for (part, found) in parts.iter().zip(found) {
-        let Found { place, content } = found;
-        if place == middle {
-            front = rows.len();
-        }
+        let Found { content, .. } = found;
         match content {
-            Ok(mut more) => rows.append(&mut more)?,
+            Ok(more) => rows.append::<H>(more)?,
             Err(number) => {
                 return Err(PartFault::Bad {
                     part: part.0,
@@ -169,5 +168,5 @@ fn rows_of(
             }
         }
     }
-    Ok(ListedRows { rows, front })
+    Ok(rows)
 }

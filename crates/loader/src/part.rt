@@ -5,20 +5,25 @@ ghost use Rattle.loader.specs.Parts.{rows_from};
 
 use crate::header::is_header;
 use crate::records::{Records, fields, read_row};
-use cells::{Cell, Refused, Row, Schema};
+use crate::shares::Shares;
+use cells::{Cell, KeyHash, Refused, Schema};
 use csv::ByteRecord;
 use std::alloc::{AllocError, Global};
 
-/// What a part holds: the rows of its records in their order, each beside its key; or the number of its first faulty
+/// What a part holds: the rows of its records, each beside its key, spread over shares; or the number of its first faulty
 /// record, where the header is record 0.
-pub(crate) type Content = Result<Vec<(Cell, Row)>, u64>;
+pub(crate) type Content = Result<Shares, u64>;
 
 /// Reads a part. Its first faulty record is record 0 where it has no record at all, or its first one is not the header;
 /// and else the first record behind it that spells no row of the schema.
 ///
 /// The only error is that a growth was refused.
-pub(crate) fn read_part(alloc: Global, bytes: &[u8], schema: &Schema) -> Result<Content, AllocError>
-    ensures { IfOk result (ReadsPart schema.now bytes.now) }
+pub(crate) fn read_part<H: KeyHash<Cell>>(
+    alloc: Global,
+    bytes: &[u8],
+    schema: &Schema,
+) -> Result<Content, AllocError>
+    ensures { IfOk result (ReadsPart H.hash_of schema.now bytes.now) }
 {
     let mut records = Records::new(alloc, bytes);
     let mut record = ByteRecord::new(alloc);
@@ -29,19 +34,19 @@ pub(crate) fn read_part(alloc: Global, bytes: &[u8], schema: &Schema) -> Result<
     if !is_header(schema.columns(), header.as_slice()) {
         return Ok(Err(0));
     }
-    read_rows(alloc, records, schema)
+    read_rows::<H>(alloc, records, schema)
 }
 
 /// The rows of the records that are left, which are numbered from 1 on, or the number of the first faulty one.
-fn read_rows(
+fn read_rows<H: KeyHash<Cell>>(
     alloc: Global,
     mut records: Records<'_>,
     schema: &Schema,
 ) -> Result<Content, AllocError>
     requires { length records + 1 < 2 ^ 64 }
-    ensures { IfOk result (IsContent schema.now (rows_from schema.now 1 records.entry) (length records.entry)) }
+    ensures { IfOk result (IsContent H.hash_of schema.now (rows_from schema.now 1 records.entry)) }
 {
-    let mut rows = Vec::new(alloc);
+    let mut rows = Shares::new(alloc);
     let mut record = ByteRecord::new(alloc);
     let mut number = 1;
     while records.next(&mut record)? {
@@ -51,7 +56,7 @@ fn read_rows(
             Err(_) => return Ok(Err(number)),
         };
         let key = row.key().clone()?;
-        rows.push((key, row))?;
+        rows.push::<H>(key, row)?;
         number += 1;
     }
     Ok(Ok(rows))

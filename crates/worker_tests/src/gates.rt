@@ -55,8 +55,8 @@ impl Meeting {
     }
 }
 
-/// Holds the work at place 0 until that at place 1 has begun, and the merging of the front half until that of the back
-/// half has begun. Only another thread can let them go on.
+/// Holds the work at place 0 until that at place 1 has begun, and the trie of the first share until that of the second one
+/// has begun. Only another thread can let them go on.
 #[derive(Drop)]
 pub struct Hold {
     pub entering: Meeting,

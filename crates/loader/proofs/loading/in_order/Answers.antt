@@ -8,13 +8,13 @@ use Rattle.loader.proofs.OrderLemmas.{place_of, read_in_order}
 use Rattle.loader.proofs.loading.in_order.Goals as goal
 
 pub returns : goal.returns
-returns c =
+returns g c =
     let made = c.in_ok-sort_by_key.ensures in
-    let all = c.loop-share.all.items in
-    let iterator = c.loop-share.share-iterator in
+    let all = c.loop-found.all.items in
+    let iterator = c.loop-found.found-iterator in
     let none : into_iter_items iterator ≡ [] = nil_from_length (into_iter_items iterator) (omega (arith, iterator.rest.ok, c.in-None.ensures.steps.0)) in
-    let found : all ≡ flat_map (λ share. share.items) c.args.shares.items =
-    sym (ap (λ left. all ++ flat_map (λ share. share.items) left) none ∙ append-nil all) ∙ c.loop-share.invariant in
-    read_in_order c.args.schema.now (map part_of c.args.parts.now) _ c.args.shares.items all c.sort_by_key.new.self.items c.requires
-    (sym (length-map c.args.parts.now part_of)) found made.permutation
+    let gathered : all ≡ flat_map (λ found. found.items) c.args.given.items =
+    sym (ap (λ left. all ++ flat_map (λ found. found.items) left) none ∙ append-nil all) ∙ c.loop-found.invariant in
+    read_in_order g.H.KeyHash.hash_of c.args.schema.now (map part_of c.args.parts.now) _ c.args.given.items all c.sort_by_key.new.self.items c.requires
+    (sym (length-map c.args.parts.now part_of)) gathered made.permutation
     (IsNonDecreasingBy-from_sort_by_key place_of _ made.sorted (λ a r q k. search rules))

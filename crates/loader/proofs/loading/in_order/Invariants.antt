@@ -3,5 +3,5 @@ use Rattle.std.specs.List.{flat_map}
 use Rattle.std.specs.Vec.Iter.{into_iter_items}
 use Rattle.loader.proofs.loading.in_order.Given as goal
 
-abbrev pub invariant-loop-share : goal.invariant-loop-share
-invariant-loop-share l = l.all.items ++ flat_map (λ share. share.items) (into_iter_items l.share-iterator) ≡ flat_map (λ share. share.items) l.fn.shares.items
+abbrev pub invariant-loop-found : goal.invariant-loop-found
+invariant-loop-found g l = l.all.items ++ flat_map (λ found. found.items) (into_iter_items l.found-iterator) ≡ flat_map (λ found. found.items) l.fn.given.items

@@ -1,5 +1,5 @@
-use Rattle.std.proofs.Common.{◌≡◌, ◌≤◌, ◌++◌, ap, arith, inl, inr, length, map, rules, subst}
-use Rattle.std.proofs.lemmas.List.{length-append, nil_from_length}
+use Rattle.std.proofs.Common.{ap, arith, inl, inr, length, map, rules, subst}
+use Rattle.std.proofs.lemmas.List.{nil_from_length}
 use Rattle.std.specs.Iterator.Adapters.{zip_first, zip_second}
 use Rattle.std.specs.Slice.Iter.{iter_rest}
 use Rattle.std.specs.Vec.Iter.{into_iter_items}
@@ -7,21 +7,21 @@ use Rattle.loader.specs.Loads.{ReadsPart}
 use Rattle.loader.specs.Parts.{part_of}
 use Rattle.loader.proofs.ListedLemmas.{listed_end, listed_first, listed_more, none_left, read_next}
 use Rattle.loader.proofs.loading.rows_of.Goals as goal
-use Rattle.loader.proofs.loading.rows_of.Goals.{else-place-middle, then-place-middle}
 
 pub loop-part-init : goal.loop-part-init
-loop-part-init c =
+loop-part-init g c =
+    let h = g.H.KeyHash.hash_of in
     let zipped = c.zip-part-items.ensures in
     rw (c.into_iter-part-iterator.ensures.into_iter_gives, zipped.first, c.iter.ensures.rest, zipped.second.0)
     (record {
-      listed = listed_first c.args.schema.now (map part_of c.args.parts.now) c.new-rows.result.items c.new-rows.ensures.items;
-      front = omega arith;
+      listed = listed_first h c.args.schema.now (map part_of c.args.parts.now) c.new-rows.result (c.new-rows.ensures h);
       read = c.requires;
       counted = search rules;
     })
 
 pub loop-part-preserved : goal.loop-part-preserved
-loop-part-preserved c =
+loop-part-preserved g c =
+    let h = g.H.KeyHash.hash_of in
     let steps = c.in-Some.ensures.steps in
     let held = c.loop-part.invariant in
     let t = c.args.schema.now in
@@ -29,31 +29,25 @@ loop-part-preserved c =
     let new = c.next.new.self in
     let part = part_of c.in-Some.part.now in
     let took = ap (map part_of) steps.0 in
-    let read = read_next t (map part_of (iter_rest (zip_first old))) (map part_of (iter_rest (zip_first new))) (into_iter_items (zip_second old)) (into_iter_items (zip_second new))
+    let read = read_next h t (map part_of (iter_rest (zip_first old))) (map part_of (iter_rest (zip_first new))) (into_iter_items (zip_second old)) (into_iter_items (zip_second new))
     part c.in-Some.found held.read took steps.1.0 in
-    let longer : c.append.new.self.items ≡ c.loop-part.rows.items ++ c.in-Ok.more.items = c.in_ok-append-in-Ok.ensures.items in
-    let before : c.if-place-middle.front ≤ length c.loop-part.rows.items =
-    elim c.if-place-middle.branch [ then-place-middle w ↦ search rules | else-place-middle w ↦ search rules ] in
     record {
-      listed = listed_more t _ _ part (map part_of (iter_rest (zip_first old))) (map part_of (iter_rest (zip_first new))) c.loop-part.rows.items c.in-Ok.more.items c.append.new.self.items
-          held.listed took (subst (ReadsPart t part.1) c.in-Ok.is read.0) longer;
-      front = let both = length-append c.loop-part.rows.items c.in-Ok.more.items in omega (arith, before, ap length longer, both);
+      listed = listed_more h t _ part (map part_of (iter_rest (zip_first old))) (map part_of (iter_rest (zip_first new))) c.loop-part.rows c.in-Ok.more c.append.new.self
+          held.listed took (subst (ReadsPart h t part.1) c.in-Ok.is read.0) c.in_ok-append-in-Ok.ensures;
       read = read.1;
       counted = omega (arith, held.counted, ap length steps.1.0, steps.1.1);
     }
 
 pub returns : goal.returns
-returns c =
+returns g c =
+    let h = g.H.KeyHash.hash_of in
     let held = c.loop-part.invariant in
     let t = c.args.schema.now in
     let old = c.loop-part.part-iterator in
     let left = iter_rest (zip_first old) in
     let found = into_iter_items (zip_second old) in
-    record {
-      read = listed_end t _ _ (map part_of left) c.loop-part.rows.items held.listed
-          (elim c.in-None.ensures.steps [
-            | inl parts ↦ ap (map part_of) (nil_from_length left parts.1.0)
-            | inr all ↦ none_left t (map part_of left) found held.read (nil_from_length found (omega (arith, held.counted, all.1.0)))
-          ]);
-      front = held.front;
-    }
+    listed_end h t _ (map part_of left) c.loop-part.rows held.listed
+    (elim c.in-None.ensures.steps [
+      | inl parts ↦ ap (map part_of) (nil_from_length left parts.1.0)
+      | inr all ↦ none_left h t (map part_of left) found held.read (nil_from_length found (omega (arith, held.counted, all.1.0)))
+    ])

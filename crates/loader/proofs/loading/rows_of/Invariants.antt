@@ -1,17 +1,15 @@
-use Rattle.std.proofs.Common.{◌≡◌, ◌≤◌, length, map}
-use Rattle.std.specs.Prelude.{sum_by}
+use Rattle.std.proofs.Common.{◌≡◌, length, map}
 use Rattle.std.specs.Iterator.Adapters.{zip_first, zip_second}
 use Rattle.std.specs.Slice.Iter.{iter_rest}
 use Rattle.std.specs.Vec.Iter.{into_iter_items, into_iter_len}
 use Rattle.loader.specs.Listed.{AreRead}
-use Rattle.loader.specs.Parts.{part_len, part_of, rows_of_parts}
+use Rattle.loader.specs.Parts.{part_of, rows_of_parts}
 use Rattle.loader.proofs.ListedLemmas.{Listed}
 use Rattle.loader.proofs.loading.rows_of.Given as goal
 
 abbrev pub invariant-loop-part : goal.invariant-loop-part
-invariant-loop-part l = record {
-  listed : Listed l.schema (rows_of_parts l.schema (map part_of l.parts)) (sum_by part_len (map part_of l.parts)) (map part_of (iter_rest (zip_first l.part-iterator))) l.rows.items;
-  front : l.front ≤ length l.rows.items;
-  read : AreRead l.schema (map part_of (iter_rest (zip_first l.part-iterator))) (into_iter_items (zip_second l.part-iterator));
+invariant-loop-part g l = record {
+  listed : Listed g.H.KeyHash.hash_of l.schema (rows_of_parts l.schema (map part_of l.parts)) (map part_of (iter_rest (zip_first l.part-iterator))) l.rows;
+  read : AreRead g.H.KeyHash.hash_of l.schema (map part_of (iter_rest (zip_first l.part-iterator))) (into_iter_items (zip_second l.part-iterator));
   counted : into_iter_len (zip_second l.part-iterator) ≡ length (into_iter_items (zip_second l.part-iterator));
 }

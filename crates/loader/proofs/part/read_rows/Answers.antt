@@ -1,4 +1,4 @@
-use Rattle.std.proofs.Common.{◌≡◌, ◌++◌, ◌∷◌, [], Some, ap, arith, length, rules}
+use Rattle.std.proofs.Common.{◌≡◌, ◌∷◌, [], Some, ap, arith, length, rules}
 use Rattle.csv.specs.Records.{fields_of}
 use Rattle.cells.specs.Records.{row_of}
 use Rattle.loader.specs.Parts.{rows_from}
@@ -6,26 +6,25 @@ use Rattle.loader.proofs.PartLemmas.{reached_end, reached_first, reached_more}
 use Rattle.loader.proofs.part.read_rows.Goals as goal
 
 pub loop-record-init : goal.loop-record-init
-loop-record-init c = record {
-  reached = reached_first c.args.schema.now c.args.records c.new-rows.result.items c.new-rows.ensures.items;
+loop-record-init g c = record {
+  reached = reached_first g.H.KeyHash.hash_of c.args.schema.now c.args.records c.new-rows.result (c.new-rows.ensures g.H.KeyHash.hash_of);
   counted = omega arith;
 }
 
 pub loop-record-preserved : goal.loop-record-preserved
-loop-record-preserved c =
+loop-record-preserved g c =
     let t = c.args.schema.now in
     let row = c.in-Ok.row in
     let took : c.loop-record.records ≡ fields_of c.next.new.row ∷ c.next.new.self = search rules in
     let spelt : row_of t (fields_of c.next.new.row) ≡ Some row = search rules in
-    let more : c.push.new.self.items ≡ c.loop-record.rows.items ++ (row.key, row) ∷ [] = search rules in
     record {
-      reached = reached_more t _ c.loop-record.number c.loop-record.records c.next.new.self (fields_of c.next.new.row) row c.loop-record.rows.items c.push.new.self.items
-          c.loop-record.invariant.reached took spelt c.in-Ok.ensures.fits more;
+      reached = reached_more g.H.KeyHash.hash_of t _ c.loop-record.number c.loop-record.records c.next.new.self (fields_of c.next.new.row) row c.loop-record.rows c.push.new.self
+          c.loop-record.invariant.reached took spelt c.in-Ok.ensures.fits c.in_ok-key.key (search rules) c.in_ok-push.ensures;
       counted = omega (arith, c.loop-record.invariant.counted, ap length took);
     }
 
 pub returns : goal.returns
-returns c =
+returns g c =
     let left : c.loop-record.records ≡ [] = search rules in
-    reached_end c.args.schema.now (rows_from c.args.schema.now 1 c.args.records) c.loop-record.number (length c.args.records) c.loop-record.records
-    c.loop-record.rows.items c.loop-record.invariant.reached left c.loop-record.invariant.counted
+    reached_end g.H.KeyHash.hash_of c.args.schema.now (rows_from c.args.schema.now 1 c.args.records) c.loop-record.number c.loop-record.records
+    c.loop-record.rows c.loop-record.invariant.reached left

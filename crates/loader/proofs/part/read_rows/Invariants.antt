@@ -4,10 +4,10 @@ use Rattle.loader.proofs.PartLemmas.{Reached}
 use Rattle.loader.proofs.part.read_rows.Given as goal
 
 abbrev pub invariant-loop-record : goal.invariant-loop-record
-invariant-loop-record l = record {
-  reached : Reached l.schema (rows_from l.schema 1 l.fn.records) l.number l.records l.rows.items;
+invariant-loop-record g l = record {
+  reached : Reached g.H.KeyHash.hash_of l.schema (rows_from l.schema 1 l.fn.records) l.number l.records l.rows;
   counted : l.number + length l.records ≡ length l.fn.records + 1;
 }
 
 abbrev pub decreases-loop-record : goal.decreases-loop-record
-decreases-loop-record l = length l.records
+decreases-loop-record g l = length l.records

@@ -1,9 +1,10 @@
-//! Rows as a trie: those of each half of a list as one, and then both.
-ghost use Rattle.std.specs.Prelude.{◌≡◌, ◌+◌, ◌<◌, ◌≤◌, ◌^◌, ◌⊎◌, IfErr, IfOk, length};
-ghost use Rattle.loader.specs.Halves.{AreBothHeld, HoldsAll, IsLaidOver};
+//! Rows as a trie: those of each share as one, and then both.
+ghost use Rattle.std.specs.Prelude.{◌≡◌, ◌+◌, ◌<◌, ◌^◌, ◌⊎◌, IfErr, IfOk, length};
+ghost use Rattle.loader.specs.Tries.{AreBothHeld, HoldsAll, HoldsShares, IsLaidOver};
 ghost use Rattle.loader.specs.declared.fault.PartFault.TheVariants.{NoWorker, OutOfMemory};
 
 use crate::fault::PartFault;
+use crate::shares::Shares;
 use cells::{Cell, KeyHash, Row, later_puts_lie_over, updates_make_a_map};
 use crew::Gate;
 use std::alloc::{AllocError, Global};
@@ -12,116 +13,107 @@ use std::sync::Wait;
 use std::thread::{self, Promise, Threads};
 use trie::{Later, Ticks, Trie, entries_are_a_map};
 
-/// The rows of a list of parts, each beside its key, one part behind another.
-#[derive(Drop)]
-pub(crate) struct ListedRows {
-    pub rows: Vec<(Cell, Row)>,
-    /// How many of them are of the parts of the list's front half.
-    pub front: usize,
-}
-
-/// The trie of the rows of a list of so many parts, in which of the rows of a key the last one stands. Where there are two
-/// parts or more, each half of the list is made a trie first, both at the same time where there are two workers or more,
-/// and the gate is told of each half before.
+/// The trie of the rows of so many parts, in which of the rows of a key the last one stands. Each share is made a trie by
+/// itself, and both are put under one root.
 ///
-/// [`PartFault::NoWorker`] where the thread of a half could not be started, otherwise [`PartFault::OutOfMemory`] where
+/// [`PartFault::NoWorker`] where the thread of a share could not be started, otherwise [`PartFault::OutOfMemory`] where
 /// there was no memory.
-pub(crate) fn trie_of_list<H: KeyHash<Cell> + Send + Sync, G: Gate, R: Threads + Wait>(
+pub(crate) fn trie_of_shares<H: KeyHash<Cell> + Send + Sync, G: Gate, R: Threads + Wait>(
     rt: &R,
     alloc: Global,
-    listed: ListedRows,
+    shares: Shares,
     parts: usize,
     workers: u64,
     gate: &G,
 ) -> Result<Trie<Cell, Row, H>, PartFault>
-    requires { listed.front ≤ length listed.rows.items }
-    ensures held { IfOk result (HoldsAll listed.rows.items) }
+    ensures held { IfOk result (HoldsShares H.hash_of shares) }
     ensures refused { IfErr result (λ e. (e ≡ NoWorker) ⊎ (e ≡ OutOfMemory)) }
 {
+    updates_make_a_map();
     later_puts_lie_over();
-    let ListedRows { mut rows, front } = listed;
-    if parts < 2 {
-        return Ok(trie_of(alloc, rows)?);
-    }
-    let back = rows.split_off(front)?;
-    let place = (parts / 2) as u64;
-    let (first, second) = both_tries(rt, alloc, rows, back, place, workers, gate)?;
+    let Shares { even, odd } = shares;
+    let (first, second) = both_tries(rt, alloc, even, odd, parts, workers, gate)?;
     Ok(merged(alloc, &first, &second)?)
 }
 
-/// The tries of both halves, of which the back one begins at this place of the list: one after the other for one worker,
-/// and else at the same time.
+/// The tries of both shares of so many parts. Where there are two parts or more, the gate is told of both shares before, of
+/// the one as of the place at which the list of parts begins, and of the other as of its middle; and where there are two
+/// workers or more, too, both are made at the same time.
 fn both_tries<H: KeyHash<Cell> + Send + Sync, G: Gate, R: Threads + Wait>(
     rt: &R,
     alloc: Global,
-    front: Vec<(Cell, Row)>,
-    back: Vec<(Cell, Row)>,
-    place: u64,
+    even: Vec<(Cell, Row)>,
+    odd: Vec<(Cell, Row)>,
+    parts: usize,
     workers: u64,
     gate: &G,
 ) -> Result<(Trie<Cell, Row, H>, Trie<Cell, Row, H>), PartFault>
-    ensures held { IfOk result (AreBothHeld front.items back.items) }
+    ensures held { IfOk result (AreBothHeld even.items odd.items) }
     ensures refused { IfErr result (λ e. (e ≡ NoWorker) ⊎ (e ≡ OutOfMemory)) }
 {
+    if parts < 2 {
+        return Ok((trie_of(alloc, even)?, trie_of(alloc, odd)?));
+    }
+    let middle = (parts / 2) as u64;
     if workers == 1 {
-        let first = trie_of_half(alloc, front, 0, gate)?;
-        let second = trie_of_half(alloc, back, place, gate)?;
+        let first = trie_of_share(alloc, even, 0, gate)?;
+        let second = trie_of_share(alloc, odd, middle, gate)?;
         return Ok((first, second));
     }
-    both_side_by_side(rt, alloc, front, back, place, gate)
+    both_side_by_side(rt, alloc, even, odd, middle, gate)
 }
 
-/// The tries of both halves, the front one's in a thread of its own, and that of the back in this one. Where the thread
+/// The tries of both shares, the first one's in a thread of its own, and that of the second in this one. Where the thread
 /// can't be started, neither is made.
 fn both_side_by_side<H: KeyHash<Cell> + Send + Sync, G: Gate, R: Threads + Wait>(
     rt: &R,
     alloc: Global,
-    front: Vec<(Cell, Row)>,
-    back: Vec<(Cell, Row)>,
+    even: Vec<(Cell, Row)>,
+    odd: Vec<(Cell, Row)>,
     place: u64,
     gate: &G,
 ) -> Result<(Trie<Cell, Row, H>, Trie<Cell, Row, H>), PartFault>
-    ensures held { IfOk result (AreBothHeld front.items back.items) }
+    ensures held { IfOk result (AreBothHeld even.items odd.items) }
     ensures refused { IfErr result (λ e. (e ≡ NoWorker) ⊎ (e ≡ OutOfMemory)) }
 {
     thread::scope(
         thread::scope_env(),
         rt,
         move |scope| -> Result<(Trie<Cell, Row, H>, Trie<Cell, Row, H>), PartFault>
-            ensures held { IfOk result (AreBothHeld front.items back.items) }
+            ensures held { IfOk result (AreBothHeld even.items odd.items) }
             ensures refused { IfErr result (λ e. (e ≡ NoWorker) ⊎ (e ≡ OutOfMemory)) }
         {
-            let promise = FrontTrie {
-                rows: Snapshot::of(&front),
+            let promise = ShareTrie {
+                rows: Snapshot::of(&even),
             };
             let job = move || -> Result<Trie<Cell, Row, H>, AllocError>
-                ensures { IfOk result (HoldsAll front.items) }
-            { trie_of_half(alloc, front, 0, gate) };
+                ensures { IfOk result (HoldsAll even.items) }
+            { trie_of_share(alloc, even, 0, gate) };
             let Ok(thread) = scope.spawn_with(promise, job) else {
                 return Err(PartFault::NoWorker);
             };
-            let second = trie_of_half(alloc, back, place, gate);
+            let second = trie_of_share(alloc, odd, place, gate);
             let first = thread.join(rt);
             Ok((first?, second?))
         },
     )
 }
 
-/// What the thread of the front half hands back: the trie of its rows.
+/// What the thread of a share hands back: the trie of its rows.
 #[derive(Drop)]
-struct FrontTrie {
+struct ShareTrie {
     rows: Snapshot<Vec<(Cell, Row)>>,
 }
 
-impl<H: KeyHash<Cell>> Promise<Result<Trie<Cell, Row, H>, AllocError>> for FrontTrie {
+impl<H: KeyHash<Cell>> Promise<Result<Trie<Cell, Row, H>, AllocError>> for ShareTrie {
     ghost use Rattle.std.specs.Prelude.{IfOk};
-    ghost use Rattle.loader.specs.Halves.{HoldsAll};
+    ghost use Rattle.loader.specs.Tries.{HoldsAll};
 
     ghost kept_by = { λ promise trie. IfOk trie (HoldsAll promise.rows.value.items) };
 }
 
-/// The trie of the rows of the half that begins at this place of the list.
-fn trie_of_half<H: KeyHash<Cell>, G: Gate>(
+/// The trie of the rows of a share, of which the gate is told as of this place.
+fn trie_of_share<H: KeyHash<Cell>, G: Gate>(
     alloc: Global,
     rows: Vec<(Cell, Row)>,
     place: u64,

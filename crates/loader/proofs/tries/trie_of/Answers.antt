@@ -4,9 +4,9 @@ use Rattle.cells.specs.CellOrder.{cell_cmp}
 use Rattle.cells.specs.SameKeys.{exact_cells}
 use Rattle.trie.specs.Digits.{digit_order}
 use Rattle.trie.specs.Maps.{map_of}
-use Rattle.loader.proofs.HalvesLemmas.{held_all}
+use Rattle.loader.proofs.TriesLemmas.{held_all}
 use Rattle.loader.proofs.PutsLemmas.{few_all}
-use Rattle.loader.proofs.halves.trie_of.Goals as goal
+use Rattle.loader.proofs.tries.trie_of.Goals as goal
 
 pub returns : goal.returns
 returns g c =
