@@ -320,6 +320,12 @@ module _ {K V : Type 0} (hash : K → ℕ) (cmp : K → K → Ordering) where
             rw (last, read_written places n place None within) here
       ]
 
+  -- no pairs have no node
+  pub none_made : (depth : ℕ) (list : List (Hashed K V)) → list ≡ [] → IsMadeOf hash cmp depth (pairs_in list) None
+  none_made depth list none = record {
+    at = λ prefix deep below. record { placed = tt; entries_are = ap (λ l. with_pairs (digit_order hash cmp) (pairs_in l) []) (sym none) };
+  }
+
   all_below : (ps : List (K × V)) → AreBelow hash [] ps
   all_below [] = tt
   all_below (p ∷ ps) = (tt, all_below ps)

@@ -209,6 +209,9 @@ pub fn place_of<'a, K: Ord + Drop, V: Drop, H: KeyHash<K>>(
     let mut made = room_for(alloc, parts.as_slice())?;
     for digit in 0..PLACES {
         let part = parts[digit].as_slice();
+        if part.is_empty() {
+            continue;
+        }
         let child = place_of::<K, V, H>(alloc, part, depth + 1, used, ticks)?;
         made = grown(made, digit, child)?;
     }

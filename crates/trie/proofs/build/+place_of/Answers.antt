@@ -1,19 +1,20 @@
-use Rattle.std.proofs.Common.{◌≡◌, ◌+◌, ◌-◌, ◌<◌, List, [], ◌∷◌, length, ap, refl, sym, None, Some, arith, rules}
+use Rattle.std.proofs.Common.{◌≡◌, ◌+◌, ◌-◌, ◌<◌, List, [], ◌∷◌, length, ap, refl, subst, sym, ◌∙◌, None, Some, arith, rules}
 use Rattle.std.specs.Prelude.{slice_get}
-use Rattle.std.proofs.lemmas.List.{length-map}
+use Rattle.std.proofs.lemmas.List.{length-map, nil_from_length}
 use Rattle.std.proofs.lemmas.Result.{IfOk-weaker}
-use Rattle.trie.specs.Building.{HaveOnePrefix, pairs_in}
+use Rattle.trie.specs.Building.{AreMadeOf, AreMadeOnce, AreMadeWhole, HaveOnePrefix, pairs_in}
 use Rattle.trie.specs.Dense.{places_in}
 use Rattle.trie.specs.Digits.{digit_count, place_count}
 use Rattle.trie.specs.Tree.{node_of, values}
 use Rattle.trie.specs.declared.build.Hashed.{Hashed}
-use Rattle.trie.proofs.BuildLemmas.{branch_fits, branch_made, bucket_made, leaf_made, made_more, more_keys, part_below}
+use Rattle.trie.proofs.BuildLemmas.{branch_fits, branch_made, bucket_made, leaf_made, made_more, more_keys, none_made, part_below}
 use Rattle.trie.proofs.CountLemmas.{counts_none, counts_one}
 use Rattle.trie.proofs.DenseLemmas.{length-places_of, none_dense}
 use Rattle.trie.proofs.MapsLemmas.{hashes}
 use Rattle.trie.proofs.OnceLemmas.{once_all, once_more, once_one}
 use Rattle.trie.proofs.SpreadLemmas.{counted_all, counted_end, counted_more, part_is}
 use Rattle.trie.proofs.WholeLemmas.{ok_of_both, whole_all, whole_bucket, whole_leaf, whole_more, whole_none}
+use Rattle.trie.proofs.WriteLemmas.{before_next, written_end}
 use Rattle.trie.proofs.build.+place_of.Goals as goal
 
 -- where there is a last pair, there is one
@@ -158,6 +159,36 @@ loop-digit-preserved g t c =
           c.place_of.ensures.counted.grows c.loop-digit.invariant.whole c.in_ok-child.ensures.whole);
       counted = counted_more c.args.depth c.args.pairs.now c.in_ok-parts.parts.items c.in_ok-parts.ensures c.loop-digit.digit lt _ is _ _ _
           c.loop-digit.invariant.counted c.place_of.ensures.counted;
+      used = search rules;
+    }
+
+pub loop-digit-preserved-then-is_empty : goal.loop-digit-preserved-then-is_empty
+loop-digit-preserved-then-is_empty g t c =
+    let lt : c.loop-digit.digit < place_count = search rules in
+    let held = c.loop-digit.invariant in
+    let places = places_in c.loop-digit.made.bitmap c.loop-digit.made.children.items in
+    let is = part_is c.args.depth c.args.pairs.now c.in_ok-parts.parts.items c.in_ok-parts.ensures c.loop-digit.digit lt
+    c.index.result.now c.index.ensures c.as_slice-part.result.now c.as_slice-part.ensures.value in
+    let none : c.as_slice-part.result.now ≡ [] = nil_from_length c.as_slice-part.result.now (search rules) in
+    let wide = length-places_of c.loop-digit.made.bitmap (values c.loop-digit.made.children.items) in
+    let written = written_end c.loop-digit.made.bitmap c.loop-digit.made.children held.dense c.loop-digit.digit lt held.before in
+    record {
+      made =
+          subst (AreMadeOf g.H.KeyHash.hash_of g.K.Ord.cmp c.args.depth (c.loop-digit.digit + 1) c.args.pairs.now) (sym written.places_are)
+          (made_more g.H.KeyHash.hash_of g.K.Ord.cmp c.args.depth c.loop-digit.digit c.args.pairs.now places None (omega (arith, wide, lt)) held.made
+          (none_made g.H.KeyHash.hash_of g.K.Ord.cmp (c.args.depth + 1) _ (sym is ∙ none)));
+      dense = held.dense;
+      before = before_next c.loop-digit.made.bitmap c.loop-digit.digit held.before;
+      once =
+          subst (λ ps. AreMadeOnce g.H.KeyHash.hash_of g.K.Ord.cmp c.args.depth (c.loop-digit.digit + 1) ps c.args.ticks.now c.loop-digit.ticks) (sym written.places_are)
+          (once_more g.H.KeyHash.hash_of g.K.Ord.cmp c.args.depth c.loop-digit.digit places None _ c.loop-digit.ticks c.loop-digit.ticks (omega (arith, wide, lt))
+          held.once (record { at = λ prefix deep placed. omega arith }));
+      whole =
+          subst (λ ps. AreMadeWhole g.H.KeyHash.hash_of g.K.Ord.cmp c.args.depth (c.loop-digit.digit + 1) ps c.args.ticks.now c.loop-digit.ticks) (sym written.places_are)
+          (whole_more g.H.KeyHash.hash_of g.K.Ord.cmp c.args.depth c.loop-digit.digit places None _ c.loop-digit.ticks c.loop-digit.ticks (omega (arith, wide, lt))
+          (omega arith) held.whole (whole_none g.H.KeyHash.hash_of g.K.Ord.cmp (c.args.depth + 1) None _ _ refl refl));
+      counted = counted_more c.args.depth c.args.pairs.now c.in_ok-parts.parts.items c.in_ok-parts.ensures c.loop-digit.digit lt _ is _ _ _
+          held.counted (counts_none _ _ _ _ _ refl);
       used = search rules;
     }
 
