@@ -3,6 +3,8 @@ use denote.Enum.Declared.{row}
 use denote.Hole.FixSend.{Crosses, both_send, both_sync}
 use denote.Param.Send.{IsSend, IsSync, sendable}
 use denote.RattleType.{RattleType}
+use denote.Struct.Tuple as Struct
+use Rattle.std.proofs.Common.{[], ◌∷◌}
 use Rattle.std.proofs.Crossing.{crosses}
 use Rattle.atomic_table.proofs.badge.Badge.TheSendSync as TheBadge
 use Rattle.atomic_table.proofs.send_lease.SendLease.TheSendSync as TheLease
@@ -26,29 +28,39 @@ use Rattle.cells.specs.declared.hash.KeyHash as KeyHash
 use Rattle.std.specs.contracts.alloc.Global as Global
 use Rattle.std.specs.contracts.impls.GlobalAllocator.TheImpl as Heap
 use Rattle.std.specs.contracts.option.Option as OptionType
-use Rattle.trie.specs.contracts.node.Node as Node
+use Rattle.trie.specs.contracts.node.Inner as Inner
+use Rattle.trie.specs.contracts.node.Owner as Owner
 
--- ---- nodes of a trie, which reach themselves
+-- ---- nodes of a trie, of which inner ones reach themselves
+abbrev node : RattleType → RattleType → RattleType
+node K V = Owner.the_row (Struct.Tuple (K ∷ V ∷ [])) (Inner.the_row K V)
+
 module _ (K V : RattleType) (ks : IsSend K) (ky : IsSync K) (vs : IsSend V) (vy : IsSync V) where
-  node_crosses : Crosses (Node.the_ring K V) (Node.the_member K V)
-  node_crosses = record {
-    send = λ h s y. let sent = s (Node.the_member K V) in let shared = y (Node.the_member K V) in
-        let layer : IsSend (row (Node.the_layer K V h)) = search (sendable, crosses) depth 40 in layer;
-    sync = λ h s y. let sent = s (Node.the_member K V) in let shared = y (Node.the_member K V) in
-        let layer : IsSync (row (Node.the_layer K V h)) = search (sendable, crosses) depth 40 in layer;
+  inner_crosses : Crosses (Inner.the_ring K V) (Inner.the_member K V)
+  inner_crosses = record {
+    send = λ h s y. let sent = s (Inner.the_member K V) in let shared = y (Inner.the_member K V) in
+        let layer : IsSend (row (Inner.the_layer K V h)) = search (sendable, crosses) depth 40 in layer;
+    sync = λ h s y. let sent = s (Inner.the_member K V) in let shared = y (Inner.the_member K V) in
+        let layer : IsSync (row (Inner.the_layer K V h)) = search (sendable, crosses) depth 40 in layer;
   }
 
-  hole_send : IsSend (Node.the_hole K V)
-  hole_send = both_send (Node.the_ring K V) (Node.by_members K V (Crosses (Node.the_ring K V)) node_crosses) (Node.the_member K V)
+  hole_send : IsSend (Inner.the_hole K V)
+  hole_send = both_send (Inner.the_ring K V) (Inner.by_members K V (Crosses (Inner.the_ring K V)) inner_crosses) (Inner.the_member K V)
 
-  hole_sync : IsSync (Node.the_hole K V)
-  hole_sync = both_sync (Node.the_ring K V) (Node.by_members K V (Crosses (Node.the_ring K V)) node_crosses) (Node.the_member K V)
+  hole_sync : IsSync (Inner.the_hole K V)
+  hole_sync = both_sync (Inner.the_ring K V) (Inner.by_members K V (Crosses (Inner.the_ring K V)) inner_crosses) (Inner.the_member K V)
 
-  node_send : IsSend (Node.the_field K V).row
-  node_send = let sent = hole_send in let shared = hole_sync in search (sendable, crosses) depth 40
+  inner_send : IsSend (Inner.the_field K V).row
+  inner_send = let sent = hole_send in let shared = hole_sync in search (sendable, crosses) depth 40
 
-  node_sync : IsSync (Node.the_field K V).row
-  node_sync = let sent = hole_send in let shared = hole_sync in search (sendable, crosses) depth 40
+  inner_sync : IsSync (Inner.the_field K V).row
+  inner_sync = let sent = hole_send in let shared = hole_sync in search (sendable, crosses) depth 40
+
+  node_send : IsSend (node K V)
+  node_send = let send = inner_send in let sync = inner_sync in search (sendable, crosses) depth 40
+
+  node_sync : IsSync (node K V)
+  node_sync = let send = inner_send in let sync = inner_sync in search (sendable, crosses) depth 40
 
 -- ---- cells, tuples, rows, and the nodes of a table
 cell_send : IsSend CellType.the_row
@@ -63,10 +75,10 @@ row_send = let cell = cell_send in search (sendable, crosses) depth 40
 row_sync : IsSync RowType.the_row
 row_sync = let cell = cell_sync in search (sendable, crosses) depth 40
 
-rows_send : IsSend (Node.the_field CellType.the_row RowType.the_row).row
+rows_send : IsSend (node CellType.the_row RowType.the_row)
 rows_send = node_send _ _ cell_send cell_sync row_send row_sync
 
-rows_sync : IsSync (Node.the_field CellType.the_row RowType.the_row).row
+rows_sync : IsSync (node CellType.the_row RowType.the_row)
 rows_sync = node_sync _ _ cell_send cell_sync row_send row_sync
 
 schema_send : IsSend SchemaType.the_row

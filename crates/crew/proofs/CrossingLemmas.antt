@@ -8,7 +8,9 @@ use denote.Model.Local.{Parts, rows}
 use denote.Model.Marks.{tied_sync}
 use denote.Param.Send.{IsSend, IsSync, sendable}
 use denote.RattleType.{RattleType}
+use denote.Struct.Tuple as Struct
 use denote.Ref.{NamedLft}
+use Rattle.std.proofs.Common.{[], ◌∷◌}
 use Rattle.std.proofs.Crossing.{crosses}
 use Rattle.std.proofs.MapsCrossing.{HashMap-send}
 use Rattle.aggs.specs.contracts.acc.Acc as Acc
@@ -36,30 +38,43 @@ use Rattle.query.specs.declared.predicate.Predicate.TheDeep as Members
 use Rattle.std.specs.declared.cmp.Ord as Ord
 use Rattle.std.specs.declared.cmp.PartialEq as PartialEq
 use Rattle.std.specs.declared.cmp.PartialOrd as PartialOrd
-use Rattle.trie.specs.contracts.node.Node as Node
+use Rattle.trie.specs.contracts.node.Inner as Inner
+use Rattle.trie.specs.contracts.node.Owner as Owner
 use Rattle.trie.specs.contracts.split.Piece as Piece
 
--- ---- nodes of a trie, which reach themselves
+-- ---- nodes of a trie, of which inner ones reach themselves
+abbrev node : RattleType → RattleType → RattleType
+node K V = Owner.the_row (Struct.Tuple (K ∷ V ∷ [])) (Inner.the_row K V)
+
 module _ (K V : RattleType) (ks : IsSend K) (ky : IsSync K) (vs : IsSend V) (vy : IsSync V) where
-  node_crosses : Crosses (Node.the_ring K V) (Node.the_member K V)
-  node_crosses = record {
-    send = λ h s y. let sent = s (Node.the_member K V) in let shared = y (Node.the_member K V) in
-        let layer : IsSend (row (Node.the_layer K V h)) = search (sendable, crosses) depth 40 in layer;
-    sync = λ h s y. let sent = s (Node.the_member K V) in let shared = y (Node.the_member K V) in
-        let layer : IsSync (row (Node.the_layer K V h)) = search (sendable, crosses) depth 40 in layer;
+  inner_crosses : Crosses (Inner.the_ring K V) (Inner.the_member K V)
+  inner_crosses = record {
+    send = λ h s y. let sent = s (Inner.the_member K V) in let shared = y (Inner.the_member K V) in
+        let layer : IsSend (row (Inner.the_layer K V h)) = search (sendable, crosses) depth 40 in layer;
+    sync = λ h s y. let sent = s (Inner.the_member K V) in let shared = y (Inner.the_member K V) in
+        let layer : IsSync (row (Inner.the_layer K V h)) = search (sendable, crosses) depth 40 in layer;
   }
 
-  hole_send : IsSend (Node.the_hole K V)
-  hole_send = both_send (Node.the_ring K V) (Node.by_members K V (Crosses (Node.the_ring K V)) node_crosses) (Node.the_member K V)
+  hole_send : IsSend (Inner.the_hole K V)
+  hole_send = both_send (Inner.the_ring K V) (Inner.by_members K V (Crosses (Inner.the_ring K V)) inner_crosses) (Inner.the_member K V)
 
-  hole_sync : IsSync (Node.the_hole K V)
-  hole_sync = both_sync (Node.the_ring K V) (Node.by_members K V (Crosses (Node.the_ring K V)) node_crosses) (Node.the_member K V)
+  hole_sync : IsSync (Inner.the_hole K V)
+  hole_sync = both_sync (Inner.the_ring K V) (Inner.by_members K V (Crosses (Inner.the_ring K V)) inner_crosses) (Inner.the_member K V)
 
-  node_send : IsSend (Node.the_field K V).row
-  node_send = let sent = hole_send in let shared = hole_sync in search (sendable, crosses) depth 40
+  inner_send : IsSend (Inner.the_field K V).row
+  inner_send = let sent = hole_send in let shared = hole_sync in search (sendable, crosses) depth 40
 
-  node_sync : IsSync (Node.the_field K V).row
-  node_sync = let sent = hole_send in let shared = hole_sync in search (sendable, crosses) depth 40
+  inner_sync : IsSync (Inner.the_field K V).row
+  inner_sync = let sent = hole_send in let shared = hole_sync in search (sendable, crosses) depth 40
+
+  node_send : IsSend (node K V)
+  node_send = let send = inner_send in let sync = inner_sync in search (sendable, crosses) depth 40
+
+  node_sync : IsSync (node K V)
+  node_sync = let send = inner_send in let sync = inner_sync in search (sendable, crosses) depth 40
+
+  field_sync : IsSync (Owner.the_field (Struct.Tuple (K ∷ V ∷ [])) (Inner.the_row K V)).row
+  field_sync = let send = inner_send in let sync = inner_sync in search (sendable, crosses) depth 40
 
 -- ---- cells, tuples, rows, and the nodes of a table
 cell_send : IsSend CellType.the_row
@@ -80,10 +95,10 @@ row_send = let cell = cell_send in search (sendable, crosses) depth 40
 row_sync : IsSync RowType.the_row
 row_sync = let cell = cell_sync in search (sendable, crosses) depth 40
 
-rows_send : IsSend (Node.the_field CellType.the_row RowType.the_row).row
+rows_send : IsSend (node CellType.the_row RowType.the_row)
 rows_send = node_send _ _ cell_send cell_sync row_send row_sync
 
-rows_sync : IsSync (Node.the_field CellType.the_row RowType.the_row).row
+rows_sync : IsSync (node CellType.the_row RowType.the_row)
 rows_sync = node_sync _ _ cell_send cell_sync row_send row_sync
 
 -- ---- a plan, whose predicate reaches itself
@@ -119,10 +134,10 @@ aggregation_send = search (sendable, crosses) depth 40
 -- ---- partial results, what is folded into them, and the work itself
 module _ (H : RattleType) (cells : KeyHash.Ghosts H.Denot Cell) (tuples : KeyHash.Ghosts H.Denot Tuple) (s : IsSend H) (y : IsSync H) where
   distinct_send : IsSend (CountDistinct.the_field H cells).row
-  distinct_send = let send = cell_send in let sync = cell_sync in search (node_send, node_sync, sendable, crosses) depth 40
+  distinct_send = let send = cell_send in let sync = cell_sync in search (node_send, sendable, crosses) depth 40
 
   distinct_sync : IsSync (CountDistinct.the_field H cells).row
-  distinct_sync = let send = cell_send in let sync = cell_sync in search (node_send, node_sync, sendable, crosses) depth 40
+  distinct_sync = let send = cell_send in let sync = cell_sync in search (node_sync, sendable, crosses) depth 40
 
   acc_send : IsSend (Acc.the_field H cells).row
   acc_send = let cell = cell_send in let distinct = distinct_send in search (sendable, crosses) depth 40
@@ -136,10 +151,10 @@ module _ (H : RattleType) (cells : KeyHash.Ghosts H.Denot Cell) (tuples : KeyHas
   accumulators_sync : IsSync (Accumulators.the_field H cells).row
   accumulators_sync = let acc = acc_sync in search (sendable, crosses) depth 40
 
-  groups_send : IsSend (Node.the_field TupleType.the_row (Accumulators.the_field H cells).row).row
+  groups_send : IsSend (node TupleType.the_row (Accumulators.the_row H cells))
   groups_send = node_send _ _ tuple_send tuple_sync accumulators_send accumulators_sync
 
-  groups_sync : IsSync (Node.the_field TupleType.the_row (Accumulators.the_field H cells).row).row
+  groups_sync : IsSync (node TupleType.the_row (Accumulators.the_row H cells))
   groups_sync = node_sync _ _ tuple_send tuple_sync accumulators_send accumulators_sync
 
   pub partial_send : IsSend (Partial.the_field H cells tuples).row
@@ -156,7 +171,7 @@ module _ (H : RattleType) (cells : KeyHash.Ghosts H.Denot Cell) (tuples : KeyHas
 
   module _ (o : Ord.Ghosts Cell) (e : PartialEq.Ghosts Cell) (p : PartialOrd.Ghosts Cell) where
     piece_sync : IsSync (Piece.the_field CellType.the_row RowType.the_row H o e p cells).row
-    piece_sync = let send = rows_send in let sync = rows_sync in search (sendable, crosses) depth 40
+    piece_sync = let node = field_sync _ _ cell_send cell_sync row_send row_sync in search (sendable, crosses) depth 40
 
   pub gathering_sync : (life : NamedLft) (G : RattleType) → IsSync G → IsSync (Gathering.the_field life H G cells).row
   gathering_sync life G g = let plan = plan_sync in search (piece_sync, sendable, crosses) depth 40

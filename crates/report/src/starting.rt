@@ -5,7 +5,7 @@ ghost use Rattle.report.specs.Limits.{worker_limit};
 ghost use Rattle.report.specs.Waiting.{IsReportText, IsUnmade};
 
 use crate::answering::answer;
-use board::Snapshot;
+use board::{Snapshot, viewers_cross_threads};
 use cells::{Cell, KeyHash, Refused, Tuple};
 use crew::Gate;
 use query::Plan;
@@ -55,6 +55,8 @@ impl<'a, 's, 'e: 's, R: Threads + Wait + Sync, G: Gate> Starter<'a, 's, 'e, R, G
         ensures plan { IfOk result (λ handle. handle.promise.plan.value ≡ plan) }
         ensures refused { IfErr result (λ e. e ≡ Refused.NoWorker) }
     {
+        // The law by which a snapshot may be moved to the thread; it does nothing.
+        viewers_cross_threads::<H>();
         let promise = AnswerOf {
             edition: snapshot::Snapshot::of(&snapshot),
             plan: snapshot::Snapshot::of(&plan),

@@ -15,10 +15,9 @@ use Rattle.trie.specs.Dense.{IsDense, places_in}
 use Rattle.trie.specs.Digits.{digit, digit_count, digit_order, digits, first_digits, place_count}
 use Rattle.trie.specs.Entries.{entry_at, with_pair, with_pairs}
 use Rattle.trie.specs.Holding.{ArePlaces, Holds, IsTrie, node_len, pairs_of}
-use Rattle.trie.specs.Tree.{entries_in, IsNode, IsPlace, StartsWith, values}
+use Rattle.trie.specs.Nodes.{Branch, Bucket, Child, Leaf, Node, values}
+use Rattle.trie.specs.Tree.{entries_in, IsNode, IsPlace, StartsWith}
 use Rattle.trie.specs.declared.build.Hashed.{Hashed}
-use Rattle.trie.specs.declared.node.Node.{Node}
-use Rattle.trie.specs.declared.node.Node.TheVariants.{Leaf, Bucket, Branch}
 use Rattle.trie.proofs.DenseLemmas.{length-places_of}
 use Rattle.trie.proofs.DigitsLemmas.{get_or-digits, length-digits, starts_with-next}
 use Rattle.trie.proofs.EntriesLemmas.{with_pair-all}
@@ -167,7 +166,7 @@ module _ {K V : Type 0} (hash : K → ℕ) (cmp : K → K → Ordering) (h : Hav
 
   -- the number of entries of such a branch can be held
   pub branch_fits : (depth : ℕ) (list : List (Hashed K V)) → HaveOnePrefix hash depth list → depth < digit_count →
-      (bitmap : ℕ) (children : List (Arc (Node K V) Global)) → IsDense bitmap (length children) →
+      (bitmap : ℕ) (children : List (Child K V)) → IsDense bitmap (length children) →
       AreMadeOf hash cmp depth place_count list (places_in bitmap children) → sum_by node_len (values children) < 2 ^ 64
   branch_fits depth list have low bitmap children dense each =
       let wide = length-places_of bitmap (values children) in
@@ -178,7 +177,7 @@ module _ {K V : Type 0} (hash : K → ℕ) (cmp : K → K → Ordering) (h : Hav
 
   pub branch_made : (depth : ℕ) (list : List (Hashed K V)) → AreHashed hash list → depth < digit_count →
       2 ≤ length (with_pairs (digit_order hash cmp) (pairs_in list) []) →
-      (bitmap : ℕ) (children : Vec (Arc (Node K V) Global) Global) → IsDense bitmap (length children.items) →
+      (bitmap : ℕ) (children : Vec (Child K V) Global) → IsDense bitmap (length children.items) →
       AreMadeOf hash cmp depth place_count list (places_in bitmap children.items) → (place : Option (Node K V)) →
       place ≡ Some (Branch (sum_by node_len (values children.items)) bitmap children) → IsMadeOf hash cmp depth (pairs_in list) place
   branch_made depth list hashed low many bitmap children dense each place is = rw is (record {
@@ -262,7 +261,7 @@ module _ {K V : Type 0} (hash : K → ℕ) (cmp : K → K → Ordering) (h : Hav
 
   -- of pairs of one key the last makes a leaf
   pub leaf_made : (depth : ℕ) (list : List (Hashed K V)) (last : Hashed K V) → Some last ≡ slice_get list (length list - 1) →
-      list_all (λ one. is_like cmp one last) list ≡ true → (pair : Arc (K × V) Global) → pair.value ≡ pair_in last →
+      list_all (λ one. is_like cmp one last) list ≡ true → (pair : K × V) → pair ≡ pair_in last →
       (place : Option (Node K V)) → place ≡ Some (Leaf pair) → IsMadeOf hash cmp depth (pairs_in list) place
   leaf_made depth [] last is like pair pair_is place place_is = absurd (cc)
   leaf_made depth (one ∷ list) last is like pair pair_is place place_is = rw place_is (record {
@@ -273,9 +272,9 @@ module _ {K V : Type 0} (hash : K → ℕ) (cmp : K → K → Ordering) (h : Hav
         let only = last_stands (digit_order hash cmp) (digit_total hash cmp h) (pair_in last) (pairs_in list) (pair_in one) have.0 have.1
         (pair_in last) (last_folded one list last here) in
         let starts = last_of (λ p. StartsWith prefix (digits (hash p.0))) (one ∷ list) (length list) last here below in
-        let prefix_is : prefix ≡ first_digits (hash pair.value.0) depth =
+        let prefix_is : prefix ≡ first_digits (hash pair.0) depth =
         rw (pair_is, ← deep) (starts_is prefix (digits (hash (pair_in last).0)) starts) in
-        rw (only, ← pair_is, prefix_is) (leaf_holds hash cmp pair (hash pair.value.0) depth refl);
+        rw (only, ← pair_is, prefix_is) (leaf_holds hash cmp pair (hash pair.0) depth refl);
   })
 
   -- pairs of more keys make more entries

@@ -12,12 +12,11 @@ use Rattle.std.specs.declared.alloc.Global.{Global}
 use Rattle.std.specs.declared.sync.Arc.{Arc}
 use Rattle.std.proofs.lemmas.Bool.{le-leb}
 use Rattle.trie.specs.Dense.{places_in}
+use Rattle.trie.specs.Nodes.{Branch, Bucket, Child, Leaf, Node}
 use Rattle.trie.specs.Splitting.{IsCut}
 use Rattle.trie.specs.Tree.{AreChildren, entries, entries_in, IsNode, IsPlace}
-use Rattle.trie.specs.declared.node.Node.TheVariants.{Branch, Bucket, Leaf}
 use Rattle.trie.proofs.TreeLemmas.{IsNode-Branch}
 use Rattle.trie.proofs.VariantsLemmas.{branch_dense, branch_in, bucket_in, leaf_in, placed_entries}
-use Rattle.trie.specs.declared.node.Node.{Node}
 use Rattle.trie.proofs.ListsLemmas.{all-weaken}
 use Rattle.trie.proofs.PlacesLemmas.{IsBelow, keys_below}
 use Rattle.trie.proofs.ShapeNodesLemmas.{begins, begins_not, range_more}
@@ -136,7 +135,7 @@ module _ {K V : Type 0} (hash : K → ℕ) (cmp : K → K → Ordering) where
             rw (made, cut_closed (digit_count - depth) prefix (entries n) c.0 c.1) refl;
       })
 
-      pub branch_cut : (len bitmap : ℕ) (children : Vec (Arc (Node K V) Global) Global) → place ≡ Some (Branch len bitmap children) →
+      pub branch_cut : (len bitmap : ℕ) (children : Vec (Child K V) Global) → place ≡ Some (Branch len bitmap children) →
           (old new : List (List (K × V))) → nat_lt small len && nat_lt depth most ≡ true →
           ((prefix : List ℕ) → length prefix ≡ depth → IsPlace hash cmp place prefix →
           new ≡ old ++ flat_map (λ d. cut_below hash most small (digit_count - (depth + 1)) (prefix ++ d ∷ [])
@@ -156,11 +155,11 @@ module _ {K V : Type 0} (hash : K → ℕ) (cmp : K → K → Ordering) where
             rw (b.entries_are, left, cut_opened (digit_count - (depth + 1)) prefix _ all) (made prefix deep m);
       }
 
-      pub leaf_cut : (pair : Arc (K × V) Global) → place ≡ Some (Leaf pair) → (n : Node K V) → place ≡ Some n →
+      pub leaf_cut : (pair : K × V) → place ≡ Some (Leaf pair) → (n : Node K V) → place ≡ Some n →
           (old new : List (List (K × V))) → new ≡ old ++ entries n ∷ [] → IsCut hash cmp most small depth place old new
       leaf_cut pair leaf n is old new made =
           piece_cut n is old new made (λ prefix deep m.
-          let held : entries n ≡ pair.value ∷ [] =
+          let held : entries n ≡ pair ∷ [] =
           ap (λ p. entries_in p) (sym is) ∙ (leaf_in hash cmp place prefix pair leaf m).entries_are in
           rw held (omega arith, refl))
 
@@ -176,7 +175,7 @@ module _ {K V : Type 0} (hash : K → ℕ) (cmp : K → K → Ordering) where
             rw (held, last, cut_whole prefix (entries n) some) made;
       }
 
-      pub branch_closed : (len bitmap : ℕ) (children : Vec (Arc (Node K V) Global) Global) → place ≡ Some (Branch len bitmap children) →
+      pub branch_closed : (len bitmap : ℕ) (children : Vec (Child K V) Global) → place ≡ Some (Branch len bitmap children) →
           (n : Node K V) → place ≡ Some n → (nat_lt small len && nat_lt depth most) ≡ false →
           (old new : List (List (K × V))) → new ≡ old ++ entries n ∷ [] → IsCut hash cmp most small depth place old new
       branch_closed len bitmap children branch n is closed old new made =

@@ -6,9 +6,9 @@ use Rattle.trie.specs.Digits.{digit, digit_count, digit_order}
 use Rattle.trie.specs.Entries.{entry_at, with_pair}
 use Rattle.trie.specs.Holding.{ArePlaces, IsPlaced, prefix_of}
 use Rattle.trie.specs.Merging.{CanLay, laid_pair}
+use Rattle.trie.specs.Nodes.{Node}
 use Rattle.trie.specs.Tree.{entries, entries_in}
 use Rattle.trie.specs.declared.digits.HashPrefix.{HashPrefix}
-use Rattle.trie.specs.declared.node.Node.{Node}
 use Rattle.trie.proofs.EntriesLemmas.{with_pair-most}
 use Rattle.trie.proofs.FoundLemmas.{laid_hash}
 use Rattle.trie.proofs.MapsLemmas.{HaveHashes}

@@ -15,9 +15,8 @@ use Rattle.trie.specs.Digits.{digit, digit_count, digit_order, digits, first_dig
 use Rattle.trie.specs.Entries.{entry_at, value_at}
 use Rattle.trie.specs.Holding.{ArePlaces, node_len, pairs_of, prefix_of}
 use Rattle.trie.specs.Merging.{AsksOf, blend_entries, blended, BranchesMeet, BucketsMeet, laid, laid_pair, LeafMeets, Meet, MergeEach, Merges, turned, Turned}
-use Rattle.trie.specs.Tree.{AreChildren, entries_in, IsNode, IsPlace, StartsWith, values}
-use Rattle.trie.specs.declared.node.Node.{Node}
-use Rattle.trie.specs.declared.node.Node.TheVariants.{Leaf, Bucket, Branch}
+use Rattle.trie.specs.Nodes.{Branch, Bucket, Child, Leaf, Node, values}
+use Rattle.trie.specs.Tree.{AreChildren, entries_in, IsNode, IsPlace, StartsWith}
 use Rattle.trie.proofs.BucketsLemmas.{blended_none}
 use Rattle.trie.proofs.FoundLemmas.{entry_at-order, entry-with_pair, found-passes, found_alike, value-entry}
 use Rattle.trie.proofs.DigitsLemmas.{get_or-digits, length-digits, starts_with-at, starts_with-front, starts_with-next}
@@ -148,11 +147,11 @@ module _ {K V : Type 0} (hash : K → ℕ) (cmp : K → K → Ordering) (h : Hav
     })
 
     -- the prefix of a leaf
-    leaf_prefix : (place : Option (Node K V)) (pair : Arc (K × V) Global) → place ≡ Some (Leaf pair) →
+    leaf_prefix : (place : Option (Node K V)) (pair : K × V) → place ≡ Some (Leaf pair) →
         (prefix : List ℕ) → length prefix ≡ depth → IsPlace hash cmp place prefix →
-        prefix ≡ first_digits (hash pair.value.0) depth
+        prefix ≡ first_digits (hash pair.0) depth
     leaf_prefix place pair is prefix deep m =
-        rw (← deep) (starts_is prefix (digits (hash pair.value.0)) (leaf_in hash cmp place prefix pair is m).starts)
+        rw (← deep) (starts_is prefix (digits (hash pair.0)) (leaf_in hash cmp place prefix pair is m).starts)
 
     module _ (m : Meet hash cmp Asks depth first second) where
       -- the value of an entry that is found
@@ -161,31 +160,31 @@ module _ {K V : Type 0} (hash : K → ℕ) (cmp : K → K → Ordering) (h : Hav
       value_found place q e found =
           value-entry (digit_order hash cmp) (entries_in place) q ∙ ap (λ o. option_map (λ d. d.1) o) (sym found)
 
-      module _ (pair : Arc (K × V) Global) (some : 0 < length (entries_in first)) (is : second ≡ Some (Leaf pair)) where
-        second_asked : (o : Option (K × V)) → o ≡ entry_at (digit_order hash cmp) (entries_in first) pair.value.0 →
-            MatchOption o ⊤ (λ e. Turned false (AsksOf Asks) e pair.value)
+      module _ (pair : K × V) (some : 0 < length (entries_in first)) (is : second ≡ Some (Leaf pair)) where
+        second_asked : (o : Option (K × V)) → o ≡ entry_at (digit_order hash cmp) (entries_in first) pair.0 →
+            MatchOption o ⊤ (λ e. Turned false (AsksOf Asks) e pair)
         second_asked None found = tt
         second_asked (Some e) found =
             let leaf = leaf_in hash cmp second m.prefix pair is m.second_placed in
-            let there : value_at (digit_order hash cmp) (entries_in second) pair.value.0 ≡ Some pair.value.1 =
-            rw (leaf.entries_are, tied hash cmp h pair.value.0) refl in
-            m.can pair.value.0 leaf.starts e.1 pair.value.1 (value_found first pair.value.0 e found) there
+            let there : value_at (digit_order hash cmp) (entries_in second) pair.0 ≡ Some pair.1 =
+            rw (leaf.entries_are, tied hash cmp h pair.0) refl in
+            m.can pair.0 leaf.starts e.1 pair.1 (value_found first pair.0 e found) there
 
-        second_entries : (q : K) → (b : Bool) → is_eq ((digit_order hash cmp) q pair.value.0) ≡ b →
-            cond b (Some (laid_pair hash cmp blend (entries_in first) pair.value false)) (entry_at (digit_order hash cmp) (entries_in first) q)
-            ≡ blended (blend_entries blend) (entry_at (digit_order hash cmp) (entries_in first) q) (cond b (Some pair.value) None)
+        second_entries : (q : K) → (b : Bool) → is_eq ((digit_order hash cmp) q pair.0) ≡ b →
+            cond b (Some (laid_pair hash cmp blend (entries_in first) pair false)) (entry_at (digit_order hash cmp) (entries_in first) q)
+            ≡ blended (blend_entries blend) (entry_at (digit_order hash cmp) (entries_in first) q) (cond b (Some pair) None)
         second_entries q true e =
-            rw (found_alike (digit_order hash cmp) (digit_total hash cmp h) q pair.value.0 (is_Equal _ e) (entries_in first))
-            (laid_blended (blend_entries blend) (entry_at (digit_order hash cmp) (entries_in first) pair.value.0) pair.value)
+            rw (found_alike (digit_order hash cmp) (digit_total hash cmp h) q pair.0 (is_Equal _ e) (entries_in first))
+            (laid_blended (blend_entries blend) (entry_at (digit_order hash cmp) (entries_in first) pair.0) pair)
         second_entries q false e = sym (blended_none (blend_entries blend) (entry_at (digit_order hash cmp) (entries_in first) q))
 
-        pub leaf_second : LeafMeets hash cmp Asks blend depth first second first pair.value false
+        pub leaf_second : LeafMeets hash cmp Asks blend depth first second first pair false
         leaf_second =
             let leaf = leaf_in hash cmp second m.prefix pair is m.second_placed in
             let prefix_is = leaf_prefix second pair is m.prefix m.deep m.second_placed in
             let one : length (entries_in second) ≡ 1 = ap length leaf.entries_are in
-            let low : length m.prefix ≤ digit_count = omega (arith, starts_length _ _ leaf.starts, length-digits (hash pair.value.0)) in
-            let new = laid_pair hash cmp blend (entries_in first) pair.value false in
+            let low : length m.prefix ≤ digit_count = omega (arith, starts_length _ _ leaf.starts, length-digits (hash pair.0)) in
+            let new = laid_pair hash cmp blend (entries_in first) pair false in
             record {
               low = omega (arith, low, m.deep);
               some_first = some;
@@ -200,43 +199,43 @@ module _ {K V : Type 0} (hash : K → ℕ) (cmp : K → K → Ordering) (h : Hav
                 at = λ prefix deep_too fp sp.
                     let longer = with_pair-longer (digit_order hash cmp) new.0 new.1 (entries_in first) in
                     let most = (with_pair-most (digit_order hash cmp) new.0 new.1 (entries_in first)).1 in
-                    let here : prefix_of at ≡ first_digits (hash pair.value.0) depth = rw (hashed, deep) refl in
+                    let here : prefix_of at ≡ first_digits (hash pair.0) depth = rw (hashed, deep) refl in
                     record {
                       placed = rw (leaf_prefix second pair is prefix deep_too sp) (rw here at held.placed);
                       entries = λ q s. rw (held.entries_are, leaf.entries_are)
                           (entry-with_pair (digit_order hash cmp) (digit_total hash cmp h) (entries_in first) new.0 new.1 q
-                          ∙ rw (laid_like pair.value (entries_in first) false q) (second_entries q (is_eq ((digit_order hash cmp) q pair.value.0)) refl));
+                          ∙ rw (laid_like pair (entries_in first) false q) (second_entries q (is_eq ((digit_order hash cmp) q pair.0)) refl));
                       first_in = omega (arith, ap length held.entries_are, longer);
                       most = omega (arith, ap length held.entries_are, most, one);
                     };
               };
             }
 
-      module _ (pair : Arc (K × V) Global) (some : 0 < length (entries_in second)) (is : first ≡ Some (Leaf pair)) where
-        first_asked : (o : Option (K × V)) → o ≡ entry_at (digit_order hash cmp) (entries_in second) pair.value.0 →
-            MatchOption o ⊤ (λ e. Turned true (AsksOf Asks) e pair.value)
+      module _ (pair : K × V) (some : 0 < length (entries_in second)) (is : first ≡ Some (Leaf pair)) where
+        first_asked : (o : Option (K × V)) → o ≡ entry_at (digit_order hash cmp) (entries_in second) pair.0 →
+            MatchOption o ⊤ (λ e. Turned true (AsksOf Asks) e pair)
         first_asked None found = tt
         first_asked (Some e) found =
             let leaf = leaf_in hash cmp first m.prefix pair is m.first_placed in
-            let there : value_at (digit_order hash cmp) (entries_in first) pair.value.0 ≡ Some pair.value.1 =
-            rw (leaf.entries_are, tied hash cmp h pair.value.0) refl in
-            m.can pair.value.0 leaf.starts pair.value.1 e.1 there (value_found second pair.value.0 e found)
+            let there : value_at (digit_order hash cmp) (entries_in first) pair.0 ≡ Some pair.1 =
+            rw (leaf.entries_are, tied hash cmp h pair.0) refl in
+            m.can pair.0 leaf.starts pair.1 e.1 there (value_found second pair.0 e found)
 
-        first_entries : (q : K) → (b : Bool) → is_eq ((digit_order hash cmp) q pair.value.0) ≡ b →
-            cond b (Some (laid_pair hash cmp blend (entries_in second) pair.value true)) (entry_at (digit_order hash cmp) (entries_in second) q)
-            ≡ blended (blend_entries blend) (cond b (Some pair.value) None) (entry_at (digit_order hash cmp) (entries_in second) q)
+        first_entries : (q : K) → (b : Bool) → is_eq ((digit_order hash cmp) q pair.0) ≡ b →
+            cond b (Some (laid_pair hash cmp blend (entries_in second) pair true)) (entry_at (digit_order hash cmp) (entries_in second) q)
+            ≡ blended (blend_entries blend) (cond b (Some pair) None) (entry_at (digit_order hash cmp) (entries_in second) q)
         first_entries q true e =
-            rw (found_alike (digit_order hash cmp) (digit_total hash cmp h) q pair.value.0 (is_Equal _ e) (entries_in second))
-            (laid_turned (blend_entries blend) (entry_at (digit_order hash cmp) (entries_in second) pair.value.0) pair.value)
+            rw (found_alike (digit_order hash cmp) (digit_total hash cmp h) q pair.0 (is_Equal _ e) (entries_in second))
+            (laid_turned (blend_entries blend) (entry_at (digit_order hash cmp) (entries_in second) pair.0) pair)
         first_entries q false e = refl
 
-        pub leaf_first : LeafMeets hash cmp Asks blend depth first second second pair.value true
+        pub leaf_first : LeafMeets hash cmp Asks blend depth first second second pair true
         leaf_first =
             let leaf = leaf_in hash cmp first m.prefix pair is m.first_placed in
             let prefix_is = leaf_prefix first pair is m.prefix m.deep m.first_placed in
             let one : length (entries_in first) ≡ 1 = ap length leaf.entries_are in
-            let low : length m.prefix ≤ digit_count = omega (arith, starts_length _ _ leaf.starts, length-digits (hash pair.value.0)) in
-            let new = laid_pair hash cmp blend (entries_in second) pair.value true in
+            let low : length m.prefix ≤ digit_count = omega (arith, starts_length _ _ leaf.starts, length-digits (hash pair.0)) in
+            let new = laid_pair hash cmp blend (entries_in second) pair true in
             record {
               low = omega (arith, low, m.deep);
               some_first = omega (arith, one);
@@ -250,12 +249,12 @@ module _ {K V : Type 0} (hash : K → ℕ) (cmp : K → K → Ordering) (h : Hav
               become = λ at hashed deep n held. record {
                 at = λ prefix deep_too fp sp.
                     let most = with_pair-most (digit_order hash cmp) new.0 new.1 (entries_in second) in
-                    let here : prefix_of at ≡ first_digits (hash pair.value.0) depth = rw (hashed, deep) refl in
+                    let here : prefix_of at ≡ first_digits (hash pair.0) depth = rw (hashed, deep) refl in
                     record {
                       placed = rw (leaf_prefix first pair is prefix deep_too fp) (rw here at held.placed);
                       entries = λ q s. rw (held.entries_are, leaf.entries_are)
                           (entry-with_pair (digit_order hash cmp) (digit_total hash cmp h) (entries_in second) new.0 new.1 q
-                          ∙ rw (laid_like pair.value (entries_in second) true q) (first_entries q (is_eq ((digit_order hash cmp) q pair.value.0)) refl));
+                          ∙ rw (laid_like pair (entries_in second) true q) (first_entries q (is_eq ((digit_order hash cmp) q pair.0)) refl));
                       first_in = omega (arith, ap length held.entries_are, most.0, one);
                       most = omega (arith, ap length held.entries_are, most.1, one);
                     };
@@ -349,7 +348,7 @@ module _ {K V : Type 0} (hash : K → ℕ) (cmp : K → K → Ordering) (h : Hav
           entry_at-below hash cmp (hash key) (length prefix) found.low places found.are key refl
           (get_or places k None) (ap (λ n. get_or places n None) found.digit_is)
 
-      module _ (p q : ℕ) (xs ys : Vec (Arc (Node K V) Global) Global) (n o : ℕ) (is : first ≡ Some (Branch n p xs)) (also : second ≡ Some (Branch o q ys)) where
+      module _ (p q : ℕ) (xs ys : Vec (Child K V) Global) (n o : ℕ) (is : first ≡ Some (Branch n p xs)) (also : second ≡ Some (Branch o q ys)) where
         branches_fit : (zs : List (Option (Node K V))) → length zs ≡ place_count →
             MergeEach hash cmp Asks blend depth first second place_count (places_in p xs.items) (places_in q ys.items) zs →
             (prefix : List ℕ) → length prefix ≡ depth → IsPlace hash cmp first prefix → IsPlace hash cmp second prefix →
@@ -441,14 +440,14 @@ module _ {K V : Type 0} (hash : K → ℕ) (cmp : K → K → Ordering) (h : Hav
               };
             }
 
-      pub bucket_and_branch : (es : Vec (Arc (K × V) Global) Global) (n q : ℕ) (ys : Vec (Arc (Node K V) Global) Global) →
+      pub bucket_and_branch : (es : Vec (Arc (K × V) Global) Global) (n q : ℕ) (ys : Vec (Child K V) Global) →
           first ≡ Some (Bucket es) → second ≡ Some (Branch n q ys) → ⊥
       bucket_and_branch es n q ys is also =
           let a = bucket_in hash cmp first m.prefix es is m.first_placed in
           let b = branch_in hash cmp second m.prefix n q ys also m.second_placed in
           absurd (omega (arith, a.full, b.places_are.short))
 
-      pub branch_and_bucket : (n p : ℕ) (xs : Vec (Arc (Node K V) Global) Global) (fs : Vec (Arc (K × V) Global) Global) →
+      pub branch_and_bucket : (n p : ℕ) (xs : Vec (Child K V) Global) (fs : Vec (Arc (K × V) Global) Global) →
           first ≡ Some (Branch n p xs) → second ≡ Some (Bucket fs) → ⊥
       branch_and_bucket n p xs fs is also =
           let a = branch_in hash cmp first m.prefix n p xs is m.first_placed in

@@ -4,17 +4,15 @@ use Rattle.std.specs.List.{flat_map, range_with_len}
 use Rattle.std.specs.Map.{keys_of}
 use Rattle.std.specs.declared.alloc.Global.{Global}
 use Rattle.std.specs.declared.cmp.Ordering.{Ordering}
-use Rattle.std.specs.declared.sync.Arc.{Arc}
 use Rattle.std.proofs.lemmas.List.{append-nil, take_all}
 use Rattle.std.proofs.lemmas.Grind.{flat_map-append}
 use Rattle.trie.specs.Building.{AreMadeOnce, IsMadeOnce, nodes_below}
 use Rattle.trie.specs.Dense.{places_in}
 use Rattle.trie.specs.Digits.{place_count}
 use Rattle.trie.specs.Holding.{ArePlaces}
+use Rattle.trie.specs.Nodes.{Branch, Child, Node}
 use Rattle.trie.specs.Shapes.{shape_below, shape_of}
 use Rattle.trie.specs.Tree.{entries_in, IsPlace}
-use Rattle.trie.specs.declared.node.Node.{Node}
-use Rattle.trie.specs.declared.node.Node.TheVariants.{Branch}
 use Rattle.trie.proofs.CountLemmas.{taken_more}
 use Rattle.trie.proofs.MeetLemmas.{read_other, read_written}
 use Rattle.trie.proofs.NodesLemmas.{node_len-is}
@@ -68,7 +66,7 @@ module _ {K V : Type 0} (hash : K → ℕ) (cmp : K → K → Ordering) where
       omega (arith, rest, entries_more, shapes_more, here)
 
   -- a branch more than its places
-  pub once_all : (depth : ℕ) (bitmap : ℕ) (children : Vec (Arc (Node K V) Global) Global) (place : Option (Node K V)) (len k old mid new : ℕ) →
+  pub once_all : (depth : ℕ) (bitmap : ℕ) (children : Vec (Child K V) Global) (place : Option (Node K V)) (len k old mid new : ℕ) →
       k ≡ place_count → AreMadeOnce hash cmp depth k (places_in bitmap children.items) old mid → new ≤ mid + 1 →
       place ≡ Some (Branch len bitmap children) → IsMadeOnce hash cmp depth place old new
   once_all depth bitmap children place len k old mid new all so_far one is = record {

@@ -5,8 +5,8 @@ use Rattle.std.specs.declared.cmp.Ordering.{Ordering}
 use Rattle.trie.specs.Digits.{digit_order}
 use Rattle.trie.specs.Entries.{entry_at}
 use Rattle.trie.specs.Merging.{CanBlend, HasEntries, IsMerged, Meet, Merges}
+use Rattle.trie.specs.Nodes.{Node}
 use Rattle.trie.specs.Tree.{entries_in, IsPlace}
-use Rattle.trie.specs.declared.node.Node.{Node}
 use Rattle.trie.proofs.FoundLemmas.{value_blended, value-entry}
 
 module _ {K V : Type 0} (hash : K → ℕ) (cmp : K → K → Ordering) where

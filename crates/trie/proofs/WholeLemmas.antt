@@ -15,10 +15,9 @@ use Rattle.trie.specs.Counts.{next_count}
 use Rattle.trie.specs.Dense.{places_in}
 use Rattle.trie.specs.Digits.{digit_count, digits, place_count}
 use Rattle.trie.specs.Holding.{ArePlaces, pairs_of}
+use Rattle.trie.specs.Nodes.{Branch, Bucket, Child, Leaf, Node}
 use Rattle.trie.specs.Shapes.{alone_among, node_count, number_with, shape_below}
 use Rattle.trie.specs.Tree.{entries_in, IsPlace, StartsWith}
-use Rattle.trie.specs.declared.node.Node.{Node}
-use Rattle.trie.specs.declared.node.Node.TheVariants.{Branch, Bucket, Leaf}
 use Rattle.trie.proofs.DigitsLemmas.{length-digits}
 use Rattle.trie.proofs.MeetLemmas.{read_other, read_written, starts_is}
 use Rattle.trie.proofs.PlacesLemmas.{child_at}
@@ -128,7 +127,7 @@ module _ {K V : Type 0} (hash : K → ℕ) (cmp : K → K → Ordering) where
       omega (arith, rest, alone, shapes_more, here)
 
   -- a branch more than its places
-  pub whole_all : (depth : ℕ) (bitmap : ℕ) (children : Vec (Arc (Node K V) Global) Global) (place : Option (Node K V)) (len k old mid new : ℕ) →
+  pub whole_all : (depth : ℕ) (bitmap : ℕ) (children : Vec (Child K V) Global) (place : Option (Node K V)) (len k old mid new : ℕ) →
       k ≡ place_count → AreMadeWhole hash cmp depth k (places_in bitmap children.items) old mid → new ≡ next_count mid → mid ≤ new →
       place ≡ Some (Branch len bitmap children) → IsMadeWhole hash cmp depth place old new
   whole_all depth bitmap children place len k old mid new every so_far next grows is = record {
@@ -151,7 +150,7 @@ module _ {K V : Type 0} (hash : K → ℕ) (cmp : K → K → Ordering) where
         (ap length (branch_shape hash cmp place prefix len bitmap children is placed));
   }
 
-  pub whole_leaf : (depth : ℕ) (place : Option (Node K V)) (pair : Arc (K × V) Global) (old new : ℕ) → new ≡ next_count old →
+  pub whole_leaf : (depth : ℕ) (place : Option (Node K V)) (pair : K × V) (old new : ℕ) → new ≡ next_count old →
       place ≡ Some (Leaf pair) → IsMadeWhole hash cmp depth place old new
   whole_leaf depth place pair old new next is = record {
     at = λ all prefix deep placed among below.

@@ -9,10 +9,10 @@ use Rattle.trie.specs.Digits.{digit, digit_count, digit_order, digits, place_cou
 use Rattle.trie.specs.Entries.{with_pairs}
 use Rattle.trie.specs.Holding.{Holds}
 use Rattle.trie.specs.Merging.{CountsBoth}
+use Rattle.trie.specs.Nodes.{Node}
 use Rattle.trie.specs.Shapes.{alone_among, number_with, shape_below}
 use Rattle.trie.specs.Tree.{entries_in, IsPlace, StartsWith}
 use Rattle.trie.specs.declared.build.Hashed.{Hashed}
-use Rattle.trie.specs.declared.node.Node.{Node}
 
 module _ {K V : Type 0} where
   -- the pair itself, whoever owns it

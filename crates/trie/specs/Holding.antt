@@ -8,11 +8,15 @@ use Rattle.std.specs.Borrow.{Bor}
 use Rattle.trie.specs.Digits.{digit, digit_count, digit_order, first_digits, place_count}
 use Rattle.trie.specs.Entries.{with_pair, without_key}
 use Rattle.trie.specs.Dense.{IsDense, places_in}
-use Rattle.trie.specs.Tree.{AreChildren, entries_in, IsNode, IsPlace, node_of}
+use Rattle.trie.specs.Nodes.{Child, Node, node_of, One, Owned, owned, Several}
+use Rattle.trie.specs.Tree.{AreChildren, entries_in, IsNode, IsPlace}
 use Rattle.trie.specs.declared.node.Children.{Children}
 use Rattle.trie.specs.declared.digits.HashPrefix.{HashPrefix}
-use Rattle.trie.specs.declared.node.Node.{Node, out-Node}
-use Rattle.trie.specs.declared.node.Node.TheOpen.{Node-F, Branch, Bucket, Leaf}
+use Rattle.trie.specs.declared.node.Inner.{out-Inner}
+use Rattle.trie.specs.declared.node.Inner.TheOpen.{Inner-F, Branch, Bucket}
+use Rattle.trie.specs.declared.node.Owner.{Owner}
+use Rattle.trie.specs.declared.node.Unmade.{Unmade}
+use Rattle.trie.specs.declared.node.Unmade.TheVariants as unmade
 use Rattle.trie.specs.declared.put.Reach.{Reach}
 use Rattle.trie.specs.declared.put.Reach.TheVariants.{Here, Below}
 use Rattle.trie.specs.declared.remove.Removed.{Removed}
@@ -36,19 +40,29 @@ abbrev pub prefix_of : HashPrefix → List ℕ
 prefix_of at = first_digits at.hash at.depth
 
 -- the entries in a place, whoever owns its node
-abbrev pub held_in : {K V : Type 0} → Option (Arc (Node K V) Global) → List (K × V)
+abbrev pub held_in : {K V : Type 0} → Option (Child K V) → List (K × V)
 held_in place = entries_in (node_of place)
 
--- what is looked at, whoever owns it: a pair, or the node in a place, and the entries in it
-abbrev pub seen_in : {X : Type 0} → Option (Bor (Arc X Global)) → Option X
-seen_in None = None
-seen_in (Some node) = Some node.now.value
+-- a pair that is found, whoever owns it
+abbrev pub found_in : {X : Type 0} → Option (Bor (Arc X Global)) → Option X
+found_in None = None
+found_in (Some pair) = Some pair.now.value
 
-abbrev pub held_at : {K V : Type 0} → Option (Bor (Arc (Node K V) Global)) → List (K × V)
+-- the node in a place that is looked at, and the entries in it
+abbrev pub seen_in : {P I : Type 0} → Option (Bor (Owner P I)) → Option (Owned P I)
+seen_in None = None
+seen_in (Some node) = Some (owned node.now)
+
+abbrev pub held_at : {K V : Type 0} → Option (Bor (Child K V)) → List (K × V)
 held_at place = entries_in (seen_in place)
 
+-- the node that is to be made
+abbrev pub made_of : {K V : Type 0} → Unmade K V → Node K V
+made_of (unmade.Leaf pair) = One pair.value
+made_of (unmade.Inner inner) = Several inner
+
 -- the entries in the places with this one in the place after the prefix
-abbrev pub held_with : {K V : Type 0} → HashPrefix → List (Option (Node K V)) → Option (Arc (Node K V) Global) → List (K × V)
+abbrev pub held_with : {K V : Type 0} → HashPrefix → List (Option (Node K V)) → Option (Child K V) → List (K × V)
 held_with at places place = flat_map entries_in (set places (digit at.hash at.depth) (node_of place))
 
 -- the children stand for these places
@@ -61,13 +75,13 @@ abbrev pub lent : {K V : Type 0} → List (Bor K × Bor V) → List (K × V)
 lent pairs = map (λ p. (p.0.now, p.1.now)) pairs
 
 -- how many entries a node says it has
-abbrev pub layer_len : {K V X : Type 0} → Node-F K V X → ℕ
-layer_len (Leaf pair) = 1
+abbrev pub layer_len : {K V X : Type 0} → Inner-F K V X → ℕ
 layer_len (Bucket pairs) = length pairs.items
 layer_len (Branch len bitmap children) = len
 
 abbrev pub node_len : {K V : Type 0} → Node K V → ℕ
-node_len {K} {V} node = layer_len (out-Node K V node)
+node_len (One pair) = 1
+node_len {K} {V} (Several inner) = layer_len (out-Inner K V inner)
 
 -- the same of a place
 abbrev pub len_in : {K V : Type 0} → Option (Node K V) → ℕ
@@ -114,9 +128,9 @@ module _ {K V : Type 0} (hash : K → ℕ) (cmp : K → K → Ordering) where
   abbrev pub HasPair : HashPrefix → K × V → Option (Node K V) → Node K V → Type 0
   HasPair at pair place node = Holds (prefix_of at) (with_pair (digit_order hash cmp) pair.0 pair.1 (entries_in place)) (Some node)
 
-  -- a put ends with a node that has the pair too, or the places have what the place had
+  -- a put ends with what makes a node that has the pair too, or the places have what the place had
   abbrev pub IsReached : HashPrefix → K × V → Option (Node K V) → Reach K V → Type 0
-  IsReached at pair place (Here node) = HasPair at pair place node
+  IsReached at pair place (Here node) = HasPair at pair place (made_of node)
   IsReached at pair place (Below bitmap children) =
       ArePlaces (prefix_of at) (places_in bitmap children.items)
       × (flat_map entries_in (places_in bitmap children.items) ≡ entries_in place)

@@ -7,6 +7,7 @@ pub mod Entries
 pub mod Holding
 pub mod Maps
 pub mod Merging
+pub mod Nodes
 pub mod Shapes
 pub mod Splitting
 pub mod Tree

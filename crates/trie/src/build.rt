@@ -7,11 +7,11 @@ ghost use Rattle.trie.specs.Building.{AreHashed, AreSpread, CountsEach, HaveOneP
 ghost use Rattle.trie.specs.Digits.{digit_count, digits_number, place_count};
 ghost use Rattle.trie.specs.Entries.{with_pairs};
 ghost use Rattle.trie.specs.Holding.{pairs_of};
-ghost use Rattle.trie.specs.Tree.{node_of};
+ghost use Rattle.trie.specs.Nodes.{node_of};
 
 use crate::bucket::placed;
 use crate::digits::{DIGITS, HashPrefix, PLACES, digits_number};
-use crate::node::{Children, Node, Place, branch_of, grown, make};
+use crate::node::{Children, Inner, Place, Unmade, branch_of, grown, make};
 use crate::ticks::Ticks;
 use cells::KeyHash;
 use std::alloc::{AllocError, Global};
@@ -197,12 +197,12 @@ pub fn place_of<'a, K: Ord + Drop, V: Drop, H: KeyHash<K>>(
         return Ok(None);
     };
     if have_key_of(pairs, last) {
-        let leaf = Node::Leaf(Arc::try_clone(last.pair)?);
+        let leaf = Unmade::Leaf(Arc::try_clone(last.pair)?);
         return Ok(Some(make(alloc, leaf, ticks)?));
     }
     if depth == DIGITS {
-        let bucket = Node::Bucket(bucket_of(alloc, pairs)?);
-        return Ok(Some(make(alloc, bucket, ticks)?));
+        let bucket = Inner::Bucket(bucket_of(alloc, pairs)?);
+        return Ok(Some(make(alloc, Unmade::Inner(bucket), ticks)?));
     }
     let lists = mem::replace(&mut used[depth as usize], Vec::new(alloc));
     let parts = spread(alloc, pairs, depth, lists)?;

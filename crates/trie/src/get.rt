@@ -2,11 +2,11 @@
 ghost use Rattle.std.specs.Prelude.{◌≡◌};
 ghost use Rattle.trie.specs.Digits.{digit_order};
 ghost use Rattle.trie.specs.Entries.{entry_at};
-ghost use Rattle.trie.specs.Holding.{held_at, IsPlaced, seen_in};
+ghost use Rattle.trie.specs.Holding.{found_in, held_at, IsPlaced, seen_in};
 
 use crate::bucket::find;
 use crate::digits::HashPrefix;
-use crate::node::{Node, Seen, step};
+use crate::node::{Inner, Node, Seen, step};
 use cells::KeyHash;
 use std::sync::Arc;
 
@@ -19,20 +19,22 @@ pub fn get_at<'a, K: Ord, V, H: KeyHash<K>>(
 ) -> Option<&'a Arc<(K, V)>>
     requires hashed { at.hash ≡ H.hash_of key.now }
     requires placed { IsPlaced H.hash_of K.cmp at (seen_in place) }
-    ensures { seen_in result ≡ entry_at (digit_order H.hash_of K.cmp) (held_at place.entry) key.now }
+    ensures { found_in result ≡ entry_at (digit_order H.hash_of K.cmp) (held_at place.entry) key.now }
 {
-    match place {
-        None => None,
-        Some(node) => match &**node {
-            Node::Leaf(pair) => {
-                if key.cmp(&pair.0).is_eq() {
-                    Some(pair)
-                } else {
-                    None
-                }
+    let Some(node) = place else {
+        return None;
+    };
+    match node {
+        Node::Leaf(pair) => {
+            if key.cmp(&pair.0).is_eq() {
+                Some(pair)
+            } else {
+                None
             }
-            Node::Bucket(pairs) => find(pairs, key),
-            Node::Branch {
+        }
+        Node::Inner(inner) => match &**inner {
+            Inner::Bucket(pairs) => find(pairs, key),
+            Inner::Branch {
                 bitmap,
                 children,
                 ..

@@ -2,13 +2,14 @@
 ghost use Rattle.std.specs.Prelude.{◌≡◌, ◌+◌, ◌≤◌, IfOk};
 ghost use Rattle.std.specs.Option.{MatchOption};
 ghost use Rattle.trie.specs.Digits.{digit_count};
-ghost use Rattle.trie.specs.Holding.{seen_in};
+ghost use Rattle.trie.specs.Holding.{found_in, seen_in};
 ghost use Rattle.trie.specs.Merging.{AsksOf, blend_entries, CanLay, ClonesEqual, HasLaid, laid, turned, Turned};
+ghost use Rattle.trie.specs.Nodes.{owned};
 
 use crate::blend::Blend;
 use crate::digits::HashPrefix;
 use crate::get::get_at;
-use crate::node::{Node, Seen, shared_children, step, with_place};
+use crate::node::{Inner, Node, Seen, shared_children, step, with_place};
 use crate::put::put_at;
 use crate::ticks::Ticks;
 use cells::KeyHash;
@@ -45,8 +46,8 @@ fn pair_to_lay<K: Clone + Drop, V: Drop, B: Blend<V>>(
     pair: &Arc<(K, V)>,
 ) -> Result<Arc<(K, V)>, AllocError>
     requires clones { ClonesEqual K.is_clone }
-    requires can { MatchOption (seen_in old) Unit (λ e. Turned is_first (AsksOf (B.asks blend.now)) e pair.now.value) }
-    ensures { IfOk result (λ p. p.value ≡ laid (turned is_first (blend_entries (B.blend_of blend.now))) (seen_in old.entry) pair.now.value) }
+    requires can { MatchOption (found_in old) Unit (λ e. Turned is_first (AsksOf (B.asks blend.now)) e pair.now.value) }
+    ensures { IfOk result (λ p. p.value ≡ laid (turned is_first (blend_entries (B.blend_of blend.now))) (found_in old.entry) pair.now.value) }
 {
     let Some(old) = old else {
         return Ok(Arc::try_clone(pair)?);
@@ -67,10 +68,10 @@ fn with_leaf<K: Ord + Clone + Drop, V: Drop, H: KeyHash<K>, B: Blend<V>>(
     blend: &B,
     at: HashPrefix,
     ticks: &mut Ticks,
-) -> Result<Arc<Node<K, V>>, AllocError>
+) -> Result<Node<K, V>, AllocError>
     requires clones { ClonesEqual K.is_clone }
     requires can { CanLay H.hash_of K.cmp (B.asks blend.now) at (seen_in place) pair.now.value is_first }
-    ensures map { IfOk result (λ n. HasLaid H.hash_of K.cmp (B.blend_of blend.now) at (seen_in place.entry) pair.now.value is_first n.value) }
+    ensures map { IfOk result (λ n. HasLaid H.hash_of K.cmp (B.blend_of blend.now) at (seen_in place.entry) pair.now.value is_first (owned n)) }
     ensures counted { ticks.new + at.depth ≤ ticks.old + (digit_count + 1) }
     ensures grows { ticks.old ≤ ticks.new }
 {
@@ -88,21 +89,24 @@ pub fn lay_at<K: Ord + Clone + Drop, V: Drop, H: KeyHash<K>, B: Blend<V>>(
     blend: &B,
     at: HashPrefix,
     ticks: &mut Ticks,
-) -> Result<Arc<Node<K, V>>, AllocError>
+) -> Result<Node<K, V>, AllocError>
     requires clones { ClonesEqual K.is_clone }
     requires can { CanLay H.hash_of K.cmp (B.asks blend.now) at (seen_in place) pair.now.value is_first }
-    ensures map { IfOk result (λ n. HasLaid H.hash_of K.cmp (B.blend_of blend.now) at (seen_in place.entry) pair.now.value is_first n.value) }
+    ensures map { IfOk result (λ n. HasLaid H.hash_of K.cmp (B.blend_of blend.now) at (seen_in place.entry) pair.now.value is_first (owned n)) }
     ensures counted { ticks.new + at.depth ≤ ticks.old + (digit_count + 1) }
     ensures grows { ticks.old ≤ ticks.new }
 {
     let Some(node) = place else {
         return with_leaf::<K, V, H, B>(alloc, place, pair, is_first, blend, at, ticks);
     };
-    let Node::Branch {
+    let Node::Inner(inner) = node else {
+        return with_leaf::<K, V, H, B>(alloc, place, pair, is_first, blend, at, ticks);
+    };
+    let Inner::Branch {
         bitmap,
         children,
         ..
-    } = &**node
+    } = &**inner
     else {
         return with_leaf::<K, V, H, B>(alloc, place, pair, is_first, blend, at, ticks);
     };

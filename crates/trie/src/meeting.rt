@@ -1,12 +1,12 @@
 //! How two places of one prefix meet, apart from what they become.
-ghost use Rattle.std.specs.Prelude.{◌≡◌, Some};
+ghost use Rattle.std.specs.Prelude.{Some};
 ghost use Rattle.trie.specs.Holding.{seen_in};
 ghost use Rattle.trie.specs.Merging.{Meet, MeetsAs};
-ghost use Rattle.trie.specs.declared.node.Node.TheVariants.{Bucket};
+ghost use Rattle.trie.specs.Nodes.{Several};
 
 use crate::blend::Blend;
 use crate::digits::Bitmap;
-use crate::node::{Node, Seen};
+use crate::node::{Inner, Node, Seen};
 use cells::KeyHash;
 use std::sync::Arc;
 
@@ -22,9 +22,9 @@ pub enum Meeting<'a, K, V> {
     Buckets(&'a Vec<Arc<(K, V)>>, &'a Vec<Arc<(K, V)>>),
     Branches {
         first: Bitmap,
-        old: &'a Vec<Arc<Node<K, V>>>,
+        old: &'a Vec<Node<K, V>>,
         second: Bitmap,
-        more: &'a Vec<Arc<Node<K, V>>>,
+        more: &'a Vec<Node<K, V>>,
     },
 }
 
@@ -44,25 +44,45 @@ pub fn how_they_meet<'a, K: Ord, V, H: KeyHash<K>, B: Blend<V>>(
     let Some(other) = second else {
         return Meeting::Alone(first);
     };
-    match &**one {
+    match one {
         Node::Leaf(pair) => Meeting::Laid {
             place: second,
             pair,
             is_first: true,
         },
-        Node::Bucket(pairs) => bucket_meets::<K, V, H, B>(first, pairs, other, blend, depth),
-        Node::Branch {
-            bitmap,
-            children,
-            ..
-        } => match &**other {
+        Node::Inner(one) => match other {
             Node::Leaf(pair) => Meeting::Laid {
                 place: first,
                 pair,
                 is_first: false,
             },
-            Node::Bucket(_) => unreachable!(),
-            Node::Branch {
+            Node::Inner(other) => inner_nodes_meet::<K, V, H, B>(one, other, blend, depth),
+        },
+    }
+}
+
+/// How two inner nodes meet: no bucket meets a branch, since a bucket's prefix is a whole hash.
+fn inner_nodes_meet<'a, K: Ord, V, H: KeyHash<K>, B: Blend<V>>(
+    one: &'a Inner<K, V>,
+    other: &'a Inner<K, V>,
+    _blend: &B,
+    depth: u32,
+) -> Meeting<'a, K, V>
+    requires { Meet H.hash_of K.cmp (B.asks _blend.now) depth (Some (Several one.now)) (Some (Several other.now)) }
+    ensures { MeetsAs H.hash_of K.cmp (B.asks _blend.now) (B.blend_of _blend.now) depth (Some (Several one.now)) (Some (Several other.now)) result }
+{
+    match one {
+        Inner::Bucket(pairs) => match other {
+            Inner::Bucket(more) => Meeting::Buckets(pairs, more),
+            Inner::Branch { .. } => unreachable!(),
+        },
+        Inner::Branch {
+            bitmap,
+            children,
+            ..
+        } => match other {
+            Inner::Bucket(_) => unreachable!(),
+            Inner::Branch {
                 bitmap: second,
                 children: more,
                 ..
@@ -73,28 +93,5 @@ pub fn how_they_meet<'a, K: Ord, V, H: KeyHash<K>, B: Blend<V>>(
                 more,
             },
         },
-    }
-}
-
-/// How a place that has this bucket meets a node.
-fn bucket_meets<'a, K: Ord, V, H: KeyHash<K>, B: Blend<V>>(
-    place: Seen<'a, K, V>,
-    pairs: &'a Vec<Arc<(K, V)>>,
-    node: &'a Arc<Node<K, V>>,
-    _blend: &B,
-    depth: u32,
-) -> Meeting<'a, K, V>
-    requires bucket { seen_in place ≡ Some (Bucket pairs.now) }
-    requires meet { Meet H.hash_of K.cmp (B.asks _blend.now) depth (seen_in place) (Some node.now.value) }
-    ensures { MeetsAs H.hash_of K.cmp (B.asks _blend.now) (B.blend_of _blend.now) depth (seen_in place.entry) (Some node.now.value) result }
-{
-    match &**node {
-        Node::Leaf(pair) => Meeting::Laid {
-            place,
-            pair,
-            is_first: false,
-        },
-        Node::Bucket(more) => Meeting::Buckets(pairs, more),
-        Node::Branch { .. } => unreachable!(),
     }
 }

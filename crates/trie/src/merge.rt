@@ -4,14 +4,14 @@ ghost use Rattle.std.specs.Map.{keys_of};
 ghost use Rattle.trie.specs.Entries.{IsRising};
 ghost use Rattle.trie.specs.Holding.{held_at, pairs_of, seen_in};
 ghost use Rattle.trie.specs.Merging.{CanBlend, ClonesEqual, CountsBoth, HasBucketOfBoth, IsBucketOfBoth, IsNextOrEnd, Meet, Merges};
-ghost use Rattle.trie.specs.Tree.{node_of};
+ghost use Rattle.trie.specs.Nodes.{node_of};
 
 use crate::blend::Blend;
 use crate::digits::{HashPrefix, PLACES};
 use crate::lay::{blended_pair, lay_at};
 use crate::meeting::{Meeting, how_they_meet};
 use crate::node::{
-    Node, Place, Seen, branch_of, child_at, either_has, grown, make, room_for_both, shared,
+    Inner, Place, Seen, Unmade, branch_of, child_at, either_has, grown, make, room_for_both, shared,
 };
 use crate::ticks::Ticks;
 use cells::KeyHash;
@@ -105,7 +105,7 @@ fn bucket_of_both<K: Ord + Clone + Drop, V: Drop, H: KeyHash<K>, B: Blend<V>>(
     ensures grows { ticks.old ≤ ticks.new }
 {
     let pairs = merged_pairs::<K, V, H, B>(alloc, first, second, blend)?;
-    Ok(Some(make(alloc, Node::Bucket(pairs), ticks)?))
+    Ok(Some(make(alloc, Unmade::Inner(Inner::Bucket(pairs)), ticks)?))
 }
 
 /// Two places of one prefix together. What only one of them has is shared, not made anew.

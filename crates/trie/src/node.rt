@@ -6,9 +6,9 @@ ghost use Rattle.trie.specs.Counts.{next_count};
 ghost use Rattle.trie.specs.Dense.{below_bit, bit_at, IsDense, places_in};
 ghost use Rattle.trie.specs.Digits.{digit, first_digits, place_count};
 ghost use Rattle.trie.specs.Holding.{ArePlaces, held_at, held_with, Holds, IsPlaced, IsWritten, len_in, node_len};
-ghost use Rattle.trie.specs.Holding.{prefix_of, seen_in, sole_node};
-ghost use Rattle.trie.specs.Tree.{entries_in, IsPlace, node_of, values};
-ghost use Rattle.trie.specs.declared.node.Node.TheVariants.{Branch};
+ghost use Rattle.trie.specs.Holding.{made_of, prefix_of, seen_in, sole_node};
+ghost use Rattle.trie.specs.Nodes.{Branch, node_of, owned, values};
+ghost use Rattle.trie.specs.Tree.{entries_in, IsPlace};
 
 use crate::digits::{Bitmap, HashPrefix};
 use crate::ticks::Ticks;
@@ -17,16 +17,27 @@ use std::alloc::{AllocError, Global};
 use std::sync::Arc;
 
 /// A place of a branch, or the root's: empty, or with the node of its prefix.
-pub type Place<K, V> = Option<Arc<Node<K, V>>>;
+pub type Place<K, V> = Option<Node<K, V>>;
 
 /// A place that is looked at.
-pub type Seen<'a, K, V> = Option<&'a Arc<Node<K, V>>>;
+pub type Seen<'a, K, V> = Option<&'a Node<K, V>>;
 
-/// A node, which never changes once it is made. The hashes of its keys share a prefix.
+/// A node, which never changes once it is made, with one owner of what it has. The hashes of its keys share a prefix.
+pub type Node<K, V> = Owner<(K, V), Inner<K, V>>;
+
+/// An owner of a leaf's pair or of an inner node. A leaf has nothing beside its pair, so whoever comes to its place has
+/// come to its pair's owner. (An inner node is a parameter, so that of the two types one alone contains itself.)
 #[derive(Drop)]
-pub enum Node<K, V> {
-    /// The only key of its prefix.
-    Leaf(Arc<(K, V)>),
+pub enum Owner<P, I> {
+    /// The only pair of its prefix.
+    Leaf(Arc<P>),
+    /// Several keys of a prefix.
+    Inner(Arc<I>),
+}
+
+/// An inner node: two keys or more.
+#[derive(Drop)]
+pub enum Inner<K, V> {
     /// The keys of one hash, rising.
     Bucket(Vec<Arc<(K, V)>>),
     /// How many entries there are below the children, which digits have a child, and the children in
@@ -34,25 +45,46 @@ pub enum Node<K, V> {
     Branch {
         len: u64,
         bitmap: Bitmap,
-        children: Vec<Arc<Node<K, V>>>,
+        children: Vec<Node<K, V>>,
     },
+}
+
+/// What a node is made of.
+#[derive(Drop)]
+pub enum Unmade<K, V> {
+    Leaf(Arc<(K, V)>),
+    Inner(Inner<K, V>),
 }
 
 /// The children of a branch in the making.
 #[derive(Drop)]
 pub struct Children<K, V> {
     pub bitmap: Bitmap,
-    pub children: Vec<Arc<Node<K, V>>>,
+    pub children: Vec<Node<K, V>>,
+}
+
+impl<P: Drop, I: Drop> Owner<P, I> {
+    /// The same node, with one owner more of what it has.
+    pub fn share(&self) -> Result<Self, AllocError>
+        ensures { IfOk result (λ copy. owned copy ≡ owned self.now) }
+    {
+        match self {
+            Owner::Leaf(pair) => Ok(Owner::Leaf(Arc::try_clone(pair)?)),
+            Owner::Inner(inner) => Ok(Owner::Inner(Arc::try_clone(inner)?)),
+        }
+    }
 }
 
 /// How many entries there are below a node.
-pub fn node_len<K, V>(node: &Arc<Node<K, V>>) -> u64
-    ensures { result ≡ node_len node.now.value }
+pub fn node_len<K, V>(node: &Node<K, V>) -> u64
+    ensures { result ≡ node_len (owned node.now) }
 {
-    match &**node {
+    match node {
         Node::Leaf(_) => 1,
-        Node::Bucket(pairs) => pairs.len() as u64,
-        Node::Branch { len, .. } => *len,
+        Node::Inner(inner) => match &**inner {
+            Inner::Bucket(pairs) => pairs.len() as u64,
+            Inner::Branch { len, .. } => *len,
+        },
     }
 }
 
@@ -79,16 +111,19 @@ pub fn seen<K, V>(place: &Place<K, V>) -> Seen<'_, K, V>
 /// The only place where a node is made, and so where it is counted.
 pub fn make<K: Drop, V: Drop>(
     alloc: Global,
-    node: Node<K, V>,
+    node: Unmade<K, V>,
     ticks: &mut Ticks,
-) -> Result<Arc<Node<K, V>>, AllocError>
-    ensures made { IfOk result (λ made. made.value ≡ node) }
+) -> Result<Node<K, V>, AllocError>
+    ensures made { IfOk result (λ made. owned made ≡ made_of node) }
     ensures one { OnOk result (ticks.new ≡ next_count ticks.old) }
     ensures none { OnErr result (ticks.new ≡ ticks.old) }
     ensures counted { ticks.new ≤ ticks.old + 1 }
     ensures grows { ticks.old ≤ ticks.new }
 {
-    let made = Arc::new(alloc, node)?;
+    let made = match node {
+        Unmade::Leaf(pair) => Node::Leaf(pair),
+        Unmade::Inner(inner) => Node::Inner(Arc::new(alloc, inner)?),
+    };
     ticks.tick();
     Ok(made)
 }
@@ -99,20 +134,20 @@ pub fn shared<K: Drop, V: Drop>(place: Seen<'_, K, V>) -> Result<Place<K, V>, Al
 {
     match place {
         None => Ok(None),
-        Some(node) => Ok(Some(Arc::try_clone(node)?)),
+        Some(node) => Ok(Some(node.share()?)),
     }
 }
 
 /// The same children, each with one owner more, with room for one more of them.
 pub fn shared_children<K: Drop, V: Drop>(
     alloc: Global,
-    children: &Vec<Arc<Node<K, V>>>,
-) -> Result<Vec<Arc<Node<K, V>>>, AllocError>
+    children: &Vec<Node<K, V>>,
+) -> Result<Vec<Node<K, V>>, AllocError>
     ensures { IfOk result (λ copy. values copy.items ≡ values children.now.items) }
 {
     let mut copy = Vec::with_capacity(alloc, children.len() + 1)?;
     for child in children {
-        copy.push(Arc::try_clone(child)?)?;
+        copy.push(child.share()?)?;
     }
     Ok(copy)
 }
@@ -145,7 +180,7 @@ fn position(bitmap: Bitmap, digit: usize) -> usize
 /// The place of a digit.
 pub fn child_at<'a, K, V>(
     bitmap: Bitmap,
-    children: &'a Vec<Arc<Node<K, V>>>,
+    children: &'a Vec<Node<K, V>>,
     digit: usize,
 ) -> Seen<'a, K, V>
     requires digit { digit < place_count }
@@ -161,7 +196,7 @@ pub fn child_at<'a, K, V>(
 /// One step down: the place of the digit after the prefix, and the prefix with that digit.
 pub fn step<'a, K: Ord, V, H: KeyHash<K>>(
     bitmap: Bitmap,
-    children: &'a Vec<Arc<Node<K, V>>>,
+    children: &'a Vec<Node<K, V>>,
     at: HashPrefix,
 ) -> (Seen<'a, K, V>, HashPrefix)
     requires places { ArePlaces H.hash_of K.cmp (prefix_of at) (places_in bitmap children.now.items) }
@@ -178,7 +213,7 @@ pub fn step<'a, K: Ord, V, H: KeyHash<K>>(
 /// These children with this place in the place of a digit.
 pub fn written<K: Drop, V: Drop>(
     bitmap: Bitmap,
-    mut children: Vec<Arc<Node<K, V>>>,
+    mut children: Vec<Node<K, V>>,
     digit: usize,
     place: Place<K, V>,
 ) -> Result<Children<K, V>, AllocError>
@@ -257,18 +292,18 @@ pub fn grown<K: Drop, V: Drop>(
 pub fn with_place<K: Ord + Drop, V: Drop, H: KeyHash<K>>(
     alloc: Global,
     bitmap: Bitmap,
-    children: Vec<Arc<Node<K, V>>>,
+    children: Vec<Node<K, V>>,
     place: Place<K, V>,
     at: HashPrefix,
     ticks: &mut Ticks,
-) -> Result<Arc<Node<K, V>>, AllocError>
+) -> Result<Node<K, V>, AllocError>
     requires places { ArePlaces H.hash_of K.cmp (prefix_of at) (places_in bitmap children.items) }
     requires dense { IsDense bitmap (length children.items) }
     requires placed { IsPlace H.hash_of K.cmp (node_of place) (first_digits at.hash (at.depth + 1)) }
     requires some { 0 < length (held_with at (places_in bitmap children.items) place) }
     requires fits { length (held_with at (places_in bitmap children.items) place) < 2 ^ 64 }
     ensures held { IfOk result (λ n.
-        Holds H.hash_of K.cmp (prefix_of at) (held_with at (places_in bitmap children.items) place) (Some n.value)) }
+        Holds H.hash_of K.cmp (prefix_of at) (held_with at (places_in bitmap children.items) place) (Some (owned n))) }
     ensures counted { ticks.new ≤ ticks.old + 1 }
     ensures grows { ticks.old ≤ ticks.new }
 {
@@ -277,16 +312,16 @@ pub fn with_place<K: Ord + Drop, V: Drop, H: KeyHash<K>>(
     if let Some(only) = sole(&new.children, len)? {
         return Ok(only);
     }
-    let branch = Node::Branch {
+    let branch = Inner::Branch {
         len,
         bitmap: new.bitmap,
         children: new.children,
     };
-    make(alloc, branch, ticks)
+    make(alloc, Unmade::Inner(branch), ticks)
 }
 
 /// How many entries there are below the children.
-pub fn total<K, V>(children: &[Arc<Node<K, V>>]) -> u64
+pub fn total<K, V>(children: &[Node<K, V>]) -> u64
     requires { sum_by node_len (values children.now) < 2 ^ 64 }
     ensures { result ≡ sum_by node_len (values children.now) }
 {
@@ -305,19 +340,16 @@ pub fn branch_of<K: Drop, V: Drop>(
     ensures counted { ticks.new ≤ ticks.old + 1 }
     ensures grows { ticks.old ≤ ticks.new }
 {
-    let branch = Node::Branch {
+    let branch = Inner::Branch {
         len: total(&made.children),
         bitmap: made.bitmap,
         children: made.children,
     };
-    Ok(Some(make(alloc, branch, ticks)?))
+    Ok(Some(make(alloc, Unmade::Inner(branch), ticks)?))
 }
 
 /// The only node, where there is one entry.
-fn sole<K: Drop, V: Drop>(
-    children: &Vec<Arc<Node<K, V>>>,
-    len: u64,
-) -> Result<Place<K, V>, AllocError>
+fn sole<K: Drop, V: Drop>(children: &Vec<Node<K, V>>, len: u64) -> Result<Place<K, V>, AllocError>
     ensures { IfOk result (λ only. node_of only ≡ sole_node len (values children.now.items)) }
 {
     if len != 1 {
@@ -326,5 +358,5 @@ fn sole<K: Drop, V: Drop>(
     if children.is_empty() {
         return Ok(None);
     }
-    Ok(Some(Arc::try_clone(&children[0])?))
+    Ok(Some(children[0].share()?))
 }

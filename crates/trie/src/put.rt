@@ -3,23 +3,24 @@ ghost use Rattle.std.specs.Prelude.{◌≡◌, ◌+◌, ◌<◌, ◌≤◌, ◌^
 ghost use Rattle.trie.specs.Counts.{next_count};
 ghost use Rattle.trie.specs.Digits.{digit_count};
 ghost use Rattle.trie.specs.Holding.{HasPair, held_at, IsPlaced, IsReached, seen_in};
+ghost use Rattle.trie.specs.Nodes.{owned};
 
 use crate::bucket::{with_entry, with_one};
 use crate::digits::{Bitmap, HashPrefix};
-use crate::node::{Node, Seen, make, shared_children, step, with_place, written};
+use crate::node::{Inner, Node, Seen, Unmade, make, shared_children, step, with_place, written};
 use crate::ticks::Ticks;
 use cells::KeyHash;
 use std::alloc::{AllocError, Global};
 use std::sync::Arc;
 
-/// How far a put goes down: it ends here, with this node in place of the old one, or it goes on
+/// How far a put goes down: it ends here, with a node of this in place of the old one, or it goes on
 /// below these places.
 #[derive(Drop)]
 pub enum Reach<K, V> {
-    Here(Node<K, V>),
+    Here(Unmade<K, V>),
     Below {
         bitmap: Bitmap,
-        children: Vec<Arc<Node<K, V>>>,
+        children: Vec<Node<K, V>>,
     },
 }
 
@@ -30,11 +31,11 @@ pub fn put_at<K: Ord + Drop, V: Drop, H: KeyHash<K>>(
     pair: &Arc<(K, V)>,
     at: HashPrefix,
     ticks: &mut Ticks,
-) -> Result<Arc<Node<K, V>>, AllocError>
+) -> Result<Node<K, V>, AllocError>
     requires hashed { at.hash ≡ H.hash_of pair.now.value.0 }
     requires placed { IsPlaced H.hash_of K.cmp at (seen_in place) }
     requires room { length (held_at place) + 1 < 2 ^ 64 }
-    ensures map { IfOk result (λ n. HasPair H.hash_of K.cmp at pair.now.value (seen_in place.entry) n.value) }
+    ensures map { IfOk result (λ n. HasPair H.hash_of K.cmp at pair.now.value (seen_in place.entry) (owned n)) }
 
     // A node for each digit that is left, and one more; one at least.
     ensures counted { ticks.new + at.depth ≤ ticks.old + (digit_count + 1) }
@@ -63,39 +64,41 @@ fn how_far<K: Ord + Drop, V: Drop, H: KeyHash<K>>(
     ensures { IfOk result (IsReached H.hash_of K.cmp at pair.now.value (seen_in place.entry)) }
 {
     let Some(node) = place else {
-        return Ok(Reach::Here(Node::Leaf(Arc::try_clone(pair)?)));
+        return Ok(Reach::Here(Unmade::Leaf(Arc::try_clone(pair)?)));
     };
-    match &**node {
+    match node {
         Node::Leaf(old) => {
             if pair.0.cmp(&old.0).is_eq() {
-                return Ok(Reach::Here(Node::Leaf(Arc::try_clone(pair)?)));
+                return Ok(Reach::Here(Unmade::Leaf(Arc::try_clone(pair)?)));
             }
             if at.is_whole() {
                 let pairs = with_one(alloc, old, Arc::try_clone(pair)?)?;
-                return Ok(Reach::Here(Node::Bucket(pairs)));
+                return Ok(Reach::Here(Unmade::Inner(Inner::Bucket(pairs))));
             }
             let digit = at.next_of(H::hash(&old.0));
-            let leaf = Arc::try_clone(node)?;
+            let leaf = node.share()?;
             let made = written(0, Vec::new(alloc), digit, Some(leaf))?;
             Ok(Reach::Below {
                 bitmap: made.bitmap,
                 children: made.children,
             })
         }
-        Node::Bucket(pairs) => {
-            let pairs = with_entry(alloc, pairs, Arc::try_clone(pair)?)?;
-            Ok(Reach::Here(Node::Bucket(pairs)))
-        }
-        Node::Branch {
-            bitmap,
-            children,
-            ..
-        } => {
-            let children = shared_children(alloc, children)?;
-            Ok(Reach::Below {
-                bitmap: *bitmap,
+        Node::Inner(inner) => match &**inner {
+            Inner::Bucket(pairs) => {
+                let pairs = with_entry(alloc, pairs, Arc::try_clone(pair)?)?;
+                Ok(Reach::Here(Unmade::Inner(Inner::Bucket(pairs))))
+            }
+            Inner::Branch {
+                bitmap,
                 children,
-            })
-        }
+                ..
+            } => {
+                let children = shared_children(alloc, children)?;
+                Ok(Reach::Below {
+                    bitmap: *bitmap,
+                    children,
+                })
+            }
+        },
     }
 }

@@ -3,12 +3,12 @@ ghost use Rattle.std.specs.Prelude.{◌≡◌, ◌+◌, ◌<◌, ◌≤◌, ◌^
 ghost use Rattle.trie.specs.Digits.{digit_count, digit_order};
 ghost use Rattle.trie.specs.Entries.{value_at};
 ghost use Rattle.trie.specs.Holding.{held_at, IsPlaced, IsRemoved, Misses, pairs_of, prefix_of, seen_in};
+ghost use Rattle.trie.specs.Nodes.{Bucket};
 ghost use Rattle.trie.specs.Tree.{IsPlace};
-ghost use Rattle.trie.specs.declared.node.Node.TheVariants.{Bucket};
 
 use crate::bucket::without;
 use crate::digits::HashPrefix;
-use crate::node::{Node, Place, Seen, make, shared_children, step, with_place};
+use crate::node::{Inner, Node, Place, Seen, Unmade, make, shared_children, step, with_place};
 use crate::ticks::Ticks;
 use cells::KeyHash;
 use std::alloc::{AllocError, Global};
@@ -43,7 +43,7 @@ pub fn remove_at<K: Ord + Drop, V: Drop, H: KeyHash<K>>(
     let Some(node) = place else {
         return Ok(Removed::Missing);
     };
-    match &**node {
+    match node {
         Node::Leaf(pair) => {
             if key.cmp(&pair.0).is_eq() {
                 Ok(Removed::Left(None))
@@ -51,20 +51,23 @@ pub fn remove_at<K: Ord + Drop, V: Drop, H: KeyHash<K>>(
                 Ok(Removed::Missing)
             }
         }
-        Node::Bucket(pairs) => remove_from_bucket::<K, V, H>(alloc, pairs, key, at, ticks),
-        Node::Branch {
-            bitmap,
-            children,
-            ..
-        } => {
-            let (child, below) = step::<K, V, H>(*bitmap, children, at);
-            let Removed::Left(rest) = remove_at::<K, V, H>(alloc, child, key, below, ticks)? else {
-                return Ok(Removed::Missing);
-            };
-            let children = shared_children(alloc, children)?;
-            let node = with_place::<K, V, H>(alloc, *bitmap, children, rest, at, ticks)?;
-            Ok(Removed::Left(Some(node)))
-        }
+        Node::Inner(inner) => match &**inner {
+            Inner::Bucket(pairs) => remove_from_bucket::<K, V, H>(alloc, pairs, key, at, ticks),
+            Inner::Branch {
+                bitmap,
+                children,
+                ..
+            } => {
+                let (child, below) = step::<K, V, H>(*bitmap, children, at);
+                let Removed::Left(rest) = remove_at::<K, V, H>(alloc, child, key, below, ticks)?
+                else {
+                    return Ok(Removed::Missing);
+                };
+                let children = shared_children(alloc, children)?;
+                let node = with_place::<K, V, H>(alloc, *bitmap, children, rest, at, ticks)?;
+                Ok(Removed::Left(Some(node)))
+            }
+        },
     }
 }
 
@@ -88,9 +91,9 @@ fn remove_from_bucket<K: Ord + Drop, V: Drop, H: KeyHash<K>>(
         return Ok(Removed::Missing);
     };
     if left.len() > 1 {
-        let node = make(alloc, Node::Bucket(left), ticks)?;
+        let node = make(alloc, Unmade::Inner(Inner::Bucket(left)), ticks)?;
         return Ok(Removed::Left(Some(node)));
     }
-    let node = make(alloc, Node::Leaf(left.remove(0)), ticks)?;
+    let node = make(alloc, Unmade::Leaf(left.remove(0)), ticks)?;
     Ok(Removed::Left(Some(node)))
 }

@@ -11,12 +11,11 @@ ghost use Rattle.trie.specs.Shapes.{prefix_text, shape_below, shape_of};
 ghost use Rattle.trie.specs.Tree.{entries_in, IsPlace};
 
 use crate::digits::{Bitmap, PLACES, digit_text};
-use crate::node::{Node, Seen, child_at};
+use crate::node::{Inner, Node, Seen, child_at};
 use cells::KeyHash;
 use std::alloc::{AllocError, Global};
 use std::fmt;
 use std::marker::Model;
-use std::sync::Arc;
 
 /// The shape of a map: each prefix of digits that two keys or more share, with their number, in order,
 /// a prefix before those that extend it.
@@ -133,30 +132,32 @@ fn with_shape<K: Ord, V, H: KeyHash<K>>(
     let Some(node) = place else {
         return Ok(list);
     };
-    match &**node {
+    match node {
         Node::Leaf(_) => Ok(list),
-        Node::Bucket(pairs) => with_number(alloc, list, prefix, pairs.len() as u64),
-        Node::Branch {
-            len,
-            bitmap,
-            children,
-        } => {
-            let mut shape = with_number(alloc, list, prefix, *len)?;
-            for digit in 0..PLACES {
-                if !is_shared(*bitmap, children, digit) {
-                    continue;
+        Node::Inner(inner) => match &**inner {
+            Inner::Bucket(pairs) => with_number(alloc, list, prefix, pairs.len() as u64),
+            Inner::Branch {
+                len,
+                bitmap,
+                children,
+            } => {
+                let mut shape = with_number(alloc, list, prefix, *len)?;
+                for digit in 0..PLACES {
+                    if !is_shared(*bitmap, children, digit) {
+                        continue;
+                    }
+                    let (place, longer) = step::<K, V, H>(alloc, *bitmap, children, prefix, digit)?;
+                    shape = with_shape::<K, V, H>(alloc, shape, &longer, place)?;
                 }
-                let (place, longer) = step::<K, V, H>(alloc, *bitmap, children, prefix, digit)?;
-                shape = with_shape::<K, V, H>(alloc, shape, &longer, place)?;
+                Ok(shape)
             }
-            Ok(shape)
-        }
+        },
     }
 }
 
 /// Whether two keys or more share the prefix that ends in this digit. Below an empty place there is none and below a leaf
 /// one, so no prefix is made for them.
-fn is_shared<K, V>(bitmap: Bitmap, children: &Vec<Arc<Node<K, V>>>, digit: usize) -> bool
+fn is_shared<K, V>(bitmap: Bitmap, children: &Vec<Node<K, V>>, digit: usize) -> bool
     requires digit { digit < place_count }
     requires dense { IsDense bitmap (length children.now.items) }
     ensures { result ≡ false → length (entries_in (get_or (places_in bitmap children.now.items) digit None)) < 2 }
@@ -164,7 +165,7 @@ fn is_shared<K, V>(bitmap: Bitmap, children: &Vec<Arc<Node<K, V>>>, digit: usize
     let Some(node) = child_at(bitmap, children, digit) else {
         return false;
     };
-    !matches!(&**node, Node::Leaf(_))
+    !matches!(node, Node::Leaf(_))
 }
 
 /// The list with a prefix and its number behind it.
@@ -185,7 +186,7 @@ fn with_number(
 fn step<'a, K: Ord, V, H: KeyHash<K>>(
     alloc: Global,
     bitmap: Bitmap,
-    children: &'a Vec<Arc<Node<K, V>>>,
+    children: &'a Vec<Node<K, V>>,
     prefix: &Prefix,
     digit: usize,
 ) -> Result<(Seen<'a, K, V>, Prefix), AllocError>

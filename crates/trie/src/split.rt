@@ -4,24 +4,24 @@ ghost use Rattle.std.specs.Map.{keys_of};
 ghost use Rattle.trie.specs.Cuts.{IsPiece};
 ghost use Rattle.trie.specs.Maps.{RiseByHash};
 ghost use Rattle.trie.specs.Walks.{MayTakeAll, TakesAll};
-ghost use Rattle.trie.specs.Tree.{entries};
 ghost use Rattle.trie.specs.Holding.{lent, seen_in};
+ghost use Rattle.trie.specs.Nodes.{owned};
+ghost use Rattle.trie.specs.Tree.{entries};
 ghost use Rattle.trie.specs.Splitting.{IsCut, IsCuttable};
 
 use crate::cutting::Cutting;
 use crate::digits::PLACES;
 use crate::entries::with_entries;
-use crate::node::{Node, Seen, child_at};
+use crate::node::{Inner, Node, Seen, child_at};
 use crate::walk::{Visitor, walk_node};
 use cells::KeyHash;
 use std::alloc::{AllocError, Global};
 use std::marker::{Model, PhantomData};
-use std::sync::Arc;
 
 /// A part of a map: the entries below one prefix, seen as their list.
 #[derive(Drop)]
 pub struct Piece<K: Ord, V, H: KeyHash<K>> {
-    node: Arc<Node<K, V>>,
+    node: Node<K, V>,
     hash: PhantomData<H>,
 }
 
@@ -31,11 +31,12 @@ impl<K: Ord, V, H: KeyHash<K>> Model for Piece<K, V, H> {
     ghost Value = { List (K × V) };
 
     ghost use Rattle.trie.specs.Cuts.{IsPiece};
+    ghost use Rattle.trie.specs.Nodes.{owned};
     ghost use Rattle.trie.specs.Tree.{entries};
 
-    ghost view = { λ p. entries p.node.value };
+    ghost view = { λ p. entries (owned p.node) };
 
-    ghost invariant = { λ p. IsPiece H.hash_of K.cmp p.node.value };
+    ghost invariant = { λ p. IsPiece H.hash_of K.cmp (owned p.node) };
 }
 
 impl<K: Ord, V, H: KeyHash<K>> Piece<K, V, H> {
@@ -75,23 +76,25 @@ pub fn with_pieces<K: Ord + Drop, V: Drop, H: KeyHash<K>>(
     let Some(node) = place else {
         return Ok(list);
     };
-    match &**node {
+    match node {
         Node::Leaf(_) => with_piece(list, node),
-        Node::Bucket(_) => with_piece(list, node),
-        Node::Branch {
-            len,
-            bitmap,
-            children,
-        } => {
-            if !is_opened(*len, cutting, depth) {
-                return with_piece(list, node);
+        Node::Inner(inner) => match &**inner {
+            Inner::Bucket(_) => with_piece(list, node),
+            Inner::Branch {
+                len,
+                bitmap,
+                children,
+            } => {
+                if !is_opened(*len, cutting, depth) {
+                    return with_piece(list, node);
+                }
+                for digit in 0..PLACES {
+                    let child = child_at(*bitmap, children, digit);
+                    list = with_pieces::<K, V, H>(list, child, cutting, depth + 1)?;
+                }
+                Ok(list)
             }
-            for digit in 0..PLACES {
-                let child = child_at(*bitmap, children, digit);
-                list = with_pieces::<K, V, H>(list, child, cutting, depth + 1)?;
-            }
-            Ok(list)
-        }
+        },
     }
 }
 
@@ -105,13 +108,13 @@ fn is_opened(len: u64, cutting: &Cutting, depth: u32) -> bool
 /// The list with the node as a piece behind it.
 fn with_piece<K: Ord + Drop, V: Drop, H: KeyHash<K>>(
     mut list: Vec<Piece<K, V, H>>,
-    node: &Arc<Node<K, V>>,
+    node: &Node<K, V>,
 ) -> Result<Vec<Piece<K, V, H>>, AllocError>
-    requires { IsPiece H.hash_of K.cmp node.now.value }
-    ensures { IfOk result (λ v. v.items ≡ list.items ++ entries node.now.value ∷ []) }
+    requires { IsPiece H.hash_of K.cmp (owned node.now) }
+    ensures { IfOk result (λ v. v.items ≡ list.items ++ entries (owned node.now) ∷ []) }
 {
     list.push(Piece {
-        node: Arc::try_clone(node)?,
+        node: node.share()?,
         hash: PhantomData,
     })?;
     Ok(list)

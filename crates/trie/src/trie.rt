@@ -45,7 +45,7 @@ impl<K: Ord, V, H: KeyHash<K>> Model for Trie<K, V, H> {
     ghost Value = { List (K × V) };
 
     ghost use Rattle.trie.specs.Holding.{held_in, IsTrie};
-    ghost use Rattle.trie.specs.Tree.{node_of};
+    ghost use Rattle.trie.specs.Nodes.{node_of};
 
     ghost view = { λ t. held_in t.root };
 

@@ -1,10 +1,11 @@
 //! Lending the entries of a map one after another, with no list of them.
 ghost use Rattle.std.specs.Prelude.{OnOk};
 ghost use Rattle.trie.specs.Holding.{pairs_of};
+ghost use Rattle.trie.specs.Nodes.{owned};
 ghost use Rattle.trie.specs.Tree.{entries};
 ghost use Rattle.trie.specs.Walks.{MayTakeAll, TakesAll};
 
-use crate::node::Node;
+use crate::node::{Inner, Node};
 use std::alloc::AllocError;
 use std::sync::Arc;
 
@@ -24,27 +25,29 @@ pub trait Visitor<K, V> {
 
 /// Lends the entries of the node, in digit order.
 pub fn walk_node<K, V, W: Visitor<K, V>>(
-    node: &Arc<Node<K, V>>,
+    node: &Node<K, V>,
     visitor: &mut W,
 ) -> Result<(), AllocError>
-    requires { MayTakeAll W.asks W.takes visitor.old (entries node.now.value) }
-    ensures { OnOk result (TakesAll W.takes visitor.old (entries node.now.value) visitor.new) }
+    requires { MayTakeAll W.asks W.takes visitor.old (entries (owned node.now)) }
+    ensures { OnOk result (TakesAll W.takes visitor.old (entries (owned node.now)) visitor.new) }
 {
-    match &**node {
+    match node {
         Node::Leaf(pair) => {
             visitor.visit(&pair.0, &pair.1)?;
             Ok(())
         }
-        Node::Bucket(pairs) => {
-            walk_pairs(pairs, visitor)?;
-            Ok(())
-        }
-        Node::Branch { children, .. } => {
-            for child in children {
-                walk_node(child, visitor)?;
+        Node::Inner(inner) => match &**inner {
+            Inner::Bucket(pairs) => {
+                walk_pairs(pairs, visitor)?;
+                Ok(())
             }
-            Ok(())
-        }
+            Inner::Branch { children, .. } => {
+                for child in children {
+                    walk_node(child, visitor)?;
+                }
+                Ok(())
+            }
+        },
     }
 }
 

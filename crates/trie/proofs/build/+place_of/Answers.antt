@@ -5,7 +5,7 @@ use Rattle.std.proofs.lemmas.Result.{IfOk-weaker}
 use Rattle.trie.specs.Building.{AreMadeOf, AreMadeOnce, AreMadeWhole, HaveOnePrefix, pairs_in}
 use Rattle.trie.specs.Dense.{places_in}
 use Rattle.trie.specs.Digits.{digit_count, place_count}
-use Rattle.trie.specs.Tree.{node_of, values}
+use Rattle.trie.specs.Nodes.{node_of, values}
 use Rattle.trie.specs.declared.build.Hashed.{Hashed}
 use Rattle.trie.proofs.BuildLemmas.{branch_fits, branch_made, bucket_made, leaf_made, made_more, more_keys, none_made, part_below}
 use Rattle.trie.proofs.CountLemmas.{counts_none, counts_one}
@@ -69,7 +69,7 @@ pub returns-then-have_key_of-clause-made : goal.returns-then-have_key_of-clause-
 returns-then-have_key_of-clause-made g t c =
     let laws = hashes g.met.K.Ord.total g.met.K.Ord.matches_eq g.met.H.KeyHash.respects_eq in
     leaf_made g.H.KeyHash.hash_of g.K.Ord.cmp laws c.args.depth c.args.pairs.now c.in-Some.last.now c.in-Some.ensures.value
-    (sym c.if-have_key_of.ensures) c.in_ok-try_clone.field-0 c.in_ok-try_clone.ensures _ (ap Some c.in_ok-make.ensures.made)
+    (sym c.if-have_key_of.ensures) c.in_ok-try_clone.field-0.value c.in_ok-try_clone.ensures _ (ap Some c.in_ok-make.ensures.made)
 
 pub returns-then-depth-eq-DIGITS-clause-made : goal.returns-then-depth-eq-DIGITS-clause-made
 returns-then-depth-eq-DIGITS-clause-made g t c =
@@ -234,7 +234,7 @@ returns-in_default-clause-whole g t c = whole_none g.H.KeyHash.hash_of g.K.Ord.c
 
 pub returns-then-have_key_of-clause-whole : goal.returns-then-have_key_of-clause-whole
 returns-then-have_key_of-clause-whole g t c =
-    whole_leaf g.H.KeyHash.hash_of g.K.Ord.cmp c.args.depth _ c.in_ok-try_clone.field-0 _ _ c.in_ok-make.ensures.one (ap Some c.in_ok-make.ensures.made)
+    whole_leaf g.H.KeyHash.hash_of g.K.Ord.cmp c.args.depth _ c.in_ok-try_clone.field-0.value _ _ c.in_ok-make.ensures.one (ap Some c.in_ok-make.ensures.made)
 
 pub returns-then-depth-eq-DIGITS-clause-whole : goal.returns-then-depth-eq-DIGITS-clause-whole
 returns-then-depth-eq-DIGITS-clause-whole g t c =

@@ -1,27 +1,28 @@
 use Rattle.std.proofs.Common.{◌≡◌, ap, rules}
 use Rattle.trie.specs.Dense.{places_in, places_of}
+use Rattle.trie.specs.Nodes.{owned}
 use Rattle.trie.proofs.CountLemmas.{counts_above, counts_below}
 use Rattle.trie.proofs.LayLemmas.{laid_bounds, laid_whole, lay_below}
 use Rattle.trie.proofs.MapsLemmas.{hashes}
-use Rattle.trie.proofs.VariantsLemmas.{branch_dense, branch_in, place_is}
+use Rattle.trie.proofs.VariantsLemmas.{branch_dense, branch_in, inner_is}
 use Rattle.trie.proofs.WriteLemmas.{shared_places}
 use Rattle.trie.proofs.lay.+lay_at.Goals as goal
 
 pub step-requires-clause-dense : goal.step-requires-clause-dense
 step-requires-clause-dense g t c =
     branch_dense g.H.KeyHash.hash_of g.K.Ord.cmp _ _ _ _ _
-    (place_is _ _ _ _ c.in-Some.is c.deref.ensures c.in-Branch.is) c.requires.can.placed
+    (inner_is _ _ _ _ _ c.in-Some.is c.in-Inner.is c.deref.ensures c.in-Branch.is) c.requires.can.placed
 
 pub step-requires-clause-places : goal.step-requires-clause-places
 step-requires-clause-places g t c =
     (branch_in g.H.KeyHash.hash_of g.K.Ord.cmp _ _ _ _ _
-    (place_is _ _ _ _ c.in-Some.is c.deref.ensures c.in-Branch.is) c.requires.can.placed).places_are
+    (inner_is _ _ _ _ _ c.in-Some.is c.in-Inner.is c.deref.ensures c.in-Branch.is) c.requires.can.placed).places_are
 
 pub lay_at-requires : goal.lay_at-requires
 lay_at-requires g t c =
     let branch =
     branch_in g.H.KeyHash.hash_of g.K.Ord.cmp _ _ _ _ _
-    (place_is _ _ _ _ c.in-Some.is c.deref.ensures c.in-Branch.is) c.requires.can.placed in
+    (inner_is _ _ _ _ _ c.in-Some.is c.in-Inner.is c.deref.ensures c.in-Branch.is) c.requires.can.placed in
     let can =
     lay_below g.H.KeyHash.hash_of g.K.Ord.cmp (hashes g.met.K.Ord.total g.met.K.Ord.matches_eq g.met.H.KeyHash.respects_eq)
     _ (g.B.Blend.blend_of c.args.blend.now) c.args.at c.args.at.within _ branch.places_are _ _ _ c.requires.can branch.entries_are _ c.step.ensures.place
@@ -32,7 +33,7 @@ pub with_place-requires-clause-dense : goal.with_place-requires-clause-dense
 with_place-requires-clause-dense g t c =
     let dense =
     branch_dense g.H.KeyHash.hash_of g.K.Ord.cmp _ _ _ _ _
-    (place_is _ _ _ _ c.in-Some.is c.deref.ensures c.in-Branch.is) c.requires.can.placed in
+    (inner_is _ _ _ _ _ c.in-Some.is c.in-Inner.is c.deref.ensures c.in-Branch.is) c.requires.can.placed in
     (shared_places c.in-Branch.bitmap c.in_ok-children.children.items c.in-Branch.children.items
     c.in_ok-children.ensures dense).dense
 
@@ -42,7 +43,7 @@ with_place-requires-clause-places g t c =
     ap (places_of c.in-Branch.bitmap) c.in_ok-children.ensures in
     let branch =
     branch_in g.H.KeyHash.hash_of g.K.Ord.cmp _ _ _ _ _
-    (place_is _ _ _ _ c.in-Some.is c.deref.ensures c.in-Branch.is) c.requires.can.placed in
+    (inner_is _ _ _ _ _ c.in-Some.is c.in-Inner.is c.deref.ensures c.in-Branch.is) c.requires.can.placed in
     rw same branch.places_are
 
 pub with_place-requires-clause-some : goal.with_place-requires-clause-some
@@ -51,11 +52,11 @@ with_place-requires-clause-some g t c =
     ap (places_of c.in-Branch.bitmap) c.in_ok-children.ensures in
     let branch =
     branch_in g.H.KeyHash.hash_of g.K.Ord.cmp _ _ _ _ _
-    (place_is _ _ _ _ c.in-Some.is c.deref.ensures c.in-Branch.is) c.requires.can.placed in
+    (inner_is _ _ _ _ _ c.in-Some.is c.in-Inner.is c.deref.ensures c.in-Branch.is) c.requires.can.placed in
     let laws = hashes g.met.K.Ord.total g.met.K.Ord.matches_eq g.met.H.KeyHash.respects_eq in
     let whole =
     laid_whole g.H.KeyHash.hash_of g.K.Ord.cmp laws _ (g.B.Blend.blend_of c.args.blend.now) c.args.at c.args.at.within _ branch.places_are _ _ _ c.requires.can
-    branch.entries_are _ c.step.ensures.place c.in_ok-child.child.value c.in_ok-child.ensures.map.entries_are in
+    branch.entries_are _ c.step.ensures.place (owned c.in_ok-child.child) c.in_ok-child.ensures.map.entries_are in
     rw same (laid_bounds g.H.KeyHash.hash_of g.K.Ord.cmp laws _ (g.B.Blend.blend_of c.args.blend.now) c.args.at c.args.at.within _ branch.places_are _ _ _ c.requires.can
     branch.entries_are _ c.step.ensures.place _ whole).some
 
@@ -65,11 +66,11 @@ with_place-requires-clause-fits g t c =
     ap (places_of c.in-Branch.bitmap) c.in_ok-children.ensures in
     let branch =
     branch_in g.H.KeyHash.hash_of g.K.Ord.cmp _ _ _ _ _
-    (place_is _ _ _ _ c.in-Some.is c.deref.ensures c.in-Branch.is) c.requires.can.placed in
+    (inner_is _ _ _ _ _ c.in-Some.is c.in-Inner.is c.deref.ensures c.in-Branch.is) c.requires.can.placed in
     let laws = hashes g.met.K.Ord.total g.met.K.Ord.matches_eq g.met.H.KeyHash.respects_eq in
     let whole =
     laid_whole g.H.KeyHash.hash_of g.K.Ord.cmp laws _ (g.B.Blend.blend_of c.args.blend.now) c.args.at c.args.at.within _ branch.places_are _ _ _ c.requires.can
-    branch.entries_are _ c.step.ensures.place c.in_ok-child.child.value c.in_ok-child.ensures.map.entries_are in
+    branch.entries_are _ c.step.ensures.place (owned c.in_ok-child.child) c.in_ok-child.ensures.map.entries_are in
     rw same (laid_bounds g.H.KeyHash.hash_of g.K.Ord.cmp laws _ (g.B.Blend.blend_of c.args.blend.now) c.args.at c.args.at.within _ branch.places_are _ _ _ c.requires.can
     branch.entries_are _ c.step.ensures.place _ whole).fits
 
@@ -79,11 +80,11 @@ returns-clause-map g t c =
     ap (places_of c.in-Branch.bitmap) c.in_ok-children.ensures in
     let branch =
     branch_in g.H.KeyHash.hash_of g.K.Ord.cmp _ _ _ _ _
-    (place_is _ _ _ _ c.in-Some.is c.deref.ensures c.in-Branch.is) c.requires.can.placed in
+    (inner_is _ _ _ _ _ c.in-Some.is c.in-Inner.is c.deref.ensures c.in-Branch.is) c.requires.can.placed in
     let laws = hashes g.met.K.Ord.total g.met.K.Ord.matches_eq g.met.H.KeyHash.respects_eq in
     let whole =
     laid_whole g.H.KeyHash.hash_of g.K.Ord.cmp laws _ (g.B.Blend.blend_of c.args.blend.now) c.args.at c.args.at.within _ branch.places_are _ _ _ c.requires.can
-    branch.entries_are _ c.step.ensures.place c.in_ok-child.child.value c.in_ok-child.ensures.map.entries_are in
+    branch.entries_are _ c.step.ensures.place (owned c.in_ok-child.child) c.in_ok-child.ensures.map.entries_are in
     rw (← whole) (rw same at c.with_place.ensures.held)
 
 pub with_place-requires-clause-placed : goal.with_place-requires-clause-placed

@@ -1,6 +1,6 @@
 use Rattle.std.proofs.Common.{◌≡◌, None, Some, ap, refl}
-use Rattle.trie.specs.Tree.{node_of}
 use Rattle.trie.proofs.WriteLemmas.{written_end, written_last}
+use Rattle.trie.specs.Nodes.{node_of, owned}
 use Rattle.trie.proofs.node.grown.Goals as goal
 
 pub returns-in_default-clause-written : goal.returns-in_default-clause-written
@@ -10,6 +10,6 @@ returns-in_default-clause-written g c =
 
 pub returns-clause-written : goal.returns-clause-written
 returns-clause-written g c =
-    let some : node_of c.args.place ≡ Some c.in-Some.child.value = ap node_of c.in-Some.is in
+    let some : node_of c.args.place ≡ Some (owned c.in-Some.child) = ap node_of c.in-Some.is in
     rw some (written_last c.args.made.bitmap c.args.made.children c.requires.dense c.args.digit c.requires.digit c.requires.before
     c.in-Some.child c.push.new.self c.in_ok-push.ensures.items _ (rw c.bit.ensures refl))

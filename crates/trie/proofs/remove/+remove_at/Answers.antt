@@ -9,32 +9,32 @@ use Rattle.trie.proofs.WriteLemmas.{shared_places}
 use Rattle.trie.proofs.OrderLemmas.{same_hash, value_at-order, without_key-order}
 use Rattle.trie.proofs.PlacesLemmas.{value_at-below, without_key-below, without_key-bounds, without_key-missing}
 use Rattle.trie.proofs.RemoveLemmas.{value_alone}
-use Rattle.trie.proofs.VariantsLemmas.{branch_dense, branch_in, leaf_in, place_is}
+use Rattle.trie.proofs.VariantsLemmas.{branch_dense, branch_in, leaf_in, inner_is, leaf_is}
 use Rattle.trie.proofs.remove.+remove_at.Goals as goal
 
 pub step-requires-clause-dense : goal.step-requires-clause-dense
 step-requires-clause-dense g t c =
     branch_dense g.H.KeyHash.hash_of g.K.Ord.cmp _ _ _ _ _
-    (place_is _ _ _ _ c.in-Some.is c.deref.ensures c.in-Branch.is) c.requires.placed
+    (inner_is _ _ _ _ _ c.in-Some.is c.in-Inner.is c.deref-in-Inner.ensures c.in-Branch.is) c.requires.placed
 
 pub with_place-requires-clause-dense : goal.with_place-requires-clause-dense
 with_place-requires-clause-dense g t c =
     let dense =
     branch_dense g.H.KeyHash.hash_of g.K.Ord.cmp _ _ _ _ _
-    (place_is _ _ _ _ c.in-Some.is c.deref.ensures c.in-Branch.is) c.requires.placed in
+    (inner_is _ _ _ _ _ c.in-Some.is c.in-Inner.is c.deref-in-Inner.ensures c.in-Branch.is) c.requires.placed in
     (shared_places c.in-Branch.bitmap c.in_ok-children-in-Branch.children.items c.in-Branch.children.items
     c.in_ok-children-in-Branch.ensures dense).dense
 
 pub step-requires-clause-places : goal.step-requires-clause-places
 step-requires-clause-places g t c =
     (branch_in g.H.KeyHash.hash_of g.K.Ord.cmp _ _ _ _ _
-    (place_is _ _ _ _ c.in-Some.is c.deref.ensures c.in-Branch.is) c.requires.placed).places_are
+    (inner_is _ _ _ _ _ c.in-Some.is c.in-Inner.is c.deref-in-Inner.ensures c.in-Branch.is) c.requires.placed).places_are
 
 pub remove_at-requires : goal.remove_at-requires
 remove_at-requires g t c =
     let branch =
     branch_in g.H.KeyHash.hash_of g.K.Ord.cmp _ _ _ _ _
-    (place_is _ _ _ _ c.in-Some.is c.deref.ensures c.in-Branch.is) c.requires.placed in
+    (inner_is _ _ _ _ _ c.in-Some.is c.in-Inner.is c.deref-in-Inner.ensures c.in-Branch.is) c.requires.placed in
     let fits : length (entries_in (seen_in c.step.result.0)) < 2 ^ 64 =
     omega (arith, c.step.ensures.fewer, ap length branch.entries_are, c.requires.fits) in
     search rules
@@ -43,7 +43,7 @@ pub returns-in_default-2-clause-map : goal.returns-in_default-2-clause-map
 returns-in_default-2-clause-map g t c =
     let branch =
     branch_in g.H.KeyHash.hash_of g.K.Ord.cmp _ _ _ _ _
-    (place_is _ _ _ _ c.in-Some.is c.deref.ensures c.in-Branch.is) c.requires.placed in
+    (inner_is _ _ _ _ _ c.in-Some.is c.in-Inner.is c.deref-in-Inner.ensures c.in-Branch.is) c.requires.placed in
     rw branch.entries_are
     (without_key-missing g.H.KeyHash.hash_of g.K.Ord.cmp _ _ c.args.at.within _ branch.places_are c.args.key.now
     c.requires.hashed _ c.step.ensures.place (rw c.in_default-2.is at c.in_ok-rest-in-Branch.ensures.map))
@@ -54,7 +54,7 @@ with_place-requires-clause-places g t c =
     ap (places_of c.in-Branch.bitmap) c.in_ok-children-in-Branch.ensures in
     let branch =
     branch_in g.H.KeyHash.hash_of g.K.Ord.cmp _ _ _ _ _
-    (place_is _ _ _ _ c.in-Some.is c.deref.ensures c.in-Branch.is) c.requires.placed in
+    (inner_is _ _ _ _ _ c.in-Some.is c.in-Inner.is c.deref-in-Inner.ensures c.in-Branch.is) c.requires.placed in
     rw same branch.places_are
 
 pub with_place-requires-clause-some : goal.with_place-requires-clause-some
@@ -63,7 +63,7 @@ with_place-requires-clause-some g t c =
     ap (places_of c.in-Branch.bitmap) c.in_ok-children-in-Branch.ensures in
     let branch =
     branch_in g.H.KeyHash.hash_of g.K.Ord.cmp _ _ _ _ _
-    (place_is _ _ _ _ c.in-Some.is c.deref.ensures c.in-Branch.is) c.requires.placed in
+    (inner_is _ _ _ _ _ c.in-Some.is c.in-Inner.is c.deref-in-Inner.ensures c.in-Branch.is) c.requires.placed in
     let rest = rw c.in-Left.is at c.in_ok-rest-in-Branch.ensures.map in
     let bounds =
     without_key-bounds g.H.KeyHash.hash_of g.K.Ord.cmp _ _ c.args.at.within _ branch.places_are c.args.key.now
@@ -76,7 +76,7 @@ with_place-requires-clause-fits g t c =
     ap (places_of c.in-Branch.bitmap) c.in_ok-children-in-Branch.ensures in
     let branch =
     branch_in g.H.KeyHash.hash_of g.K.Ord.cmp _ _ _ _ _
-    (place_is _ _ _ _ c.in-Some.is c.deref.ensures c.in-Branch.is) c.requires.placed in
+    (inner_is _ _ _ _ _ c.in-Some.is c.in-Inner.is c.deref-in-Inner.ensures c.in-Branch.is) c.requires.placed in
     let rest = rw c.in-Left.is at c.in_ok-rest-in-Branch.ensures.map in
     let bounds =
     without_key-bounds g.H.KeyHash.hash_of g.K.Ord.cmp _ _ c.args.at.within _ branch.places_are c.args.key.now
@@ -86,7 +86,7 @@ with_place-requires-clause-fits g t c =
 pub returns-then-is_eq-clause-map : goal.returns-then-is_eq-clause-map
 returns-then-is_eq-clause-map g t c =
     let leaf =
-    leaf_in g.H.KeyHash.hash_of g.K.Ord.cmp _ _ _ (place_is _ _ _ _ c.in-Some.is c.deref.ensures c.in-Leaf.is)
+    leaf_in g.H.KeyHash.hash_of g.K.Ord.cmp _ _ _ (leaf_is _ _ _ c.in-Some.is c.in-Leaf.is)
     c.requires.placed in
     let same =
     same_hash g.H.KeyHash.hash_of g.K.Ord.cmp g.K.PartialEq.eq g.met.K.Ord.matches_eq
@@ -99,7 +99,7 @@ returns-in_ok-node-in-Branch-clause-map g t c =
     ap (places_of c.in-Branch.bitmap) c.in_ok-children-in-Branch.ensures in
     let branch =
     branch_in g.H.KeyHash.hash_of g.K.Ord.cmp _ _ _ _ _
-    (place_is _ _ _ _ c.in-Some.is c.deref.ensures c.in-Branch.is) c.requires.placed in
+    (inner_is _ _ _ _ _ c.in-Some.is c.in-Inner.is c.deref-in-Inner.ensures c.in-Branch.is) c.requires.placed in
     let rest = rw c.in-Left.is at c.in_ok-rest-in-Branch.ensures.map in
     let whole =
     without_key-below g.H.KeyHash.hash_of g.K.Ord.cmp _ _ c.args.at.within _ branch.places_are c.args.key.now
@@ -110,7 +110,7 @@ pub returns-in_err-rest-in-Branch-clause-missed : goal.returns-in_err-rest-in-Br
 returns-in_err-rest-in-Branch-clause-missed g t c = λ none.
     let branch =
     branch_in g.H.KeyHash.hash_of g.K.Ord.cmp _ _ _ _ _
-    (place_is _ _ _ _ c.in-Some.is c.deref.ensures c.in-Branch.is) c.requires.placed in
+    (inner_is _ _ _ _ _ c.in-Some.is c.in-Inner.is c.deref-in-Inner.ensures c.in-Branch.is) c.requires.placed in
     let below =
     value_at-below g.H.KeyHash.hash_of g.K.Ord.cmp _ _ c.args.at.within _ branch.places_are c.args.key.now
     c.requires.hashed _ c.step.ensures.place in
@@ -122,7 +122,7 @@ pub returns-in_default-2-clause-missed : goal.returns-in_default-2-clause-missed
 returns-in_default-2-clause-missed g t c = λ none.
     let branch =
     branch_in g.H.KeyHash.hash_of g.K.Ord.cmp _ _ _ _ _
-    (place_is _ _ _ _ c.in-Some.is c.deref.ensures c.in-Branch.is) c.requires.placed in
+    (inner_is _ _ _ _ _ c.in-Some.is c.in-Inner.is c.deref-in-Inner.ensures c.in-Branch.is) c.requires.placed in
     let below =
     value_at-below g.H.KeyHash.hash_of g.K.Ord.cmp _ _ c.args.at.within _ branch.places_are c.args.key.now
     c.requires.hashed _ c.step.ensures.place in
@@ -133,7 +133,7 @@ pub returns-in_err-children-in-Branch-clause-missed :
 returns-in_err-children-in-Branch-clause-missed g t c = λ none.
     let branch =
     branch_in g.H.KeyHash.hash_of g.K.Ord.cmp _ _ _ _ _
-    (place_is _ _ _ _ c.in-Some.is c.deref.ensures c.in-Branch.is) c.requires.placed in
+    (inner_is _ _ _ _ _ c.in-Some.is c.in-Inner.is c.deref-in-Inner.ensures c.in-Branch.is) c.requires.placed in
     let below =
     value_at-below g.H.KeyHash.hash_of g.K.Ord.cmp _ _ c.args.at.within _ branch.places_are c.args.key.now
     c.requires.hashed _ c.step.ensures.place in
@@ -143,7 +143,7 @@ pub returns-in_err-node-in-Branch-clause-missed : goal.returns-in_err-node-in-Br
 returns-in_err-node-in-Branch-clause-missed g t c = λ none.
     let branch =
     branch_in g.H.KeyHash.hash_of g.K.Ord.cmp _ _ _ _ _
-    (place_is _ _ _ _ c.in-Some.is c.deref.ensures c.in-Branch.is) c.requires.placed in
+    (inner_is _ _ _ _ _ c.in-Some.is c.in-Inner.is c.deref-in-Inner.ensures c.in-Branch.is) c.requires.placed in
     let below =
     value_at-below g.H.KeyHash.hash_of g.K.Ord.cmp _ _ c.args.at.within _ branch.places_are c.args.key.now
     c.requires.hashed _ c.step.ensures.place in
@@ -153,7 +153,7 @@ pub returns-in_ok-node-in-Branch-clause-missed : goal.returns-in_ok-node-in-Bran
 returns-in_ok-node-in-Branch-clause-missed g t c = λ none.
     let branch =
     branch_in g.H.KeyHash.hash_of g.K.Ord.cmp _ _ _ _ _
-    (place_is _ _ _ _ c.in-Some.is c.deref.ensures c.in-Branch.is) c.requires.placed in
+    (inner_is _ _ _ _ _ c.in-Some.is c.in-Inner.is c.deref-in-Inner.ensures c.in-Branch.is) c.requires.placed in
     let below =
     value_at-below g.H.KeyHash.hash_of g.K.Ord.cmp _ _ c.args.at.within _ branch.places_are c.args.key.now
     c.requires.hashed _ c.step.ensures.place in
@@ -162,7 +162,7 @@ returns-in_ok-node-in-Branch-clause-missed g t c = λ none.
 pub returns-then-is_eq-clause-missed : goal.returns-then-is_eq-clause-missed
 returns-then-is_eq-clause-missed g t c = λ none.
     let leaf =
-    leaf_in g.H.KeyHash.hash_of g.K.Ord.cmp _ _ _ (place_is _ _ _ _ c.in-Some.is c.deref.ensures c.in-Leaf.is)
+    leaf_in g.H.KeyHash.hash_of g.K.Ord.cmp _ _ _ (leaf_is _ _ _ c.in-Some.is c.in-Leaf.is)
     c.requires.placed in
     let same =
     same_hash g.H.KeyHash.hash_of g.K.Ord.cmp g.K.PartialEq.eq g.met.K.Ord.matches_eq

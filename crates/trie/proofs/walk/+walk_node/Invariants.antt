@@ -1,6 +1,7 @@
 use Rattle.std.proofs.Common.{take}
 use Rattle.std.specs.List.{flat_map}
-use Rattle.trie.specs.Tree.{entries, values}
+use Rattle.trie.specs.Nodes.{values}
+use Rattle.trie.specs.Tree.{entries}
 use Rattle.trie.specs.Walks.{TakesAll}
 use Rattle.trie.proofs.walk.+walk_node.Given as goal
 
