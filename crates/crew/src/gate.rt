@@ -24,8 +24,8 @@ pub trait Gate: Sync {
     /// drew the place.
     fn reading(&self, _place: u64) {}
 
-    /// A trie is about to be made of a share of the rows of a list of parts, of which there are two: the first one's place
-    /// is 0, and the second one's that of the middle of the list. Called by the thread that makes it.
+    /// A trie is about to be made of a run of the rows of a list of parts: of the first one, whose place is 0, or of the one in
+    /// the middle, whose place is that of the middle of the list. Called by the thread that makes it.
     fn merging(&self, _place: u64) {}
 }
 

@@ -1,5 +1,6 @@
 pub mod FieldsLemmas
 pub mod HeaderLemmas
+pub mod LatestLemmas
 pub mod ListedLemmas
 pub mod OrderLemmas
 pub mod PartLemmas

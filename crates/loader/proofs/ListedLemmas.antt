@@ -13,11 +13,10 @@ use Rattle.loader.specs.Tries.{HoldsShares}
 use Rattle.loader.specs.Listed.{AreRead, Lists}
 use Rattle.loader.specs.Loads.{Held, IsRead, Loads, ReadsPart}
 use Rattle.loader.specs.Parts.{FaultyRecord, Part, and_parts, rows_of_part, rows_of_parts}
-use Rattle.loader.specs.Shares.{AreSpread}
+use Rattle.loader.specs.Shares.{AreSpread, Pairs}
 use Rattle.loader.specs.declared.fault.PartFault.{PartFault}
 use Rattle.loader.specs.declared.fault.PartFault.TheVariants.{Bad, OutOfMemory, NoWorker}
 use Rattle.loader.specs.declared.loading.Found.{Found}
-use Rattle.loader.specs.declared.shares.Shares.{Shares}
 
 -- rows that were read, before those of the parts that are left
 abbrev pub before : List RowValue → Result (List RowValue) FaultyRecord → Result (List RowValue) FaultyRecord
@@ -25,7 +24,7 @@ before rs (Ok more) = Ok (rs ++ more)
 before rs (Err fault) = Err fault
 
 -- what is said of all parts is said of those left, behind the rows that were read, each beside its key, spread over shares
-pub record Listed (hash_of : Cell → ℕ) (t : Table) (said : Result (List RowValue) FaultyRecord) (left : List Part) (shares : Shares) : Type 0 where
+pub record Listed (hash_of : Cell → ℕ) (t : Table) (said : Result (List RowValue) FaultyRecord) (left : List Part) (shares : List Pairs) : Type 0 where
   pub rs : List RowValue
   pub spread : AreSpread hash_of (keyed_rows rs) shares
   pub fit : AllByRecursion (IsRowOf t) rs
@@ -36,7 +35,7 @@ before_none (Ok rs) = refl
 before_none (Err fault) = refl
 
 -- no part was taken
-pub listed_first : (hash_of : Cell → ℕ) (t : Table) (parts : List Part) (shares : Shares) → AreSpread hash_of [] shares → Listed hash_of t (rows_of_parts t parts) parts shares
+pub listed_first : (hash_of : Cell → ℕ) (t : Table) (parts : List Part) (shares : List Pairs) → AreSpread hash_of [] shares → Listed hash_of t (rows_of_parts t parts) parts shares
 listed_first hash_of t parts shares none = record { rs = []; spread = none; fit = tt; is = before_none (rows_of_parts t parts) }
 
 pub zip_more : {A B : Type 0} (R : A → B → Type 0) (xs : List A) (ys : List B) (x : A) (y : B) → AllZip R xs ys → R x y → AllZip R (xs ++ x ∷ []) (ys ++ y ∷ [])
@@ -55,7 +54,7 @@ all_behind t [] more fit last = last
 all_behind t (row ∷ rs) more fit last = (fit.0, all_behind t rs more fit.1 last)
 
 -- one part was taken, none of whose records is faulty
-pub listed_more : (hash_of : Cell → ℕ) (t : Table) (said : Result (List RowValue) FaultyRecord) (part : Part) (old new : List Part) (shares more all : Shares) →
+pub listed_more : (hash_of : Cell → ℕ) (t : Table) (said : Result (List RowValue) FaultyRecord) (part : Part) (old new : List Part) (shares more all : List Pairs) →
     Listed hash_of t said old shares → old ≡ part ∷ new → IsRead hash_of t (rows_of_part t part.1) more →
     ((pairs behind : List (Cell × RowValue)) → AreSpread hash_of pairs shares → AreSpread hash_of behind more → AreSpread hash_of (pairs ++ behind) all) → Listed hash_of t said new all
 listed_more hash_of t said part old new shares more all so_far took read joined = record {
@@ -69,14 +68,14 @@ listed_more hash_of t said part old new shares more all so_far took read joined 
 }
 
 -- one part was taken, which has a faulty record
-pub listed_fault : (hash_of : Cell → ℕ) (t : Table) (said : Result (List RowValue) FaultyRecord) (part : Part) (old new : List Part) (shares : Shares) (entry : ℕ) →
+pub listed_fault : (hash_of : Cell → ℕ) (t : Table) (said : Result (List RowValue) FaultyRecord) (part : Part) (old new : List Part) (shares : List Pairs) (entry : ℕ) →
     Listed hash_of t said old shares → old ≡ part ∷ new → rows_of_part t part.1 ≡ Err entry → said ≡ Err (record { part = part.0; entry = entry })
 listed_fault hash_of t said part old new shares entry so_far took bad =
     so_far.is ∙ ap (λ left. before so_far.rs (rows_of_parts t left)) took
     ∙ ap (λ o. before so_far.rs (and_parts part.0 o (rows_of_parts t new))) bad
 
 -- all parts were taken
-pub listed_end : (hash_of : Cell → ℕ) (t : Table) (said : Result (List RowValue) FaultyRecord) (left : List Part) (shares : Shares) → Listed hash_of t said left shares → left ≡ [] →
+pub listed_end : (hash_of : Cell → ℕ) (t : Table) (said : Result (List RowValue) FaultyRecord) (left : List Part) (shares : List Pairs) → Listed hash_of t said left shares → left ≡ [] →
     IsRead hash_of t said shares
 listed_end hash_of t said left shares all none = record {
   rs = all.rs;
@@ -86,7 +85,7 @@ listed_end hash_of t said left shares all none = record {
 }
 
 -- the trie of all rows
-module _ (hash_of : Cell → ℕ) (t : Table) (said : Result (List RowValue) FaultyRecord) (shares : Shares) (read : IsRead hash_of t said shares) where
+module _ (hash_of : Cell → ℕ) (t : Table) (said : Result (List RowValue) FaultyRecord) (shares : List Pairs) (read : IsRead hash_of t said shares) where
   pub all_loaded : (loaded : Result Held PartFault) → IfOk loaded (HoldsShares hash_of shares) → IfErr loaded (λ e. (e ≡ NoWorker) ⊎ (e ≡ OutOfMemory)) → Loads said loaded
   all_loaded (Ok all) held refused = record { rs = read.rs; is = read.is; map = (held t read.rs read.spread read.fit).map }
   all_loaded (Err (Bad part entry)) held refused = absurd (elim refused [ inl e ↦ cc | inr e ↦ cc ])

@@ -15,8 +15,7 @@ use Rattle.cells.specs.declared.cell.Cell.{Cell}
 use Rattle.loader.specs.Loads.{Content, IsRead, IsContent}
 use Rattle.loader.specs.Parts.{and_rows, is_header, rows_behind_header, rows_from}
 use Rattle.loader.specs.Records.{records_of}
-use Rattle.loader.specs.Shares.{AreSpread}
-use Rattle.loader.specs.declared.shares.Shares.{Shares}
+use Rattle.loader.specs.Shares.{AreSpread, Pairs}
 
 -- rows that were read, before those of the records that are left
 abbrev pub behind : List RowValue → Result (List RowValue) ℕ → Result (List RowValue) ℕ
@@ -24,7 +23,7 @@ behind rs (Ok more) = Ok (rs ++ more)
 behind rs (Err number) = Err number
 
 -- what is said of all records is said of those left, behind the rows that were read, each beside its key, spread over shares
-pub record Reached (hash_of : Cell → ℕ) (t : Table) (said : Result (List RowValue) ℕ) (number : ℕ) (left : List (List (List ℕ))) (shares : Shares) : Type 0 where
+pub record Reached (hash_of : Cell → ℕ) (t : Table) (said : Result (List RowValue) ℕ) (number : ℕ) (left : List (List (List ℕ))) (shares : List Pairs) : Type 0 where
   pub rs : List RowValue
   pub spread : AreSpread hash_of (keyed_rows rs) shares
   pub fit : AllByRecursion (IsRowOf t) rs
@@ -35,7 +34,7 @@ behind_none (Ok rs) = refl
 behind_none (Err number) = refl
 
 -- no record was read
-pub reached_first : (hash_of : Cell → ℕ) (t : Table) (records : List (List (List ℕ))) (shares : Shares) → AreSpread hash_of [] shares →
+pub reached_first : (hash_of : Cell → ℕ) (t : Table) (records : List (List (List ℕ))) (shares : List Pairs) → AreSpread hash_of [] shares →
     Reached hash_of t (rows_from t 1 records) 1 records shares
 reached_first hash_of t records shares none = record { rs = []; spread = none; fit = tt; is = behind_none (rows_from t 1 records) }
 
@@ -49,7 +48,7 @@ row_behind rs row number (Ok more) = ap Ok (sym (append_assoc rs (row ∷ []) mo
 row_behind rs row number (Err other) = refl
 
 -- one record was read, which spells a row
-pub reached_more : (hash_of : Cell → ℕ) (t : Table) (said : Result (List RowValue) ℕ) (number : ℕ) (old new : List (List (List ℕ))) (fields : List (List ℕ)) (row : RowValue) (shares all : Shares) →
+pub reached_more : (hash_of : Cell → ℕ) (t : Table) (said : Result (List RowValue) ℕ) (number : ℕ) (old new : List (List (List ℕ))) (fields : List (List ℕ)) (row : RowValue) (shares all : List Pairs) →
     Reached hash_of t said number old shares → old ≡ fields ∷ new → row_of t fields ≡ Some row → IsRowOf t row → (key : Cell) → key ≡ row.key →
     ((pairs : List (Cell × RowValue)) → AreSpread hash_of pairs shares → AreSpread hash_of (pairs ++ (key, row) ∷ []) all) → Reached hash_of t said (number + 1) new all
 reached_more hash_of t said number old new fields row shares all reached took spelt fits key own more = record {
@@ -64,7 +63,7 @@ reached_more hash_of t said number old new fields row shares all reached took sp
 }
 
 -- all records were read
-pub reached_end : (hash_of : Cell → ℕ) (t : Table) (said : Result (List RowValue) ℕ) (number : ℕ) (left : List (List (List ℕ))) (shares : Shares) →
+pub reached_end : (hash_of : Cell → ℕ) (t : Table) (said : Result (List RowValue) ℕ) (number : ℕ) (left : List (List (List ℕ))) (shares : List Pairs) →
     Reached hash_of t said number left shares → left ≡ [] → IsRead hash_of t said shares
 reached_end hash_of t said number left shares reached none = record {
   rs = reached.rs;
@@ -74,7 +73,7 @@ reached_end hash_of t said number left shares reached none = record {
 }
 
 -- one record was read, which spells no row
-pub reached_fault : (hash_of : Cell → ℕ) (t : Table) (said : Result (List RowValue) ℕ) (number : ℕ) (old new : List (List (List ℕ))) (fields : List (List ℕ)) (shares : Shares) →
+pub reached_fault : (hash_of : Cell → ℕ) (t : Table) (said : Result (List RowValue) ℕ) (number : ℕ) (old new : List (List (List ℕ))) (fields : List (List ℕ)) (shares : List Pairs) →
     Reached hash_of t said number old shares → old ≡ fields ∷ new → row_of t fields ≡ None → said ≡ Err number
 reached_fault hash_of t said number old new fields shares reached took bad =
     reached.is ∙ ap (λ left. behind reached.rs (rows_from t number left)) took

@@ -1,109 +1,131 @@
--- Rows spread over two shares, and what they leave once they are put.
-use Rattle.std.proofs.Common.{◌≡◌, Bool, true, false, cond, not, ℕ, Some, None, List, [], ◌∷◌, ◌++◌, refl, ap, ap₂, sym, ◌∙◌, subst}
-use Rattle.std.proofs.lemmas.List.{append-nil}
+-- Rows spread over shares.
+use Rattle.std.proofs.Common.{◌≡◌, ◌==◌, ℕ, ◌+◌, ◌<◌, ◌≤◌, Bool, true, false, List, [], ◌∷◌, ◌++◌, length, drop, get_or, replicate, set, zero, suc, inl, inr, refl, sym, ap, ap₂, ◌∙◌, arith}
+use Rattle.std.specs.Prelude.{Vec}
+use Rattle.std.specs.declared.alloc.Global.{Global}
+use Rattle.std.proofs.Math.ListN.{length-set}
+use Rattle.std.proofs.lemmas.Bool.{cases_Bool, eq-eqb, eqb-true}
+use Rattle.std.proofs.lemmas.Grind.{flat_map-append}
+use Rattle.std.proofs.lemmas.List.{append-nil, get_or-map, get_or-set_other, get_or-set_same, length-map, map-set}
 use Rattle.std.proofs.lemmas.List.Elements.{filter-append}
-use Rattle.std.specs.Prelude.{T, filter}
-use Rattle.std.specs.FinMap.{empty, get, get-empty, get-insert, insert}
-use Rattle.std.specs.Option.{option_or}
-use Rattle.cells.specs.CellOrder.{cell_cmp, cell_cmp-total, cell_eq}
-use Rattle.cells.specs.SameKeys.{same_cells}
-use Rattle.cells.specs.Tables.{Rows}
 use Rattle.cells.specs.Values.{RowValue}
 use Rattle.cells.specs.declared.cell.Cell.{Cell}
-use Rattle.loader.specs.Shares.{AreSpread, is_even, is_first}
-use Rattle.loader.specs.declared.shares.Shares.{Shares}
-use Rattle.loader.proofs.PutsLemmas.{inserted}
+use Rattle.loader.specs.Shares.{AreSpread, Pairs, in_shares, lists, pairs_in, pairs_of_share, share_count, share_of}
 
-module _ (hash_of : Cell → ℕ) where
-  -- those of a list and of another behind it
-  pub spread_behind : (pairs behind : List (Cell × RowValue)) (old more new : Shares) → AreSpread hash_of pairs old → AreSpread hash_of behind more →
-      new.even.items ≡ old.even.items ++ more.even.items → new.odd.items ≡ old.odd.items ++ more.odd.items → AreSpread hash_of (pairs ++ behind) new
-  spread_behind pairs behind old more new so_far last even odd = record {
-    even = even ∙ ap₂ (λ (front back : List (Cell × RowValue)). front ++ back) so_far.even last.even ∙ sym (filter-append (is_first hash_of) pairs behind);
-    odd = odd ∙ ap₂ (λ (front back : List (Cell × RowValue)). front ++ back) so_far.odd last.odd ∙ sym (filter-append (λ pair. not (is_first hash_of pair)) pairs behind);
+-- ---- shares of no rows
+
+nothing_at : (n share : ℕ) → get_or {A = Pairs} (replicate n []) share [] ≡ []
+nothing_at zero share = refl
+nothing_at (suc n) zero = refl
+nothing_at (suc n) (suc share) = nothing_at n share
+
+many_replicated : (n : ℕ) → length {A = Pairs} (replicate n []) ≡ n
+many_replicated zero = refl
+many_replicated (suc n) = ap suc (many_replicated n)
+
+pub spread_none : (shares : List Pairs) → shares ≡ replicate share_count [] → (hash_of : Cell → ℕ) → AreSpread hash_of [] shares
+spread_none shares is hash_of = rw is (record {
+  many = many_replicated share_count;
+  each = λ share within. nothing_at share_count share;
+})
+
+-- ---- one row more
+
+module _ (hash_of : Cell → ℕ) (pairs : Pairs) (one : Cell × RowValue) where
+  spread_more : (shares : List Pairs) → AreSpread hash_of pairs shares → (j : ℕ) → j ≡ share_of (hash_of one.0) → j < share_count →
+      AreSpread hash_of (pairs ++ one ∷ []) (set shares j (get_or shares j [] ++ one ∷ []))
+  spread_more shares so_far j j_is j_lt = record {
+    many = length-set shares j (get_or shares j [] ++ one ∷ []) ∙ so_far.many;
+    each = λ d d_lt. each_share d d_lt (d == j) refl;
   }
+    where
+      within : j < length shares
+      within = omega (arith, so_far.many, j_lt)
 
-  -- one more, of the first share
-  pub spread_even : (pairs : List (Cell × RowValue)) (pair : Cell × RowValue) (old new : Shares) → AreSpread hash_of pairs old → is_first hash_of pair ≡ true →
-      new.even.items ≡ old.even.items ++ pair ∷ [] → new.odd.items ≡ old.odd.items → AreSpread hash_of (pairs ++ pair ∷ []) new
-  spread_even pairs pair old new so_far first even odd = record {
-    even = even ∙ ap (λ front. front ++ pair ∷ []) so_far.even ∙ ap (λ b. filter (is_first hash_of) pairs ++ cond b (pair ∷ []) []) (sym first)
-        ∙ sym (filter-append (is_first hash_of) pairs (pair ∷ []));
-    odd = odd ∙ so_far.odd ∙ sym (append-nil (filter (λ p. not (is_first hash_of p)) pairs))
-        ∙ ap (λ b. filter (λ p. not (is_first hash_of p)) pairs ++ cond (not b) (pair ∷ []) []) (sym first)
-        ∙ sym (filter-append (λ p. not (is_first hash_of p)) pairs (pair ∷ []));
-  }
+      each_share : (d : ℕ) → d < share_count → (b : Bool) → (d == j) ≡ b →
+          get_or (set shares j (get_or shares j [] ++ one ∷ [])) d [] ≡ pairs_of_share hash_of (pairs ++ one ∷ []) d
+      each_share d d_lt true same =
+          let here : d ≡ j = eqb-true d j same in
+          let passes : (share_of (hash_of one.0) == j) ≡ true = eq-eqb _ _ (sym j_is) in
+          rw (here, get_or-set_same shares j (get_or shares j [] ++ one ∷ []) [] within, filter-append, passes, so_far.each j j_lt) refl
+      each_share d d_lt false other =
+          let apart : d ≡ j → ⊥ = λ (e : d ≡ j). let never = sym other ∙ eq-eqb d j e in cc in
+          let fails : (share_of (hash_of one.0) == d) ≡ false = not_passed d other in
+          rw (get_or-set_other shares j d (get_or shares j [] ++ one ∷ []) [] apart, filter-append, fails, append-nil) (so_far.each d d_lt)
+        where
+          not_passed : (d : ℕ) → (d == j) ≡ false → (share_of (hash_of one.0) == d) ≡ false
+          not_passed d other = elim (cases_Bool (share_of (hash_of one.0) == d)) [
+            | inl passes ↦ let never = sym other ∙ eq-eqb d j (sym (j_is ∙ eqb-true _ _ passes)) in absurd (cc)
+            | inr fails ↦ fails
+          ]
 
-  -- one more, of the second share
-  pub spread_odd : (pairs : List (Cell × RowValue)) (pair : Cell × RowValue) (old new : Shares) → AreSpread hash_of pairs old → is_first hash_of pair ≡ false →
-      new.even.items ≡ old.even.items → new.odd.items ≡ old.odd.items ++ pair ∷ [] → AreSpread hash_of (pairs ++ pair ∷ []) new
-  spread_odd pairs pair old new so_far second even odd = record {
-    even = even ∙ so_far.even ∙ sym (append-nil (filter (is_first hash_of) pairs))
-        ∙ ap (λ b. filter (is_first hash_of) pairs ++ cond b (pair ∷ []) []) (sym second)
-        ∙ sym (filter-append (is_first hash_of) pairs (pair ∷ []));
-    odd = odd ∙ ap (λ front. front ++ pair ∷ []) so_far.odd
-        ∙ ap (λ b. filter (λ p. not (is_first hash_of p)) pairs ++ cond (not b) (pair ∷ []) []) (sym second)
-        ∙ sym (filter-append (λ p. not (is_first hash_of p)) pairs (pair ∷ []));
-  }
+  -- a row that is pushed to the list of its share
+  pub spread_pushed : (shares : List (Vec (Cell × RowValue) Global)) → AreSpread hash_of pairs (lists shares) → (j : ℕ) → j ≡ share_of (hash_of one.0) → j < share_count →
+      (old new : Vec (Cell × RowValue) Global) → old ≡ get_or shares j old → new.items ≡ old.items ++ one ∷ [] →
+      AreSpread hash_of (pairs ++ one ∷ []) (lists (set shares j new))
+  spread_pushed shares so_far j j_is j_lt old new old_is new_is =
+      let long = length-map shares (λ list. list.items) in
+      let there : get_or (lists shares) j [] ≡ old.items = get_or-map (λ list. list.items) shares j old [] (omega (arith, so_far.many, long, j_lt)) ∙ ap (λ list. list.items) (sym old_is) in
+      rw (map-set (λ list. list.items) shares j new, new_is, ← there) (spread_more (lists shares) so_far j j_is j_lt)
 
-  -- at each key stands the row of its share: no key of the first share is in the second one
-  pub record AreBoth (all first second : Rows) : Type 0 where
-    pub stands : (q : Cell) → get all q ≡ option_or (get second q) (get first q)
-    pub none : (q : Cell) → is_even (hash_of q) ≡ true → get second q ≡ None
+-- ---- the rows of a part behind those that are there
 
-  both_empty : AreBoth empty empty empty
-  both_empty = record {
-    stands = λ q. get-empty {X = RowValue} cell_cmp q ∙ sym (ap₂ option_or (get-empty {X = RowValue} cell_cmp q) (get-empty {X = RowValue} cell_cmp q));
-    none = λ q even. get-empty {X = RowValue} cell_cmp q;
-  }
+cons_same : {A : Type 0} (x y : A) (xs ys : List A) → ◌≡◌ {A = List A} (x ∷ xs) (y ∷ ys) → (x ≡ y) × (xs ≡ ys)
+cons_same x y xs ys e = (cc, cc)
 
-  at_insert : (m : Rows) (key : Cell) (row : RowValue) (q : Cell) → get (insert m key row) q ≡ cond (cell_eq q key) (Some row) (get m q)
-  at_insert m key row q = get-insert cell_cmp-total m key row q
+-- the shares with the rows of so many shares of a part
+pub record AppendedBelow (old behind new : List Pairs) (share : ℕ) : Type 0 where
+  pub many : length new ≡ length old
+  pub done : (i : ℕ) → i < share → get_or new i [] ≡ get_or old i [] ++ get_or behind i []
+  pub left : (i : ℕ) → share ≤ i → get_or new i [] ≡ get_or old i []
 
-  -- a row is put into the first share
-  both_first : (all first second : Rows) (key : Cell) (row : RowValue) → AreBoth all first second → is_even (hash_of key) ≡ true →
-      AreBoth (insert all key row) (insert first key row) second
-  both_first all first second key row both even = record {
-    stands = λ q. at_insert all key row q ∙ here q (cell_eq q key) refl ∙ sym (ap (option_or (get second q)) (at_insert first key row q));
-    none = both.none;
-  } where
-    here : (q : Cell) (b : Bool) → cell_eq q key ≡ b → cond b (Some row) (get all q) ≡ option_or (get second q) (cond b (Some row) (get first q))
-    here q true same = sym (ap (λ o. option_or o (Some row)) (both.none q (ap (λ k. is_even (hash_of k)) (same_cells q key same) ∙ even)))
-    here q false differs = both.stands q
+pub appended_none : (old behind : List Pairs) → AppendedBelow old behind old 0
+appended_none old behind = record { many = refl; done = λ i within. absurd (omega arith); left = λ i from. refl }
 
-  -- a row is put into the second share
-  both_second : (all first second : Rows) (key : Cell) (row : RowValue) → AreBoth all first second → is_even (hash_of key) ≡ false →
-      AreBoth (insert all key row) first (insert second key row)
-  both_second all first second key row both odd = record {
-    stands = λ q. at_insert all key row q ∙ here q (cell_eq q key) ∙ sym (ap (λ o. option_or o (get first q)) (at_insert second key row q));
-    none = λ q even. at_insert second key row q ∙ missing q even (cell_eq q key) refl;
-  } where
-    here : (q : Cell) (b : Bool) → cond b (Some row) (get all q) ≡ option_or (cond b (Some row) (get second q)) (get first q)
-    here q true = refl
-    here q false = both.stands q
+appended_one : (old behind now : List Pairs) (share : ℕ) (more : Pairs) → AppendedBelow old behind now share → share < length old → more ≡ get_or behind share [] →
+    AppendedBelow old behind (set now share (get_or now share [] ++ more)) (share + 1)
+appended_one old behind now share more so_far within is = record {
+  many = length-set now share (get_or now share [] ++ more) ∙ so_far.many;
+  done = λ i below. each i below (i == share) refl;
+  left = λ i above. get_or-set_other now share i (get_or now share [] ++ more) [] (λ (e : i ≡ share). absurd (omega (arith, above, e))) ∙ so_far.left i (omega (arith, above));
+}
+  where
+    each : (i : ℕ) → i < share + 1 → (b : Bool) → (i == share) ≡ b → get_or (set now share (get_or now share [] ++ more)) i [] ≡ get_or old i [] ++ get_or behind i []
+    each i below true same =
+        let here : i ≡ share = eqb-true i share same in
+        rw (here, get_or-set_same now share (get_or now share [] ++ more) [] (omega (arith, so_far.many, within)), is, so_far.left share (omega arith)) refl
+    each i below false other =
+        let apart : i ≡ share → ⊥ = λ (e : i ≡ share). let never = sym other ∙ eq-eqb i share e in cc in
+        get_or-set_other now share i (get_or now share [] ++ more) [] apart ∙ so_far.done i (less i below apart)
+      where
+        less : (i : ℕ) → i < share + 1 → (i ≡ share → ⊥) → i < share
+        less i below apart = omega (arith, below, apart)
 
-    missing : (q : Cell) → is_even (hash_of q) ≡ true → (b : Bool) → cell_eq q key ≡ b → cond b (Some row) (get second q) ≡ None
-    missing q even true same = absurd (subst T (sym even ∙ ap (λ k. is_even (hash_of k)) (same_cells q key same) ∙ odd) tt)
-    missing q even false differs = both.none q even
+-- the list of the part's next share is pushed to the lists of that share
+pub appended_pushed : (old behind : List Pairs) (now : List (Vec (Vec (Cell × RowValue) Global) Global)) (share : ℕ) (more : Vec (Cell × RowValue) Global) →
+    AppendedBelow old behind (in_shares now) share → share < length now → more.items ≡ get_or behind share [] →
+    (was new : Vec (Vec (Cell × RowValue) Global) Global) → was ≡ get_or now share was → new.items ≡ was.items ++ more ∷ [] →
+    AppendedBelow old behind (in_shares (set now share new)) (share + 1)
+appended_pushed old behind now share more so_far within is was new was_is new_is =
+    let long = length-map now (λ one. pairs_in one.items) in
+    let there : get_or (in_shares now) share [] ≡ pairs_in was.items = get_or-map (λ one. pairs_in one.items) now share was [] within ∙ ap (λ one. pairs_in one.items) (sym was_is) in
+    let pushed : pairs_in new.items ≡ get_or (in_shares now) share [] ++ more.items =
+    ap pairs_in new_is ∙ flat_map-append (λ list. list.items) was.items (more ∷ []) ∙ ap₂ (λ (front back : Pairs). front ++ back) (sym there) (append-nil more.items) in
+    rw (map-set (λ one. pairs_in one.items) now share new, pushed) (appended_one old behind (in_shares now) share more.items so_far (omega (arith, so_far.many, long, within)) is)
 
-  -- whichever share the first pair is of
-  one_of_both : (p : Cell × RowValue) (all first second : Rows) (pairs : List (Cell × RowValue)) (b : Bool) →
-      (b ≡ true → AreBoth (inserted all pairs) (inserted (insert first p.0 p.1) (filter (is_first hash_of) pairs)) (inserted second (filter (λ pair. not (is_first hash_of pair)) pairs))) →
-      (b ≡ false → AreBoth (inserted all pairs) (inserted first (filter (is_first hash_of) pairs)) (inserted (insert second p.0 p.1) (filter (λ pair. not (is_first hash_of pair)) pairs))) →
-      AreBoth (inserted all pairs) (inserted first (cond b (p ∷ filter (is_first hash_of) pairs) (filter (is_first hash_of) pairs)))
-      (inserted second (cond (not b) (p ∷ filter (λ pair. not (is_first hash_of pair)) pairs) (filter (λ pair. not (is_first hash_of pair)) pairs)))
-  one_of_both p all first second pairs true even odd = even refl
-  one_of_both p all first second pairs false even odd = odd refl
+-- the part's next list, and those behind it
+pub next_list : (part : List (Vec (Cell × RowValue) Global)) (share : ℕ) (more : Vec (Cell × RowValue) Global) (rest : List (Vec (Cell × RowValue) Global)) →
+    drop share part ≡ more ∷ rest → (more.items ≡ get_or (lists part) share []) × (rest ≡ drop (share + 1) part)
+next_list [] zero more rest took = absurd (cc)
+next_list [] (suc share) more rest took = absurd (cc)
+next_list (first ∷ part) zero more rest took = (ap (λ list. list.items) (sym (cons_same first more part rest took).0), sym (cons_same first more part rest took).1)
+next_list (first ∷ part) (suc share) more rest took =
+    let next = next_list part share more rest took in (next.0, next.1 ∙ ap (λ n. drop n (first ∷ part)) {x = suc (share + 1)} {y = suc share + 1} (omega arith))
 
-  both_from : (pairs : List (Cell × RowValue)) (all first second : Rows) → AreBoth all first second →
-      AreBoth (inserted all pairs) (inserted first (filter (is_first hash_of) pairs)) (inserted second (filter (λ pair. not (is_first hash_of pair)) pairs))
-  both_from [] all first second both = both
-  both_from (p ∷ pairs) all first second both =
-      one_of_both p (insert all p.0 p.1) first second pairs (is_first hash_of p)
-      (λ even. both_from pairs _ _ _ (both_first all first second p.0 p.1 both even))
-      (λ odd. both_from pairs _ _ _ (both_second all first second p.0 p.1 both odd))
-
-  -- rows put one after another are those of both shares, each put by itself
-  pub both_shares : (pairs : List (Cell × RowValue)) →
-      AreBoth (inserted empty pairs) (inserted empty (filter (is_first hash_of) pairs)) (inserted empty (filter (λ pair. not (is_first hash_of pair)) pairs))
-  both_shares pairs = both_from pairs empty empty empty both_empty
+-- all of them are behind those that were there
+pub spread_appended : (hash_of : Cell → ℕ) (pairs behind : Pairs) (old part new : List Pairs) → AreSpread hash_of pairs old → AreSpread hash_of behind part →
+    AppendedBelow old part new share_count → AreSpread hash_of (pairs ++ behind) new
+spread_appended hash_of pairs behind old part new first second all = record {
+  many = all.many ∙ first.many;
+  each = λ share within. all.done share within ∙ ap₂ (λ (front back : Pairs). front ++ back) (first.each share within) (second.each share within)
+      ∙ sym (filter-append (λ pair. share_of (hash_of pair.0) == share) pairs behind);
+}

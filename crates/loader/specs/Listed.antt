@@ -5,6 +5,7 @@ use Rattle.cells.specs.Values.{RowValue, Table}
 use Rattle.cells.specs.declared.cell.Cell.{Cell}
 use Rattle.loader.specs.Loads.{IsRead, ReadsPart}
 use Rattle.loader.specs.Parts.{FaultyRecord, Part}
+use Rattle.loader.specs.Shares.{in_shares}
 use Rattle.loader.specs.declared.fault.PartFault.{PartFault}
 use Rattle.loader.specs.declared.fault.PartFault.TheVariants.{Bad, OutOfMemory, NoWorker}
 use Rattle.loader.specs.declared.loading.Found.{Found}
@@ -21,7 +22,7 @@ AreRead hash_of t parts all = AllZip (λ (part : Part) (found : Found). ReadsPar
 
 -- the rows of all parts, or the faulty record that is said
 abbrev pub Lists : (Cell → ℕ) → Table → Result (List RowValue) FaultyRecord → Result Shares PartFault → Type 0
-Lists hash_of t said (Ok shares) = IsRead hash_of t said shares
+Lists hash_of t said (Ok shares) = IsRead hash_of t said (in_shares shares.shares.items)
 Lists hash_of t said (Err (Bad part entry)) = said ≡ Err (record { part = part; entry = entry })
 Lists hash_of t said (Err OutOfMemory) = ⊤
 Lists hash_of t said (Err NoWorker) = ⊥

@@ -11,10 +11,10 @@ use Rattle.cells.specs.declared.refused.Refused.{Refused}
 use Rattle.cells.specs.declared.refused.Refused.TheVariants as refused
 use Rattle.trie.specs.Maps.{map_of}
 use Rattle.loader.specs.Parts.{FaultyRecord, rows_of_part}
-use Rattle.loader.specs.Shares.{AreSpread}
+use Rattle.loader.specs.Shares.{AreSpread, Pairs, lists}
 use Rattle.loader.specs.declared.fault.PartFault.{PartFault}
 use Rattle.loader.specs.declared.fault.PartFault.TheVariants.{Bad, OutOfMemory, NoWorker}
-use Rattle.loader.specs.declared.shares.Shares.{Shares}
+use Rattle.loader.specs.declared.shares.Spread.{Spread}
 
 -- a trie of rows, as contracts see it: each row beside its key
 abbrev pub Held : Type 0
@@ -26,7 +26,7 @@ pub record HoldsPuts (t : Table) (rs : List RowValue) (held : Held) : Type 0 whe
   pub fit : AreRowsOf t (map_of cell_cmp held)
 
 -- rows are said, which may stand in the table, and these are they, each beside its key, spread over shares
-pub record IsRead {E : Type 0} (hash_of : Cell → ℕ) (t : Table) (said : Result (List RowValue) E) (shares : Shares) : Type 0 where
+pub record IsRead {E : Type 0} (hash_of : Cell → ℕ) (t : Table) (said : Result (List RowValue) E) (shares : List Pairs) : Type 0 where
   pub rs : List RowValue
   pub is : said ≡ Ok rs
   pub spread : AreSpread hash_of (keyed_rows rs) shares
@@ -34,11 +34,11 @@ pub record IsRead {E : Type 0} (hash_of : Cell → ℕ) (t : Table) (said : Resu
 
 -- the rows of a part, spread over shares, or the number of its first faulty record
 abbrev pub Content : Type 0
-Content = Result Shares ℕ
+Content = Result Spread ℕ
 
 -- the rows that are said, or the number of the faulty record that is said
 abbrev pub IsContent : (Cell → ℕ) → Table → Result (List RowValue) ℕ → Content → Type 0
-IsContent hash_of t said (Ok shares) = IsRead hash_of t said shares
+IsContent hash_of t said (Ok part) = IsRead hash_of t said (lists part.shares.items)
 IsContent hash_of t said (Err number) = said ≡ Err number
 
 -- a part's rows, or the number of its first faulty record

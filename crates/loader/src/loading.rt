@@ -35,9 +35,10 @@ use trie::Trie;
 /// As many workers as the smaller of `workers`, which is 1 to [`MAX_SEATS`](crew::MAX_SEATS), and the number of places
 /// read the parts, each worker in a thread of its own; what is read depends neither on their number nor on which worker
 /// reads which part. The gate is told of each place before its part is read. Where no record is faulty, a trie is then made
-/// of each of two shares of the rows. Where there are two places or more, the gate is told of each share before, and they
-/// are made one after another for one worker, and else at the same time, one of them in a thread of its own. This waits for
-/// all threads that it starts, however it ends.
+/// of the rows, in two runs where there are two places or more, or in as many as there are workers, if these are more. One
+/// worker makes one run after another; more of them make a run each, in threads of their own. The gate is told of the first
+/// run before it is made, as of place 0, and of the one in the middle, as of the middle of the list. This waits for all
+/// threads that it starts, however it ends.
 ///
 /// [`PartFault::NoWorker`] where a thread could not be started; otherwise [`PartFault::OutOfMemory`] where there was no
 /// memory, here or for a worker; otherwise [`PartFault::Bad`] where a part has a faulty record, with the first listed
@@ -155,11 +156,11 @@ fn rows_of<H: KeyHash<Cell>>(
     requires { AreRead H.hash_of schema.now (map part_of parts.now) found.items }
     ensures { Lists H.hash_of schema.now (rows_of_parts schema.now (map part_of parts.now)) result }
 {
-    let mut rows = Shares::new(alloc);
+    let mut rows = Shares::new(alloc)?;
     for (part, found) in parts.iter().zip(found) {
         let Found { content, .. } = found;
         match content {
-            Ok(more) => rows.append::<H>(more)?,
+            Ok(more) => rows.append(more)?,
             Err(number) => {
                 return Err(PartFault::Bad {
                     part: part.0,

@@ -5,14 +5,14 @@ ghost use Rattle.loader.specs.Parts.{rows_from};
 
 use crate::header::is_header;
 use crate::records::{Records, fields, read_row};
-use crate::shares::Shares;
+use crate::shares::Spread;
 use cells::{Cell, KeyHash, Refused, Schema};
 use csv::ByteRecord;
 use std::alloc::{AllocError, Global};
 
 /// What a part holds: the rows of its records, each beside its key, spread over shares; or the number of its first faulty
 /// record, where the header is record 0.
-pub(crate) type Content = Result<Shares, u64>;
+pub(crate) type Content = Result<Spread, u64>;
 
 /// Reads a part. Its first faulty record is record 0 where it has no record at all, or its first one is not the header;
 /// and else the first record behind it that spells no row of the schema.
@@ -46,7 +46,7 @@ fn read_rows<H: KeyHash<Cell>>(
     requires { length records + 1 < 2 ^ 64 }
     ensures { IfOk result (IsContent H.hash_of schema.now (rows_from schema.now 1 records.entry)) }
 {
-    let mut rows = Shares::new(alloc);
+    let mut rows = Spread::new(alloc)?;
     let mut record = ByteRecord::new(alloc);
     let mut number = 1;
     while records.next(&mut record)? {

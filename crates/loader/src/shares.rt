@@ -1,62 +1,91 @@
-//! Rows spread over two shares by the hashes of their keys.
-ghost use Rattle.std.specs.Prelude.{◌≡◌, ◌++◌, ◌∷◌, [], List, ℕ, IfOk};
-ghost use Rattle.cells.specs.Values.{RowValue};
+//! Rows spread over shares by the hashes of their keys.
+ghost use Rattle.std.specs.Prelude.{◌≡◌, ◌<◌, ◌++◌, ◌∷◌, [], ℕ, IfOk, length};
 ghost use Rattle.cells.specs.declared.cell.Cell.{Cell};
-ghost use Rattle.loader.specs.Shares.{AreSpread, is_even};
+ghost use Rattle.loader.specs.Shares.{AreSpread, Pairs, in_shares, lists, share_count, share_of};
 
 use cells::{Cell, KeyHash, Row};
 use std::alloc::{AllocError, Global};
 
-/// Rows, each beside its key, in two shares. The hash of its key alone says in which a row is, so all rows of a key are in
-/// one of them, in the order in which they were put. An even hash and an odd one differ in their first digit, so tries of
-/// the two shares have no branch in common but their roots.
+/// How many shares there are: as many as a hash has first digits, so that tries of two shares have no branch in common but
+/// their roots.
+pub(crate) const SHARES: usize = 32;
+
+/// Rows, each beside its key.
+pub(crate) type KeyedRows = Vec<(Cell, Row)>;
+
+/// The rows of a share, in a list for each part that has been read.
+pub(crate) type Share = Vec<KeyedRows>;
+
+/// The rows of a part, spread over the shares. The hash of its key alone says in which share a row is, so all rows of a key
+/// are in one of them, in the order in which they were put.
 #[derive(Drop)]
-pub(crate) struct Shares {
-    pub even: Vec<(Cell, Row)>,
-    pub odd: Vec<(Cell, Row)>,
+pub(crate) struct Spread {
+    pub shares: Vec<KeyedRows>,
 }
 
-impl Shares {
-    /// No rows. It takes no memory.
-    pub fn new(alloc: Global) -> Shares
-        ensures { (hash_of : Cell → ℕ) → AreSpread hash_of [] result }
+impl Spread {
+    /// No rows.
+    pub fn new(alloc: Global) -> Result<Spread, AllocError>
+        ensures { IfOk result (λ none. (hash_of : Cell → ℕ) → AreSpread hash_of [] (lists none.shares.items)) }
     {
-        Shares {
-            even: Vec::new(alloc),
-            odd: Vec::new(alloc),
+        let mut shares = Vec::with_capacity(alloc, SHARES)?;
+        for _ in 0..SHARES {
+            shares.push(Vec::new(alloc))?;
         }
+        Ok(Spread { shares })
     }
 
     /// Puts a row behind those that are there.
-    #[tactic(auto, using(crate::proofs::SharesLemmas::spread_even, crate::proofs::SharesLemmas::spread_odd))]
     pub fn push<H: KeyHash<Cell>>(&mut self, key: Cell, row: Row) -> Result<(), AllocError>
-        ensures { (pairs : List (Cell × RowValue)) → AreSpread H.hash_of pairs self.old →
-            IfOk result (λ _. AreSpread H.hash_of (pairs ++ (key, row) ∷ []) self.new) }
+        requires { length self.old.shares.items ≡ share_count }
+        ensures { (pairs : Pairs) → AreSpread H.hash_of pairs (lists self.old.shares.items) →
+            IfOk result (λ _. AreSpread H.hash_of (pairs ++ (key, row) ∷ []) (lists self.new.shares.items)) }
     {
-        if has_even_hash::<H>(&key) {
-            self.even.push((key, row))?;
-        } else {
-            self.odd.push((key, row))?;
-        }
-        Ok(())
-    }
-
-    /// Puts more rows behind those that are there.
-    #[tactic(auto, using(crate::proofs::SharesLemmas::spread_behind))]
-    pub fn append<H: KeyHash<Cell>>(&mut self, more: Shares) -> Result<(), AllocError>
-        ensures { (pairs behind : List (Cell × RowValue)) → AreSpread H.hash_of pairs self.old → AreSpread H.hash_of behind more →
-            IfOk result (λ _. AreSpread H.hash_of (pairs ++ behind) self.new) }
-    {
-        let Shares { mut even, mut odd } = more;
-        self.even.append(&mut even)?;
-        self.odd.append(&mut odd)?;
+        let share = share_of(H::hash(&key));
+        self.shares[share].push((key, row))?;
         Ok(())
     }
 }
 
-/// Whether the key's hash is even.
-fn has_even_hash<H: KeyHash<Cell>>(key: &Cell) -> bool
-    ensures { result ≡ is_even (H.hash_of key.now) }
+/// The rows of parts, spread over the shares. Those of each part stay in the lists into which they were read.
+#[derive(Drop)]
+pub(crate) struct Shares {
+    pub shares: Vec<Share>,
+}
+
+impl Shares {
+    /// No rows.
+    pub fn new(alloc: Global) -> Result<Shares, AllocError>
+        ensures { IfOk result (λ none. (hash_of : Cell → ℕ) → AreSpread hash_of [] (in_shares none.shares.items)) }
+    {
+        let mut shares = Vec::with_capacity(alloc, SHARES)?;
+        for _ in 0..SHARES {
+            shares.push(Vec::new(alloc))?;
+        }
+        Ok(Shares { shares })
+    }
+
+    /// Puts the rows of a part behind those that are there.
+    pub fn append(&mut self, part: Spread) -> Result<(), AllocError>
+        requires old { length self.old.shares.items ≡ share_count }
+        requires part { length part.shares.items ≡ share_count }
+        ensures { (hash_of : Cell → ℕ) (pairs behind : Pairs) →
+            AreSpread hash_of pairs (in_shares self.old.shares.items) → AreSpread hash_of behind (lists part.shares.items) →
+            IfOk result (λ _. AreSpread hash_of (pairs ++ behind) (in_shares self.new.shares.items)) }
+    {
+        let mut share = 0;
+        for rows in part.shares {
+            self.shares[share].push(rows)?;
+            share += 1;
+        }
+        Ok(())
+    }
+}
+
+/// The share of a hash.
+fn share_of(hash: u64) -> usize
+    ensures share { result ≡ share_of hash }
+    ensures below { result < share_count }
 {
-    H::hash(key) % 2 == 0
+    (hash % SHARES as u64) as usize
 }

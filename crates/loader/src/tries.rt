@@ -1,22 +1,35 @@
-//! Rows as a trie: those of each share as one, and then both.
-ghost use Rattle.std.specs.Prelude.{◌≡◌, ◌+◌, ◌<◌, ◌^◌, ◌⊎◌, IfErr, IfOk, length};
-ghost use Rattle.loader.specs.Tries.{AreBothHeld, HoldsAll, HoldsShares, IsLaidOver};
+//! Rows as a trie: that of each share, and all of them together.
+ghost use Rattle.std.specs.Prelude.{◌≡◌, ◌≤◌, ◌⊎◌, IfErr, IfOk};
+ghost use Rattle.std.specs.List.{flat_map};
+ghost use Rattle.loader.specs.Shares.{all_in, in_shares, pairs_in};
+ghost use Rattle.loader.specs.Tries.{HoldsAll, HoldsShares, IsLaidOver};
 ghost use Rattle.loader.specs.declared.fault.PartFault.TheVariants.{NoWorker, OutOfMemory};
 
 use crate::fault::PartFault;
-use crate::shares::Shares;
+use crate::shares::{KeyedRows, SHARES, Share, Shares};
 use cells::{Cell, KeyHash, Row, later_puts_lie_over, updates_make_a_map};
 use crew::Gate;
 use std::alloc::{AllocError, Global};
 use std::snapshot::Snapshot;
 use std::sync::Wait;
-use std::thread::{self, Promise, Threads};
+use std::thread::{self, Promise, PromisedHandle, Threads};
 use trie::{Later, Ticks, Trie, entries_are_a_map};
 
-/// The trie of the rows of so many parts, in which of the rows of a key the last one stands. Each share is made a trie by
-/// itself, and both are put under one root.
+/// Shares of which one thread makes a trie.
+#[derive(Drop)]
+struct Run {
+    shares: Vec<Share>,
+    /// The place of which the gate is told before, if it is.
+    place: Option<u64>,
+}
+
+/// The trie of the rows of so many parts, in which of the rows of a key the last one stands.
 ///
-/// [`PartFault::NoWorker`] where the thread of a share could not be started, otherwise [`PartFault::OutOfMemory`] where
+/// The shares are cut into runs. Where there are two parts or more, there are as many runs as workers, and two at least:
+/// of the first the gate is told as of the place at which the list of parts begins, and of the one in the middle as of the
+/// list's middle. One worker makes one run after another, and more of them make a run each, at the same time.
+///
+/// [`PartFault::NoWorker`] where the thread of a run could not be started, otherwise [`PartFault::OutOfMemory`] where
 /// there was no memory.
 pub(crate) fn trie_of_shares<H: KeyHash<Cell> + Send + Sync, G: Gate, R: Threads + Wait>(
     rt: &R,
@@ -26,113 +39,189 @@ pub(crate) fn trie_of_shares<H: KeyHash<Cell> + Send + Sync, G: Gate, R: Threads
     workers: u64,
     gate: &G,
 ) -> Result<Trie<Cell, Row, H>, PartFault>
-    ensures held { IfOk result (HoldsShares H.hash_of shares) }
+    ensures held { IfOk result (HoldsShares H.hash_of (in_shares shares.shares.items)) }
     ensures refused { IfErr result (λ e. (e ≡ NoWorker) ⊎ (e ≡ OutOfMemory)) }
 {
     updates_make_a_map();
     later_puts_lie_over();
-    let Shares { even, odd } = shares;
-    let (first, second) = both_tries(rt, alloc, even, odd, parts, workers, gate)?;
-    Ok(merged(alloc, &first, &second)?)
+    let workers = workers.min(parts as u64).min(SHARES as u64) as usize;
+    let runs = runs_of(alloc, shares.shares, parts, workers)?;
+    if workers > 1 {
+        side_by_side(rt, alloc, runs, gate)
+    } else {
+        Ok(one_by_one(alloc, runs, gate)?)
+    }
 }
 
-/// The tries of both shares of so many parts. Where there are two parts or more, the gate is told of both shares before, of
-/// the one as of the place at which the list of parts begins, and of the other as of its middle; and where there are two
-/// workers or more, too, both are made at the same time.
-fn both_tries<H: KeyHash<Cell> + Send + Sync, G: Gate, R: Threads + Wait>(
-    rt: &R,
+/// The shares of so many parts, in their order, in runs of much the same length for so many workers.
+fn runs_of(
     alloc: Global,
-    even: Vec<(Cell, Row)>,
-    odd: Vec<(Cell, Row)>,
+    shares: Vec<Share>,
     parts: usize,
-    workers: u64,
-    gate: &G,
-) -> Result<(Trie<Cell, Row, H>, Trie<Cell, Row, H>), PartFault>
-    ensures held { IfOk result (AreBothHeld even.items odd.items) }
-    ensures refused { IfErr result (λ e. (e ≡ NoWorker) ⊎ (e ≡ OutOfMemory)) }
+    workers: usize,
+) -> Result<Vec<Run>, AllocError>
+    ensures { IfOk result (λ runs. flat_map (λ run. run.shares.items) runs.items ≡ shares.items) }
 {
-    if parts < 2 {
-        return Ok((trie_of(alloc, even)?, trie_of(alloc, odd)?));
+    let count = if parts < 2 { 1 } else { workers.max(2) };
+    let mut runs = Vec::with_capacity(alloc, count)?;
+    let mut left = shares;
+    for behind in (1..count).rev() {
+        let rest = left.split_off(left.len() / (behind + 1))?;
+        let place = told_place(runs.len(), count, parts);
+        runs.push(Run {
+            shares: left,
+            place,
+        })?;
+        left = rest;
     }
-    let middle = (parts / 2) as u64;
-    if workers == 1 {
-        let first = trie_of_share(alloc, even, 0, gate)?;
-        let second = trie_of_share(alloc, odd, middle, gate)?;
-        return Ok((first, second));
-    }
-    both_side_by_side(rt, alloc, even, odd, middle, gate)
+    let place = told_place(runs.len(), count, parts);
+    runs.push(Run {
+        shares: left,
+        place,
+    })?;
+    Ok(runs)
 }
 
-/// The tries of both shares, the first one's in a thread of its own, and that of the second in this one. Where the thread
-/// can't be started, neither is made.
-fn both_side_by_side<H: KeyHash<Cell> + Send + Sync, G: Gate, R: Threads + Wait>(
+/// The place of a list of so many parts of which the gate is told before this run of so many, if it is told.
+fn told_place(run: usize, count: usize, parts: usize) -> Option<u64> {
+    if count < 2 {
+        None
+    } else if run == 0 {
+        Some(0)
+    } else if run == count / 2 {
+        Some((parts / 2) as u64)
+    } else {
+        None
+    }
+}
+
+/// The trie of the rows of all runs, made one after another.
+fn one_by_one<H: KeyHash<Cell>, G: Gate>(
+    alloc: Global,
+    runs: Vec<Run>,
+    gate: &G,
+) -> Result<Trie<Cell, Row, H>, AllocError>
+    ensures { IfOk result (HoldsAll (flat_map (λ run. all_in run.shares.items) runs.items)) }
+{
+    entries_are_a_map::<Cell, Row, H>();
+    later_puts_lie_over();
+    let mut all = Trie::empty();
+    for run in runs {
+        let more = trie_of_run(alloc, run, gate)?;
+        all = merged(alloc, all, more)?;
+    }
+    Ok(all)
+}
+
+/// The trie of the rows of all runs, each made in a thread of its own. Where a thread can't be started, no more are.
+fn side_by_side<H: KeyHash<Cell> + Send + Sync, G: Gate, R: Threads + Wait>(
     rt: &R,
     alloc: Global,
-    even: Vec<(Cell, Row)>,
-    odd: Vec<(Cell, Row)>,
-    place: u64,
+    runs: Vec<Run>,
     gate: &G,
-) -> Result<(Trie<Cell, Row, H>, Trie<Cell, Row, H>), PartFault>
-    ensures held { IfOk result (AreBothHeld even.items odd.items) }
+) -> Result<Trie<Cell, Row, H>, PartFault>
+    ensures held { IfOk result (HoldsAll (flat_map (λ run. all_in run.shares.items) runs.items)) }
     ensures refused { IfErr result (λ e. (e ≡ NoWorker) ⊎ (e ≡ OutOfMemory)) }
 {
     thread::scope(
         thread::scope_env(),
         rt,
-        move |scope| -> Result<(Trie<Cell, Row, H>, Trie<Cell, Row, H>), PartFault>
-            ensures held { IfOk result (AreBothHeld even.items odd.items) }
+        move |scope| -> Result<Trie<Cell, Row, H>, PartFault>
+            ensures held { IfOk result (HoldsAll (flat_map (λ run. all_in run.shares.items) runs.items)) }
             ensures refused { IfErr result (λ e. (e ≡ NoWorker) ⊎ (e ≡ OutOfMemory)) }
         {
-            let promise = ShareTrie {
-                rows: Snapshot::of(&even),
-            };
-            let job = move || -> Result<Trie<Cell, Row, H>, AllocError>
-                ensures { IfOk result (HoldsAll even.items) }
-            { trie_of_share(alloc, even, 0, gate) };
-            let Ok(thread) = scope.spawn_with(promise, job) else {
-                return Err(PartFault::NoWorker);
-            };
-            let second = trie_of_share(alloc, odd, place, gate);
-            let first = thread.join(rt);
-            Ok((first?, second?))
+            let mut begun = Vec::with_capacity(alloc, runs.len())?;
+            for run in runs {
+                let promise = RunTrie {
+                    shares: Snapshot::of(&run.shares),
+                };
+                let job = move || -> Result<Trie<Cell, Row, H>, AllocError>
+                    ensures { IfOk result (HoldsAll (all_in run.shares.items)) }
+                { trie_of_run(alloc, run, gate) };
+                let Ok(thread) = scope.spawn_with(promise, job) else {
+                    return Err(PartFault::NoWorker);
+                };
+                begun.push(thread)?;
+            }
+            Ok(joined(rt, alloc, begun)?)
         },
     )
 }
 
-/// What the thread of a share hands back: the trie of its rows.
+/// What the thread of a run hands back: the trie of its rows.
 #[derive(Drop)]
-struct ShareTrie {
-    rows: Snapshot<Vec<(Cell, Row)>>,
+struct RunTrie {
+    shares: Snapshot<Vec<Share>>,
 }
 
-impl<H: KeyHash<Cell>> Promise<Result<Trie<Cell, Row, H>, AllocError>> for ShareTrie {
+impl<H: KeyHash<Cell>> Promise<Result<Trie<Cell, Row, H>, AllocError>> for RunTrie {
     ghost use Rattle.std.specs.Prelude.{IfOk};
+    ghost use Rattle.loader.specs.Shares.{all_in};
     ghost use Rattle.loader.specs.Tries.{HoldsAll};
 
-    ghost kept_by = { λ promise trie. IfOk trie (HoldsAll promise.rows.value.items) };
+    ghost kept_by = { λ promise trie. IfOk trie (HoldsAll (all_in promise.shares.value.items)) };
 }
 
-/// The trie of the rows of a share, of which the gate is told as of this place.
-fn trie_of_share<H: KeyHash<Cell>, G: Gate>(
+/// The thread in which the trie of a run is made.
+type RunThread<H> = PromisedHandle<Result<Trie<Cell, Row, H>, AllocError>, RunTrie>;
+
+/// The trie of the rows of all runs, once their threads have made theirs.
+fn joined<H: KeyHash<Cell>, R: Threads>(
+    rt: &R,
     alloc: Global,
-    rows: Vec<(Cell, Row)>,
-    place: u64,
+    begun: Vec<RunThread<H>>,
+) -> Result<Trie<Cell, Row, H>, AllocError>
+    ensures { IfOk result (HoldsAll (flat_map (λ thread. all_in thread.promise.shares.value.items) begun.items)) }
+{
+    entries_are_a_map::<Cell, Row, H>();
+    later_puts_lie_over();
+    let mut all = Trie::empty();
+    for thread in begun {
+        let more = thread.join(rt)?;
+        all = merged(alloc, all, more)?;
+    }
+    Ok(all)
+}
+
+/// The trie of the rows of a run, of which the gate is told before, if it is.
+fn trie_of_run<H: KeyHash<Cell>, G: Gate>(
+    alloc: Global,
+    run: Run,
     gate: &G,
 ) -> Result<Trie<Cell, Row, H>, AllocError>
-    ensures { IfOk result (HoldsAll rows.items) }
+    ensures { IfOk result (HoldsAll (all_in run.shares.items)) }
 {
-    gate.merging(place);
-    trie_of(alloc, rows)
+    if let Some(place) = run.place {
+        gate.merging(place);
+    }
+    entries_are_a_map::<Cell, Row, H>();
+    later_puts_lie_over();
+    let mut all = Trie::empty();
+    for share in run.shares {
+        let more = trie_of(alloc, rows_of(alloc, share)?)?;
+        all = merged(alloc, all, more)?;
+    }
+    Ok(all)
+}
+
+/// The rows of a share in one list, those of one part behind those of another.
+fn rows_of(alloc: Global, share: Share) -> Result<KeyedRows, AllocError>
+    ensures { IfOk result (λ rows. rows.items ≡ pairs_in share.items) }
+{
+    let mut rows = Vec::new(alloc);
+    for mut more in share {
+        rows.append(&mut more)?;
+    }
+    Ok(rows)
 }
 
 /// The trie of rows, each beside its key, as if they were put one after another.
 fn trie_of<H: KeyHash<Cell>>(
     alloc: Global,
-    rows: Vec<(Cell, Row)>,
+    rows: KeyedRows,
 ) -> Result<Trie<Cell, Row, H>, AllocError>
     ensures { IfOk result (HoldsAll rows.items) }
 {
-    updates_make_a_map();
     entries_are_a_map::<Cell, Row, H>();
     Trie::from_pairs(alloc, rows, &mut Ticks::new())
 }
@@ -140,13 +229,16 @@ fn trie_of<H: KeyHash<Cell>>(
 /// The rows of two tries, where those of the second lie over those of the first.
 fn merged<H: KeyHash<Cell>>(
     alloc: Global,
-    first: &Trie<Cell, Row, H>,
-    second: &Trie<Cell, Row, H>,
+    first: Trie<Cell, Row, H>,
+    second: Trie<Cell, Row, H>,
 ) -> Result<Trie<Cell, Row, H>, AllocError>
-    requires { length first.now + length second.now < 2 ^ 64 }
-    ensures { IfOk result (IsLaidOver first.now second.now) }
+    ensures { IfOk result (IsLaidOver first second) }
 {
     entries_are_a_map::<Cell, Row, H>();
     later_puts_lie_over();
-    first.merge(alloc, second, &Later, &mut Ticks::new())
+    // No memory holds rows whose number is too large for the sum.
+    if first.len().checked_add(second.len()).is_none() {
+        return Err(AllocError);
+    }
+    first.merge(alloc, &second, &Later, &mut Ticks::new())
 }

@@ -55,8 +55,8 @@ impl Meeting {
     }
 }
 
-/// Holds the work at place 0 until that at place 1 has begun, and the trie of the first share until that of the second one
-/// has begun. Only another thread can let them go on.
+/// Holds the work at place 0 until that at place 1 has begun, and the trie of the first run of rows until that of the one
+/// in the middle has begun. Only another thread can let them go on.
 #[derive(Drop)]
 pub struct Hold {
     pub entering: Meeting,

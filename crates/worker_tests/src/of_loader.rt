@@ -83,22 +83,22 @@ fn four_parts_are_read_and_merged_at_the_same_time(rt: HostRuntime) -> Result<()
 }
 
 /// Whether four parts, of which the second is this one, are loaded so, and the gate is told of the reading of each and of
-/// so many shares.
+/// the runs of rows, by the sum of their places.
 fn is_told<R: Abort + Threads + Wait>(
     rt: &R,
     alloc: Global,
     workers: u64,
     second: &[u8],
     wanted: Found,
-    shares: u64,
+    runs: u64,
 ) -> Result<bool, Refused> {
     let watch = Watch::new();
     let found = load_four(rt, alloc, [LOW, second, HIGH, LOW], workers, &watch)?;
-    Ok(found == wanted && watch.reading.get() == 10 && watch.merging.get() == shares)
+    Ok(found == wanted && watch.reading.get() == 10 && watch.merging.get() == runs)
 }
 
 #[test]
-fn the_gate_is_told_of_each_place_and_share(rt: HostRuntime) -> Result<(), Fail> {
+fn the_gate_is_told_of_each_place_and_run(rt: HostRuntime) -> Result<(), Fail> {
     assert!(rt; is_told(&rt, rt.alloc(), 1, MIDDLE, Ok(4), 4)?);
     assert!(rt; is_told(&rt, rt.alloc(), 4, MIDDLE, Ok(4), 4)?);
     assert!(rt; is_told(&rt, rt.alloc(), 2, BAD, Err((6, 2)), 0)?);

@@ -1,13 +1,15 @@
-use Rattle.std.proofs.Common.{◌≡◌, ◌∷◌, [], Some, ap, arith, length, rules}
+use Rattle.std.proofs.Common.{◌≡◌, ◌∙◌, ◌∷◌, [], Some, ap, arith, length, rules, sym}
+use Rattle.std.proofs.lemmas.List.{length-map}
 use Rattle.csv.specs.Records.{fields_of}
 use Rattle.cells.specs.Records.{row_of}
 use Rattle.loader.specs.Parts.{rows_from}
+use Rattle.loader.specs.Shares.{lists}
 use Rattle.loader.proofs.PartLemmas.{reached_end, reached_first, reached_more}
 use Rattle.loader.proofs.part.read_rows.Goals as goal
 
 pub loop-record-init : goal.loop-record-init
 loop-record-init g c = record {
-  reached = reached_first g.H.KeyHash.hash_of c.args.schema.now c.args.records c.new-rows.result (c.new-rows.ensures g.H.KeyHash.hash_of);
+  reached = reached_first g.H.KeyHash.hash_of c.args.schema.now c.args.records (lists c.in_ok-rows.rows.shares.items) (c.in_ok-rows.ensures g.H.KeyHash.hash_of);
   counted = omega arith;
 }
 
@@ -18,7 +20,7 @@ loop-record-preserved g c =
     let took : c.loop-record.records ≡ fields_of c.next.new.row ∷ c.next.new.self = search rules in
     let spelt : row_of t (fields_of c.next.new.row) ≡ Some row = search rules in
     record {
-      reached = reached_more g.H.KeyHash.hash_of t _ c.loop-record.number c.loop-record.records c.next.new.self (fields_of c.next.new.row) row c.loop-record.rows c.push.new.self
+      reached = reached_more g.H.KeyHash.hash_of t _ c.loop-record.number c.loop-record.records c.next.new.self (fields_of c.next.new.row) row (lists c.loop-record.rows.shares.items) (lists c.push.new.self.shares.items)
           c.loop-record.invariant.reached took spelt c.in-Ok.ensures.fits c.in_ok-key.key (search rules) c.in_ok-push.ensures;
       counted = omega (arith, c.loop-record.invariant.counted, ap length took);
     }
@@ -27,4 +29,7 @@ pub returns : goal.returns
 returns g c =
     let left : c.loop-record.records ≡ [] = search rules in
     reached_end g.H.KeyHash.hash_of c.args.schema.now (rows_from c.args.schema.now 1 c.args.records) c.loop-record.number c.loop-record.records
-    c.loop-record.rows c.loop-record.invariant.reached left
+    (lists c.loop-record.rows.shares.items) c.loop-record.invariant.reached left
+
+pub push-requires : goal.push-requires
+push-requires g c = sym (length-map c.loop-record.rows.shares.items (λ list. list.items)) ∙ c.loop-record.invariant.reached.spread.many

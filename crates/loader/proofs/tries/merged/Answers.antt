@@ -8,5 +8,5 @@ pub returns : goal.returns
 returns g c =
     IfOk-weaker c.merge.result _ _
     (λ both is. merged_over c.later_puts_lie_over.ensures.stands (digit_order g.H.KeyHash.hash_of cell_cmp)
-    c.entries_are_a_map.ensures.value c.args.first.now c.args.second.now both is)
+    c.entries_are_a_map.ensures.value c.args.first c.args.second both is)
     c.merge.ensures.map
