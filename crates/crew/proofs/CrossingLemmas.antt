@@ -1,4 +1,4 @@
--- What `gather` sends to threads may cross: partial results, what is folded into them, and the work itself. Each type
+-- What `gather` sends to threads may cross: what is folded, and the work itself. Each type
 -- has a lemma of its own, since one search that goes down through all of them runs out of steps.
 use denote.Builtin.{usize}
 use denote.Enum.Declared.{row}
@@ -20,13 +20,11 @@ use Rattle.cells.specs.contracts.row.Row as RowType
 use Rattle.cells.specs.contracts.tuple.Tuple as TupleType
 use Rattle.cells.specs.declared.cell.Cell.{Cell}
 use Rattle.cells.specs.declared.hash.KeyHash as KeyHash
-use Rattle.cells.specs.declared.tuple.Tuple.{Tuple}
 use Rattle.crew.specs.contracts.gathering.Gathering as Gathering
 use Rattle.groups.specs.contracts.accumulators.Accumulators as Accumulators
 use Rattle.groups.specs.contracts.aggregation.Aggregation as Aggregation
 use Rattle.groups.specs.contracts.bag.Bag as Bag
 use Rattle.groups.specs.contracts.folding.Folding as Folding
-use Rattle.groups.specs.contracts.partial.Partial as Partial
 use Rattle.groups.specs.contracts.pool.SetBag as SetBag
 use Rattle.query.specs.contracts.plan.Plan as Plan
 use Rattle.query.specs.contracts.predicate.Predicate as Predicate
@@ -70,9 +68,6 @@ module _ (K V : RattleType) (ks : IsSend K) (ky : IsSync K) (vs : IsSend V) (vy 
   node_send : IsSend (node K V)
   node_send = let send = inner_send in let sync = inner_sync in search (sendable, crosses) depth 40
 
-  node_sync : IsSync (node K V)
-  node_sync = let send = inner_send in let sync = inner_sync in search (sendable, crosses) depth 40
-
   field_sync : IsSync (Owner.the_field (Struct.Tuple (K ∷ V ∷ [])) (Inner.the_row K V)).row
   field_sync = let send = inner_send in let sync = inner_sync in search (sendable, crosses) depth 40
 
@@ -86,20 +81,11 @@ cell_sync = search (sendable, crosses) depth 40
 tuple_send : IsSend TupleType.the_row
 tuple_send = let cell = cell_send in search (sendable, crosses) depth 40
 
-tuple_sync : IsSync TupleType.the_row
-tuple_sync = let cell = cell_sync in search (sendable, crosses) depth 40
-
 row_send : IsSend RowType.the_row
 row_send = let cell = cell_send in search (sendable, crosses) depth 40
 
 row_sync : IsSync RowType.the_row
 row_sync = let cell = cell_sync in search (sendable, crosses) depth 40
-
-rows_send : IsSend (node CellType.the_row RowType.the_row)
-rows_send = node_send _ _ cell_send cell_sync row_send row_sync
-
-rows_sync : IsSync (node CellType.the_row RowType.the_row)
-rows_sync = node_sync _ _ cell_send cell_sync row_send row_sync
 
 -- ---- a plan, whose predicate reaches itself
 literals_sync : IsSync Literals.the_field.row
@@ -131,34 +117,16 @@ plan_sync = let predicate = predicate_sync in search (sendable, crosses) depth 4
 aggregation_send : IsSend Aggregation.the_field.row
 aggregation_send = search (sendable, crosses) depth 40
 
--- ---- partial results, what is folded into them, and the work itself
-module _ (H : RattleType) (cells : KeyHash.Ghosts H.Denot Cell) (tuples : KeyHash.Ghosts H.Denot Tuple) (s : IsSend H) (y : IsSync H) where
+-- ---- what is folded, and the work itself
+module _ (H : RattleType) (cells : KeyHash.Ghosts H.Denot Cell) (s : IsSend H) (y : IsSync H) where
   distinct_send : IsSend (CountDistinct.the_field H cells).row
   distinct_send = let send = cell_send in let sync = cell_sync in search (node_send, sendable, crosses) depth 40
-
-  distinct_sync : IsSync (CountDistinct.the_field H cells).row
-  distinct_sync = let send = cell_send in let sync = cell_sync in search (node_sync, sendable, crosses) depth 40
 
   acc_send : IsSend (Acc.the_field H cells).row
   acc_send = let cell = cell_send in let distinct = distinct_send in search (sendable, crosses) depth 40
 
-  acc_sync : IsSync (Acc.the_field H cells).row
-  acc_sync = let cell = cell_sync in let distinct = distinct_sync in search (sendable, crosses) depth 40
-
   accumulators_send : IsSend (Accumulators.the_field H cells).row
   accumulators_send = let acc = acc_send in search (sendable, crosses) depth 40
-
-  accumulators_sync : IsSync (Accumulators.the_field H cells).row
-  accumulators_sync = let acc = acc_sync in search (sendable, crosses) depth 40
-
-  groups_send : IsSend (node TupleType.the_row (Accumulators.the_row H cells))
-  groups_send = node_send _ _ tuple_send tuple_sync accumulators_send accumulators_sync
-
-  groups_sync : IsSync (node TupleType.the_row (Accumulators.the_row H cells))
-  groups_sync = node_sync _ _ tuple_send tuple_sync accumulators_send accumulators_sync
-
-  pub partial_send : IsSend (Partial.the_field H cells tuples).row
-  partial_send = let send = groups_send in let sync = groups_sync in search (sendable, crosses) depth 40
 
   bag_send : IsSend (Bag.the_field H cells).row
   bag_send = let key = tuple_send in let value = accumulators_send in search (HashMap-send, sendable, crosses) depth 40

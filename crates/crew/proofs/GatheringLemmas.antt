@@ -1,4 +1,4 @@
--- How workers gather the rows of pieces, and how far the join of their partial results has come.
+-- How workers gather the rows of pieces, and how far the join of what they folded has come.
 use Rattle.std.proofs.Common.{◌≡◌, ℕ, zero, suc, ◌+◌, ◌<◌, ◌≤◌, List, [], ◌∷◌, ◌++◌, flat_map, length, get_or, drop, refl, sym, ap, ◌∙◌, subst, arith, append_assoc, IsPermutation}
 use Rattle.std.specs.List.{AllZip, concat, range_with_len}
 use Rattle.std.specs.Prelude.{slice_index_or}
@@ -10,12 +10,12 @@ use Rattle.cells.specs.Values.{RowValue}
 use Rattle.cells.specs.declared.cell.Cell.{Cell}
 use Rattle.crew.specs.Gathering.{PieceValue, Planned, kept_at, kept_in, rows_at, rows_in}
 use Rattle.crew.specs.Shares.{AreShared}
-use Rattle.crew.specs.Tasks.{IsMade, IsShare, MayTake}
-use Rattle.groups.specs.Folds.{Folds, MayEnd, MayTakeMore}
+use Rattle.crew.specs.Tasks.{IsShare, MayTake}
+use Rattle.groups.specs.Folds.{Folds, MayEnd, MayJoin, MayTakeMore}
 use Rattle.groups.specs.Groups.{keeps, kept}
 use Rattle.groups.specs.Laws.{kept_join}
-use Rattle.groups.specs.Meeting.{may_fold_first, may_join_kept}
-use Rattle.groups.specs.Partials.{MayFold, MayMeet, Stands, rows_of}
+use Rattle.groups.specs.Meeting.{may_fold_first}
+use Rattle.groups.specs.Partials.{MayFold, Stands, rows_of}
 use Rattle.groups.specs.declared.folding.Folding.{Folding}
 use Rattle.query.specs.Plans.{PlanTree}
 use Rattle.crew.proofs.PlacesLemmas.{all_of, all_weaker, at_last, part_of, permutation_filter, permutation_flat_map}
@@ -97,59 +97,45 @@ module _ {H : Type 0} (planned : Planned) where
     may = subst (MayFold planned.plan) (rows_at_next planned.pieces may_take.places place piece is) (may (may_take.places ++ place ∷ []) may_take.share);
   }
 
--- what was made of a share may end
-module _ {H : Type 0} (planned : Planned) (may : (places : List ℕ) → IsShare (length planned.pieces) places → MayFold planned.plan (rows_at planned.pieces places)) where
-  pub may_end : (made : Folding H) → IsMade (λ places folding. Folds planned.plan (kept_at planned places) folding) (length planned.pieces) made → MayEnd made
-  may_end made is_made = record {
-    plan = planned.plan;
-    taken = rows_at planned.pieces is_made.places;
-    folds = is_made.made_of;
-    may = may is_made.places is_made.share;
-  }
-
 -- ---- all workers
 
--- a partial result, as contracts see it
-abbrev PartialValue : Type 0 → Type 0
-PartialValue H = List (List (List Cell × List (Acc H)))
+module _ {H : Type 0} (planned : Planned) where
+  abbrev Gives : List ℕ → Folding H → Type 0
+  Gives = λ places given. Folds planned.plan (kept_at planned places) given
 
-module _ {H : Type 0} (hash : List Cell → ℕ) (planned : Planned) where
-  abbrev Gives : List ℕ → PartialValue H → Type 0
-  Gives = λ places given. Stands hash planned.plan (kept_at planned places) given
-
-  -- the partial result stands for some rows, and these and those of the shares left are all
-  pub record Reached (left : List (PartialValue H)) (partial : PartialValue H) : Type 0 where
+  -- some rows went into the folding, and these and those of the shares left are all
+  pub record Reached (left : List (Folding H)) (all : Folding H) : Type 0 where
     pub done : List RowValue
     pub shares : List (List ℕ)
     pub whole : IsPermutation (done ++ flat_map (rows_at planned.pieces) shares) (rows_in planned.pieces)
     pub each : AllZip (Gives) shares left
-    pub stands : Stands hash planned.plan (kept planned.plan.condition done) partial
+    pub folds : Folds planned.plan (kept planned.plan.condition done) all
 
-  pub reached_none : (partials : List (PartialValue H)) (partial : PartialValue H) → AreShared Gives (length planned.pieces) partials → Stands hash planned.plan [] partial → Reached partials partial
-  reached_none partials partial shared stands = record {
+  pub reached_none : (foldings : List (Folding H)) (all : Folding H) → AreShared Gives (length planned.pieces) foldings → Folds planned.plan [] all → Reached foldings all
+  reached_none foldings all shared folds = record {
     done = [];
     shares = shared.shares;
     whole = subst (λ rows. IsPermutation rows (rows_in planned.pieces)) (sym (rows_at_each planned.pieces shared.shares))
         (rows_shared planned.pieces (concat shared.shares) shared.whole);
     each = shared.given_for;
-    stands = stands;
+    folds = folds;
   }
 
   -- the share of the next one
-  pub record IsNext (other : PartialValue H) (left : List (PartialValue H)) (partial : PartialValue H) : Type 0 where
+  pub record IsNext (other : Folding H) (left : List (Folding H)) (all : Folding H) : Type 0 where
     pub done : List RowValue
     pub places : List ℕ
     pub shares : List (List ℕ)
     pub whole : IsPermutation ((done ++ rows_at planned.pieces places) ++ flat_map (rows_at planned.pieces) shares) (rows_in planned.pieces)
-    pub first : Stands hash planned.plan (kept planned.plan.condition done) partial
+    pub first : Folds planned.plan (kept planned.plan.condition done) all
     pub second : Gives places other
     pub each : AllZip (Gives) shares left
 
-  pub next : (other : PartialValue H) (left : List (PartialValue H)) (partial : PartialValue H) → Reached (other ∷ left) partial → IsNext other left partial
-  next other left partial reached = by reached.shares reached.whole reached.each
+  pub next : (other : Folding H) (left : List (Folding H)) (all : Folding H) → Reached (other ∷ left) all → IsNext other left all
+  next other left all reached = by reached.shares reached.whole reached.each
     where
       by : (shares : List (List ℕ)) → IsPermutation (reached.done ++ flat_map (rows_at planned.pieces) shares) (rows_in planned.pieces) →
-          AllZip (Gives) shares (other ∷ left) → IsNext other left partial
+          AllZip (Gives) shares (other ∷ left) → IsNext other left all
       by [] whole each = absurd each
       by (places ∷ shares) whole each = record {
         done = reached.done;
@@ -157,44 +143,66 @@ module _ {H : Type 0} (hash : List Cell → ℕ) (planned : Planned) where
         shares = shares;
         whole = subst (λ rows. IsPermutation rows (rows_in planned.pieces))
             (sym (append_assoc reached.done (rows_at planned.pieces places) (flat_map (rows_at planned.pieces) shares))) whole;
-        first = reached.stands;
+        first = reached.folds;
         second = each.0;
         each = each.1;
       }
 
   -- it may be joined
-  pub meets : (other : PartialValue H) (left : List (PartialValue H)) (partial : PartialValue H) → ((plan : PlanTree) (xs ys : List RowValue) → IsPermutation xs ys → MayFold plan xs → MayFold plan ys) →
-      MayFold planned.plan (rows_in planned.pieces) → IsNext other left partial → MayMeet hash partial other
-  meets other left partial fold may it = record {
+  pub meets : (other : Folding H) (left : List (Folding H)) (all : Folding H) → ((plan : PlanTree) (xs ys : List RowValue) → IsPermutation xs ys → MayFold plan xs → MayFold plan ys) →
+      MayFold planned.plan (rows_in planned.pieces) → IsNext other left all → MayJoin all other
+  meets other left all fold may it = record {
     plan = planned.plan;
-    xs = kept planned.plan.condition it.done;
-    ys = kept_at planned it.places;
-    rows = may_join_kept planned.plan it.done (rows_at planned.pieces it.places)
-        (front_may_fold planned fold may (it.done ++ rows_at planned.pieces it.places) (flat_map (rows_at planned.pieces) it.shares) it.whole);
+    rows = it.done;
+    more = rows_at planned.pieces it.places;
     firsts = it.first;
     seconds = it.second;
+    may = front_may_fold planned fold may (it.done ++ rows_at planned.pieces it.places) (flat_map (rows_at planned.pieces) it.shares) it.whole;
   }
 
-  -- and both together stand for one share more
-  pub reached_more : (other new : PartialValue H) (left : List (PartialValue H)) (partial : PartialValue H) → IsNext other left partial →
-      ((xs ys : List RowValue) → Stands hash planned.plan xs partial → Stands hash planned.plan ys other → Stands hash planned.plan (xs ++ ys) new) → Reached left new
-  reached_more other new left partial it joins = record {
+  -- and the rows of one share more went into both together
+  pub reached_more : (other new : Folding H) (left : List (Folding H)) (all : Folding H) → IsNext other left all →
+      ((xs ys : List RowValue) → Folds planned.plan xs all → Folds planned.plan ys other → Folds planned.plan (xs ++ ys) new) → Reached left new
+  reached_more other new left all it joins = record {
     done = it.done ++ rows_at planned.pieces it.places;
     shares = it.shares;
     whole = it.whole;
     each = it.each;
-    stands = subst (λ rows. Stands hash planned.plan rows new) (sym (kept_join planned.plan.condition it.done (rows_at planned.pieces it.places)))
+    folds = subst (λ rows. Folds planned.plan rows new) (sym (kept_join planned.plan.condition it.done (rows_at planned.pieces it.places)))
         (joins (kept planned.plan.condition it.done) (kept_at planned it.places) it.first it.second);
   }
 
-  pub reached_all : (partial : PartialValue H) → ((plan : PlanTree) (xs ys : List RowValue) (tries : PartialValue H) → IsPermutation xs ys → Stands hash plan xs tries → Stands hash plan ys tries) →
-      Reached [] partial → Stands hash planned.plan (kept_in planned) partial
-  reached_all partial order reached = by reached.shares reached.whole reached.each
+  -- all rows went into the folding, in some order
+  pub record HasAll (all : Folding H) : Type 0 where
+    pub done : List RowValue
+    pub moved : IsPermutation done (rows_in planned.pieces)
+    pub folds : Folds planned.plan (kept planned.plan.condition done) all
+
+  pub reached_all : (all : Folding H) → Reached [] all → HasAll all
+  reached_all all reached = by reached.shares reached.whole reached.each
     where
-      by : (shares : List (List ℕ)) → IsPermutation (reached.done ++ flat_map (rows_at planned.pieces) shares) (rows_in planned.pieces) →
-          AllZip (Gives) shares [] → Stands hash planned.plan (kept_in planned) partial
-      by [] whole each = order planned.plan (kept planned.plan.condition reached.done) (kept_in planned) partial
-          (permutation_filter (keeps planned.plan.condition) reached.done (rows_in planned.pieces)
-          (subst (λ rows. IsPermutation rows (rows_in planned.pieces)) (append-nil reached.done) whole))
-          reached.stands
+      by : (shares : List (List ℕ)) → IsPermutation (reached.done ++ flat_map (rows_at planned.pieces) shares) (rows_in planned.pieces) → AllZip (Gives) shares [] → HasAll all
+      by [] whole each = record {
+        done = reached.done;
+        moved = subst (λ rows. IsPermutation rows (rows_in planned.pieces)) (append-nil reached.done) whole;
+        folds = reached.folds;
+      }
       by (places ∷ shares) whole each = absurd each
+
+  -- so it may end
+  pub may_end : (all : Folding H) → ((plan : PlanTree) (xs ys : List RowValue) → IsPermutation xs ys → MayFold plan xs → MayFold plan ys) →
+      MayFold planned.plan (rows_in planned.pieces) → HasAll all → MayEnd all
+  may_end all fold may it = record {
+    plan = planned.plan;
+    taken = it.done;
+    folds = it.folds;
+    may = fold planned.plan (rows_in planned.pieces) it.done (IsPermutation-sym it.done (rows_in planned.pieces) it.moved) may;
+  }
+
+  -- and what stands for the rows that went in stands for all, as they come
+  pub stands_all : (hash : List Cell → ℕ) (all : Folding H) (partial : List (List (List Cell × List (Acc H)))) →
+      ((plan : PlanTree) (xs ys : List RowValue) (tries : List (List (List Cell × List (Acc H)))) → IsPermutation xs ys → Stands hash plan xs tries → Stands hash plan ys tries) →
+      (it : HasAll all) → Stands hash planned.plan (kept planned.plan.condition it.done) partial → Stands hash planned.plan (kept_in planned) partial
+  stands_all hash all partial order it stands =
+      order planned.plan (kept planned.plan.condition it.done) (kept_in planned) partial
+      (permutation_filter (keeps planned.plan.condition) it.done (rows_in planned.pieces) it.moved) stands

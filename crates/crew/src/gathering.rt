@@ -5,6 +5,7 @@ ghost use Rattle.crew.specs.Gathering.{kept_at, kept_in, rows_at, rows_in};
 ghost use Rattle.crew.specs.Limits.{piece_limit, seat_limit};
 ghost use Rattle.crew.specs.Shares.{AreShared};
 ghost use Rattle.crew.specs.Tasks.{IsShare};
+ghost use Rattle.groups.specs.Folds.{Folds};
 ghost use Rattle.groups.specs.Groups.{kept};
 ghost use Rattle.groups.specs.Partials.{MayFold, Stands};
 
@@ -43,28 +44,28 @@ pub fn gather<H: KeyHash<Cell> + KeyHash<Tuple> + Send + Sync, G: Gate, R: Threa
     ensures refused { IfErr result (λ e. (e ≡ Refused.NoWorker) ⊎ (e ≡ Refused.OutOfMemory)) }
 {
     let gathering = Gathering { plan, pieces, gate };
-    let partials = partials_of(rt, alloc, &gathering, workers)?;
-    Ok(joined(alloc, &gathering, partials)?)
+    let foldings = foldings_of(rt, alloc, &gathering, workers)?;
+    Ok(joined(alloc, &gathering, foldings)?)
 }
 
-/// A partial result of each worker, of the pieces that it drew. There are as many workers as the smaller of `workers` and
-/// the number of pieces.
-fn partials_of<H: KeyHash<Cell> + KeyHash<Tuple> + Send + Sync, G: Gate, R: Threads + Wait>(
+/// A folding of each worker, of the pieces that it drew. There are as many workers as the smaller of `workers` and the
+/// number of pieces.
+fn foldings_of<'a, H: KeyHash<Cell> + KeyHash<Tuple> + Send + Sync, G: Gate, R: Threads + Wait>(
     rt: &R,
     alloc: Global,
-    gathering: &Gathering<'_, H, G>,
+    gathering: &Gathering<'a, H, G>,
     workers: u64,
-) -> Result<Vec<Partial<H>>, Refused>
+) -> Result<Vec<Folding<'a, H>>, Refused>
     requires pieces { length gathering.now.pieces ≤ piece_limit }
     requires workers { (1 ≤ workers) × (workers ≤ seat_limit) }
-    ensures shared { IfOk result (λ v. AreShared (λ places. Stands H.KeyHash-2.hash_of gathering.now.plan (kept_at gathering.now places)) (length gathering.now.pieces) v.items) }
+    ensures shared { IfOk result (λ v. AreShared (λ places. Folds gathering.now.plan (kept_at gathering.now places)) (length gathering.now.pieces) v.items) }
     ensures workers { IfOk result (λ v. vec_len v ≡ min workers (length gathering.now.pieces)) }
     ensures refused { IfErr result (λ e. (e ≡ Refused.NoWorker) ⊎ (e ≡ Refused.OutOfMemory)) }
 {
     share_out(rt, alloc, gathering.pieces.len() as u64, workers, gathering)
 }
 
-/// The work on all pieces: each worker folds those that it draws into one partial result.
+/// The work on all pieces: each worker folds those that it draws into groups of its own.
 #[derive(Drop)]
 struct Gathering<'a, H: KeyHash<Cell>, G> {
     plan: &'a Plan,
@@ -116,13 +117,13 @@ impl<'a, H: KeyHash<Cell> + KeyHash<Tuple> + Send + Sync, G: Gate> Task for Gath
 
     type Made = Folding<'a, H>;
 
-    type Given = Partial<H>;
+    type Given = Folding<'a, H>;
 
     ghost count = { λ g. length g.pieces };
 
     ghost makes = { λ g places made. Folds g.plan (kept_at g places) made };
 
-    ghost gives = { λ g places given. Stands H.KeyHash-2.hash_of g.plan (kept_at g places) given };
+    ghost gives = { λ g places given. Folds g.plan (kept_at g places) given };
 
     fn begin(&self, alloc: Global) -> Result<Folding<'a, H>, AllocError> {
         Folding::new(alloc, self.plan)
@@ -136,27 +137,27 @@ impl<'a, H: KeyHash<Cell> + KeyHash<Tuple> + Send + Sync, G: Gate> Task for Gath
         taken
     }
 
-    fn end(&self, alloc: Global, made: Folding<'a, H>) -> Result<Partial<H>, AllocError> {
-        self.rows_may_fold();
-        made.into_partial(alloc)
+    fn end(&self, _alloc: Global, made: Folding<'a, H>) -> Result<Folding<'a, H>, AllocError> {
+        Ok(made)
     }
 }
 
-/// The partial result of all pieces, from those of the workers who shared them, which are joined in their order.
-fn joined<H: KeyHash<Cell> + KeyHash<Tuple>, G>(
+/// The partial result of all pieces, from the foldings of the workers who shared them, which are joined in their order. So
+/// the groups of all are made tries once.
+fn joined<'a, H: KeyHash<Cell> + KeyHash<Tuple>, G>(
     alloc: Global,
-    gathering: &Gathering<'_, H, G>,
-    partials: Vec<Partial<H>>,
+    gathering: &Gathering<'a, H, G>,
+    foldings: Vec<Folding<'a, H>>,
 ) -> Result<Partial<H>, AllocError>
-    requires { AreShared (λ places. Stands H.KeyHash-2.hash_of gathering.now.plan (kept_at gathering.now places)) (length gathering.now.pieces) partials.items }
+    requires { AreShared (λ places. Folds gathering.now.plan (kept_at gathering.now places)) (length gathering.now.pieces) foldings.items }
     ensures { IfOk result (λ partial. Stands H.KeyHash-2.hash_of gathering.now.plan (kept_in gathering.now) partial) }
 {
     // These do nothing: they are the laws by which shares may be joined, and are all rows in the end.
     any_order::<H>();
     gathering.rows_may_fold();
-    let mut partial = Partial::empty(alloc, gathering.plan)?;
-    for other in partials {
-        partial = partial.join(alloc, &other)?;
+    let mut all = Folding::new(alloc, gathering.plan)?;
+    for folding in foldings {
+        all = all.join(alloc, folding)?;
     }
-    Ok(partial)
+    all.into_partial(alloc)
 }

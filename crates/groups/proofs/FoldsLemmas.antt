@@ -119,7 +119,7 @@ can_by laws plan rows columns may contains =
     (all_at (λ s. CanFoldSet (aggregations_of plan.items) s rows) plan.sets contains.0 columns can.each contains.1)
 
 module _ {H : Type 0} where
-  finer_by_sets : (set : List ℕ) (old new : List (SetBag H)) → sets_of new ≡ sets_of old → has_finer new set ≡ has_finer old set
+  pub finer_by_sets : (set : List ℕ) (old new : List (SetBag H)) → sets_of new ≡ sets_of old → has_finer new set ≡ has_finer old set
   finer_by_sets set old new e = by_sets new ∙ ap (list_any (λ s. has_all s set)) e ∙ sym (by_sets old)
     where
       by_sets : (pool : List (SetBag H)) → has_finer pool set ≡ list_any (λ s. has_all s set) (sets_of pool)

@@ -6,6 +6,7 @@ pub mod FoldsLemmas
 pub mod GroupingLemmas
 pub mod JoinLemmas
 pub mod LayingLemmas
+pub mod MeetingLemmas
 pub mod OrderLemmas
 pub mod PlanLemmas
 pub mod PoolLemmas

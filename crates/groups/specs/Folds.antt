@@ -1,12 +1,13 @@
 -- Rows folded piece by piece into the groups of the sources of a plan.
-use Rattle.std.specs.Prelude.{◌≡◌, ℕ, List, ◌++◌, length, sum_by}
+use Rattle.std.specs.Prelude.{◌≡◌, ℕ, true, List, ◌++◌, length, sum_by}
 use Rattle.std.specs.List.{AllByRecursion, Contains}
 use Rattle.cells.specs.Values.{RowValue}
 use Rattle.groups.specs.Accumulators.{aggregations_of}
-use Rattle.groups.specs.Bags.{CanFoldSet, Covers, Group}
+use Rattle.groups.specs.Bags.{CanCount, CanFoldSet, Covers, Group}
 use Rattle.groups.specs.Groups.{kept}
 use Rattle.groups.specs.Partials.{MayFold, rows_of}
-use Rattle.groups.specs.Pools.{HaveFiner, IsPool, sets_of}
+use Rattle.groups.specs.Pools.{HaveFiner, IsPool, has_finer, sets_of}
+use Rattle.groups.specs.declared.aggregation.Aggregation.{Aggregation}
 use Rattle.groups.specs.declared.folding.Folding.{Folding}
 use Rattle.groups.specs.declared.pool.SetBag.{SetBag}
 use Rattle.groups.specs.declared.visiting.KeptRows.{KeptRows}
@@ -43,6 +44,24 @@ module _ {H : Type 0} where
     pub sets_stay : sets_of new ≡ sets_of old
     pub serves : (befores : List RowValue) → IsPool rows.aggregations.now befores old → IsPool rows.aggregations.now (befores ++ kept_of rows) new
 
+  -- ---- sources and others
+
+  -- rows went into the source and into all others, and may be counted together
+  pub record MayTakeOthers (others : List (SetBag H)) (source : SetBag H) : Type 0 where
+    pub aggregations : List Aggregation
+    pub rows : List RowValue
+    pub more : List RowValue
+    pub covers : Covers aggregations source.set.items rows source.bag
+    pub pool : IsPool aggregations more others
+    pub can : CanCount aggregations (rows ++ more)
+    pub finer : has_finer others source.set.items ≡ true
+
+  -- whatever rows went into the others went behind those of the source
+  pub record TakesOthers (others : List (SetBag H)) (old new : SetBag H) : Type 0 where
+    pub set_stays : new.set.items ≡ old.set.items
+    pub serves : (aggregations : List Aggregation) (rows more : List RowValue) → Covers aggregations old.set.items rows old.bag → IsPool aggregations more others →
+        Covers aggregations old.set.items (rows ++ more) new.bag
+
   -- ---- a plan
 
   -- the rows went into the groups of sources from which those of each set of the plan can be made
@@ -70,3 +89,12 @@ module _ {H : Type 0} where
     pub taken : List RowValue
     pub folds : Folds plan (kept plan.condition taken) folding
     pub may : MayFold plan taken
+
+  -- what is kept of some rows went into each, and these may be folded together
+  pub record MayJoin (first second : Folding H) : Type 0 where
+    pub plan : PlanTree
+    pub rows : List RowValue
+    pub more : List RowValue
+    pub firsts : Folds plan (kept plan.condition rows) first
+    pub seconds : Folds plan (kept plan.condition more) second
+    pub may : MayFold plan (rows ++ more)

@@ -104,6 +104,19 @@ impl<H: KeyHash<Cell>> Bag<H> {
         self.add(hash, tuple_of(alloc, tuple.cells(), places)?, copy)
     }
 
+    /// The groups of both, those of the second behind those of the first. Groups of one tuple stay beside each other.
+    pub fn with(self, more: Bag<H>) -> Result<Bag<H>, AllocError>
+        ensures { IfOk result (λ both. both ≡ self ++ more) }
+    {
+        let Bag { mut groups, places } = self;
+        let Bag {
+            groups: mut others,
+            ..
+        } = more;
+        groups.append(&mut others)?;
+        Ok(Bag { groups, places })
+    }
+
     /// A group of the cells at the places, if one is found. It takes no memory.
     fn find(&self, hash: u64, cells: &[Cell], places: &[usize]) -> Option<usize>
         requires { AreWithin (length cells.now) places.now }

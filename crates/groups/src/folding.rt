@@ -1,12 +1,13 @@
 //! Rows folded piece by piece.
 ghost use Rattle.std.specs.Prelude.{◌≡◌, [], List, ◌++◌, IfOk};
 ghost use Rattle.cells.specs.Values.{RowValue};
-ghost use Rattle.groups.specs.Folds.{group_count, FillsSources, Folds, MayFillSources, MayEnd, MayTakeMore};
+ghost use Rattle.groups.specs.Folds.{group_count, FillsSources, Folds, MayFillSources, MayEnd, MayJoin, MayTakeMore};
 ghost use Rattle.groups.specs.Groups.{kept};
 ghost use Rattle.groups.specs.Partials.{Stands, rows_of};
 ghost use Rattle.query.specs.Plans.{PlanTree};
 
 use crate::aggregation::{Aggregation, aggregations};
+use crate::meeting::all_with_others;
 use crate::partial::Partial;
 use crate::pool::SetBag;
 use crate::pool_tries::tries_of;
@@ -69,6 +70,31 @@ impl<'a, H: KeyHash<Cell> + KeyHash<Tuple>> Folding<'a, H> {
             count += source.bag.groups().len() as u128;
         }
         count
+    }
+
+    /// The rows that went into another folding of the same plan, behind those that are there. Both have rows of the table
+    /// that the plan was checked for. Where none went in here, it is the other one; else the groups of both are copied, and
+    /// those of one tuple put together. The only error is that a growth was refused.
+    pub fn join(self, alloc: Global, other: Folding<'a, H>) -> Result<Folding<'a, H>, AllocError>
+        requires { MayJoin self other }
+        ensures { (plan : PlanTree) (xs ys : List RowValue) → Folds plan xs self.entry → Folds plan ys other.entry →
+            IfOk result (Folds plan (xs ++ ys)) }
+    {
+        rows_fit_columns();
+        if self.groups() == 0 {
+            return Ok(other);
+        }
+        let Folding {
+            plan,
+            aggregations,
+            sources,
+        } = self;
+        let sources = all_with_others(alloc, sources, other.sources.as_slice())?;
+        Ok(Folding {
+            plan,
+            aggregations,
+            sources,
+        })
     }
 
     /// The partial result of all rows that were taken.

@@ -12,6 +12,7 @@ mod folding;
 mod joining;
 mod laws;
 mod laying;
+mod meeting;
 mod partial;
 mod pool;
 mod pool_tries;

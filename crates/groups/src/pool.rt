@@ -154,7 +154,7 @@ fn place_of_finer<H: KeyHash<Cell>>(pool: &[SetBag<H>], set: &[usize]) -> Option
 }
 
 /// The bag of the set from a finer one.
-fn coarser_bag<H: KeyHash<Cell>>(
+pub fn coarser_bag<H: KeyHash<Cell>>(
     alloc: Global,
     finer: &SetBag<H>,
     set: &[usize],

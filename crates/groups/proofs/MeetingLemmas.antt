@@ -1,0 +1,165 @@
+-- The sources of two foldings put together.
+use Rattle.std.specs.Prelude.{◌≡◌, ◌<◌, sum_by, true, List, [], ◌∷◌, ◌++◌, refl}
+use Rattle.std.specs.List.{AllByRecursion, AllZip, Contains}
+use Rattle.std.specs.List.Sorted.{IsPermutation}
+use Rattle.std.proofs.Common.{ℕ, length, ap₂, sym, ◌∙◌, subst, get_or, arith}
+use Rattle.std.proofs.lemmas.List.{append_assoc, append-nil, length-append, nil_from_length}
+use Rattle.std.proofs.lemmas.List.Sums.{sum_by-cons}
+use Rattle.std.proofs.lemmas.List.Concat.{flat_map-append}
+use Rattle.std.proofs.lemmas.List.Sorted.{IsPermutation-append_left, IsPermutation-append_right, IsPermutation-trans, length_permutation}
+use Rattle.cells.specs.Values.{RowValue}
+use Rattle.groups.specs.Accumulators.{aggregations_of}
+use Rattle.groups.specs.Bags.{AreParts, CanCount, CanFoldSet, Covers, Group, joined}
+use Rattle.groups.specs.Folds.{Folds, MayJoin, MayTakeOthers, TakesOthers, group_count}
+use Rattle.groups.specs.Groups.{kept}
+use Rattle.groups.specs.Laws.{kept_join}
+use Rattle.groups.specs.Pools.{HaveFiner, IsPool, MayCoarsen, MayCoarsenAll, has_finer, sets_of}
+use Rattle.groups.specs.declared.aggregation.Aggregation.{Aggregation}
+use Rattle.groups.specs.declared.folding.Folding.{Folding}
+use Rattle.groups.specs.declared.pool.SetBag.{SetBag}
+use Rattle.groups.proofs.FoldsLemmas.{finer_by_sets}
+use Rattle.groups.proofs.PlanLemmas.{RowsFitColumns, can_fold}
+use Rattle.groups.proofs.TuplesLemmas.{all_at, all_second, all_through}
+use Rattle.groups.proofs.VisitingLemmas.{can_count_kept}
+use Rattle.query.specs.Plans.{PlanTree}
+
+can_second : (aggregations : List Aggregation) (rows more : List RowValue) → CanCount aggregations (rows ++ more) → CanCount aggregations more
+can_second aggregations rows more can = record { each = all_second _ rows more can.each; few = omega (arith, can.few, length-append rows more) }
+
+module _ {H : Type 0} where
+  parts_both : (aggregations : List Aggregation) (columns : List ℕ) (first second : List (Group H)) (ps qs : List (List RowValue)) → AreParts aggregations columns first ps →
+      AreParts aggregations columns second qs → AreParts aggregations columns (first ++ second) (ps ++ qs)
+  parts_both aggregations columns [] second [] qs one two = two
+  parts_both aggregations columns [] second (p ∷ ps) qs one two = absurd one
+  parts_both aggregations columns (g ∷ first) second [] qs one two = absurd one
+  parts_both aggregations columns (g ∷ first) second (p ∷ ps) qs one two = (one.0, parts_both aggregations columns first second ps qs one.1 two)
+
+  -- groups beside others have the rows of both
+  pub covers_both : (aggregations : List Aggregation) (columns : List ℕ) (rows more : List RowValue) (first second : List (Group H)) → Covers aggregations columns rows first →
+      Covers aggregations columns more second → Covers aggregations columns (rows ++ more) (first ++ second)
+  covers_both aggregations columns rows more first second one two = record {
+    parts = one.parts ++ two.parts;
+    each = parts_both aggregations columns first second one.parts two.parts one.each two.each;
+    all = subst (IsPermutation (rows ++ more)) (sym (flat_map-append (λ (part : List RowValue). part) one.parts two.parts))
+        (IsPermutation-trans _ _ _ (IsPermutation-append_left more rows (joined one.parts) one.all) (IsPermutation-append_right (joined one.parts) more (joined two.parts) two.all));
+  }
+
+  module _ (others : List (SetBag H)) (source : SetBag H) (may : MayTakeOthers others source) where
+    pub others_coarsen : MayCoarsenAll others
+    others_coarsen = record {
+      aggregations = may.aggregations;
+      counted = record { rows = may.more; covers = may.pool; can = can_second may.aggregations may.rows may.more may.can };
+    }
+
+    pub both_coarsen : (both : SetBag H) (more : List (Group H)) → both.set.items ≡ source.set.items → both.bag ≡ source.bag ++ more →
+        ((aggregations : List Aggregation) (rows : List RowValue) → IsPool aggregations rows others → Covers aggregations source.set.items rows more) → MayCoarsen both
+    both_coarsen both more same is made = record {
+      aggregations = may.aggregations;
+      counted = record {
+        rows = may.rows ++ may.more;
+        covers = rw (same, is) (covers_both may.aggregations source.set.items may.rows may.more source.bag more may.covers (made may.aggregations may.more may.pool));
+        can = may.can;
+      };
+    }
+
+  -- ---- source by source
+
+  -- whatever becomes of the sources that are left, these and those make all
+  abbrev pub GoesOn : List (SetBag H) → List (SetBag H) → List (SetBag H) → List (SetBag H) → Type 0
+  GoesOn others all joined left = (news : List (SetBag H)) → AllZip (TakesOthers others) left news → AllZip (TakesOthers others) all (joined ++ news)
+
+  pub goes_first : (others all joined : List (SetBag H)) → joined ≡ [] → GoesOn others all joined all
+  goes_first others all joined none = λ news zip. rw none zip
+
+  pub goes_more : (others all joined longer old new : List (SetBag H)) (source made : SetBag H) → GoesOn others all joined old → old ≡ source ∷ new → longer ≡ joined ++ made ∷ [] →
+      TakesOthers others source made → GoesOn others all longer new
+  goes_more others all joined longer old new source made goes took more takes = λ news zip.
+      rw (more, append_assoc joined (made ∷ []) news) (goes (made ∷ news) (rw took (takes, zip)))
+
+  pub goes_last : (others all joined left : List (SetBag H)) → left ≡ [] → GoesOn others all joined left → AllZip (TakesOthers others) all joined
+  goes_last others all joined left none goes = subst (AllZip (TakesOthers others) all) (append-nil joined) (goes [] (rw none tt))
+
+  -- ---- foldings
+
+  zip_sets : (others old new : List (SetBag H)) → AllZip (TakesOthers others) old new → sets_of new ≡ sets_of old
+  zip_sets others [] [] zip = refl
+  zip_sets others [] (n ∷ new) zip = absurd zip
+  zip_sets others (o ∷ old) [] zip = absurd zip
+  zip_sets others (o ∷ old) (n ∷ new) zip = ap₂ (λ (s : List ℕ) (rest : List (List ℕ)). s ∷ rest) (zip.0).set_stays (zip_sets others old new zip.1)
+
+  zip_covers : (aggregations : List Aggregation) (rows more : List RowValue) (others old new : List (SetBag H)) → AllZip (TakesOthers others) old new → IsPool aggregations more others →
+      AllByRecursion (λ (f : SetBag H). Covers aggregations f.set.items rows f.bag) old → AllByRecursion (λ (f : SetBag H). Covers aggregations f.set.items (rows ++ more) f.bag) new
+  zip_covers aggregations rows more others [] [] zip pool all = tt
+  zip_covers aggregations rows more others [] (n ∷ new) zip pool all = absurd zip
+  zip_covers aggregations rows more others (o ∷ old) [] zip pool all = absurd zip
+  zip_covers aggregations rows more others (o ∷ old) (n ∷ new) zip pool all = (
+    subst (λ (s : List ℕ). Covers aggregations s (rows ++ more) n.bag) (sym (zip.0).set_stays) ((zip.0).serves aggregations rows more all.0 pool),
+    zip_covers aggregations rows more others old new zip.1 pool all.1,
+  )
+
+  pub folds_join : (plan : PlanTree) (rows more : List RowValue) (first second new : Folding H) → Folds plan rows first → Folds plan more second → new.plan.now ≡ first.plan.now →
+      new.aggregations.items ≡ first.aggregations.items → (others : List (SetBag H)) → others ≡ second.sources.items → AllZip (TakesOthers others) first.sources.items new.sources.items →
+      Folds plan (rows ++ more) new
+  folds_join plan rows more first second new one two same_plan same_aggregations others are zip = record {
+    planned = same_plan ∙ one.planned;
+    aggregations = same_aggregations ∙ one.aggregations;
+    finer = all_through _ _ (λ s f. finer_by_sets s first.sources.items new.sources.items sets ∙ f) plan.sets one.finer;
+    among = subst (AllByRecursion (Contains plan.sets)) (sym sets) one.among;
+    covers = record { each = zip_covers (aggregations_of plan.items) rows more others first.sources.items new.sources.items zip (rw are two.covers) (one.covers).each };
+  }
+    where
+      sets : sets_of new.sources.items ≡ sets_of first.sources.items
+      sets = zip_sets others first.sources.items new.sources.items zip
+
+  join_each : (aggregations : List Aggregation) (rows more : List RowValue) (sets : List (List ℕ)) (others : List (SetBag H)) → IsPool aggregations more others → HaveFiner others sets →
+      CanCount aggregations (rows ++ more) → (sources : List (SetBag H)) → AllByRecursion (Contains sets) (sets_of sources) →
+      AllByRecursion (λ (f : SetBag H). Covers aggregations f.set.items rows f.bag) sources → AllByRecursion (MayTakeOthers others) sources
+  join_each aggregations rows more sets others pool finer can [] among covers = tt
+  join_each aggregations rows more sets others pool finer can (f ∷ sources) among covers = (
+    record {
+      aggregations = aggregations;
+      rows = rows;
+      more = more;
+      covers = covers.0;
+      pool = pool;
+      can = can;
+      finer = subst (λ s. has_finer others s ≡ true) (among.0).2 (all_at (λ s. has_finer others s ≡ true) sets (among.0).0 f.set.items finer (among.0).1);
+    },
+    join_each aggregations rows more sets others pool finer can sources among.1 covers.1,
+  )
+
+  pub may_take_others : (laws : RowsFitColumns) (first second : Folding H) (others : List (SetBag H)) → others ≡ second.sources.items → MayJoin first second →
+      AllByRecursion (MayTakeOthers others) first.sources.items
+  may_take_others laws first second others are may =
+      let plan = may.plan in
+      let aggregations = aggregations_of plan.items in
+      let can = can_count_kept plan.condition aggregations (get_or plan.sets 0 []) (may.rows ++ may.more)
+      (all_at (λ s. CanFoldSet aggregations s (may.rows ++ may.more)) plan.sets 0 []
+      (can_fold laws plan aggregations (may.rows ++ may.more) refl may.may).each ((may.may).planned).some) in
+      join_each aggregations (kept plan.condition may.rows) (kept plan.condition may.more) plan.sets others (rw are (may.seconds).covers) (rw are (may.seconds).finer)
+      (subst (CanCount aggregations) (kept_join plan.condition may.rows may.more) can) first.sources.items (may.firsts).among ((may.firsts).covers).each
+
+  -- ---- a folding of no rows
+
+  covers_nothing : (aggregations : List Aggregation) (columns : List ℕ) (rows : List RowValue) (groups : List (Group H)) (parts : List (List RowValue)) → groups ≡ [] →
+      AreParts aggregations columns groups parts → IsPermutation rows (joined parts) → rows ≡ []
+  covers_nothing aggregations columns rows [] [] none are moved = nil_from_length rows (sym (length_permutation rows [] moved))
+  covers_nothing aggregations columns rows [] (p ∷ parts) none are moved = absurd are
+  covers_nothing aggregations columns rows (g ∷ groups) parts none are moved = absurd (cc)
+
+  no_rows_in : (aggregations : List Aggregation) (rows : List RowValue) (sets : List (List ℕ)) (sources : List (SetBag H)) → 0 < length sets → HaveFiner sources sets →
+      IsPool aggregations rows sources → sum_by (λ s. length s.bag) sources ≡ 0 → rows ≡ []
+  no_rows_in aggregations rows [] sources some finer pool none = absurd (omega (arith, some))
+  no_rows_in aggregations rows (set ∷ sets) [] some finer pool none = absurd (let never = finer.0 in cc)
+  no_rows_in aggregations rows (set ∷ sets) (f ∷ sources) some finer pool none =
+      let empty : f.bag ≡ [] = nil_from_length f.bag (omega (arith, none, sum_by-cons (λ (s : SetBag H). length s.bag) f sources)) in
+      let covers = (pool.each).0 in
+      covers_nothing aggregations f.set.items rows f.bag covers.parts empty covers.each covers.all
+
+  pub joins_nothing : (first second : Folding H) → MayJoin first second → group_count first ≡ 0 → (plan : PlanTree) (rows more : List RowValue) → Folds plan rows first → Folds plan more second →
+      Folds plan (rows ++ more) second
+  joins_nothing first second may none plan rows more one two =
+      let same : may.plan ≡ plan = sym (may.firsts).planned ∙ one.planned in
+      let some : 0 < length plan.sets = subst (λ (p : PlanTree). 0 < length p.sets) same ((may.may).planned).some in
+      let nothing = no_rows_in (aggregations_of plan.items) rows plan.sets first.sources.items some one.finer one.covers none in
+      rw nothing two
