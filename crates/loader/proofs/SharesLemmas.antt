@@ -1,5 +1,5 @@
 -- Rows spread over shares.
-use Rattle.std.proofs.Common.{◌≡◌, ◌==◌, ℕ, ◌+◌, ◌<◌, ◌≤◌, Bool, true, false, List, [], ◌∷◌, ◌++◌, length, drop, get_or, replicate, set, zero, suc, inl, inr, refl, sym, ap, ap₂, ◌∙◌, arith}
+use Rattle.std.proofs.Common.{◌≡◌, ◌==◌, ℕ, ◌+◌, ◌<◌, ◌≤◌, Bool, true, false, List, [], ◌∷◌, ◌++◌, length, drop, get_or, map, replicate, set, zero, suc, inl, inr, refl, sym, ap, ap₂, ◌∙◌, arith}
 use Rattle.std.specs.Prelude.{Vec}
 use Rattle.std.specs.declared.alloc.Global.{Global}
 use Rattle.std.proofs.Math.ListN.{length-set}
@@ -10,6 +10,10 @@ use Rattle.std.proofs.lemmas.List.Elements.{filter-append}
 use Rattle.cells.specs.Values.{RowValue}
 use Rattle.cells.specs.declared.cell.Cell.{Cell}
 use Rattle.loader.specs.Shares.{AreSpread, Pairs, in_shares, lists, pairs_in, pairs_of_share, share_count, share_of}
+
+-- the parts of equal lists
+cons_same : {A : Type 0} (x y : A) (xs ys : List A) → ◌≡◌ {A = List A} (x ∷ xs) (y ∷ ys) → (x ≡ y) × (xs ≡ ys)
+cons_same x y xs ys e = (cc, cc)
 
 -- ---- shares of no rows
 
@@ -27,6 +31,14 @@ spread_none shares is hash_of = rw is (record {
   many = many_replicated share_count;
   each = λ share within. nothing_at share_count share;
 })
+
+-- shares of no lists have no rows
+pub none_in_shares : (n : ℕ) (shares : List (Vec (Vec (Cell × RowValue) Global) Global)) → map (λ share. share.items) shares ≡ replicate n [] → in_shares shares ≡ replicate n []
+none_in_shares zero [] is = refl
+none_in_shares zero (share ∷ shares) is = absurd (cc)
+none_in_shares (suc n) [] is = absurd (cc)
+none_in_shares (suc n) (share ∷ shares) is =
+    let same = cons_same _ _ _ _ is in ap₂ (λ (first : Pairs) (rest : List Pairs). first ∷ rest) (ap pairs_in same.0) (none_in_shares n shares same.1)
 
 -- ---- one row more
 
@@ -68,9 +80,6 @@ module _ (hash_of : Cell → ℕ) (pairs : Pairs) (one : Cell × RowValue) where
       rw (map-set (λ list. list.items) shares j new, new_is, ← there) (spread_more (lists shares) so_far j j_is j_lt)
 
 -- ---- the rows of a part behind those that are there
-
-cons_same : {A : Type 0} (x y : A) (xs ys : List A) → ◌≡◌ {A = List A} (x ∷ xs) (y ∷ ys) → (x ≡ y) × (xs ≡ ys)
-cons_same x y xs ys e = (cc, cc)
 
 -- the shares with the rows of so many shares of a part
 pub record AppendedBelow (old behind new : List Pairs) (share : ℕ) : Type 0 where

@@ -1,5 +1,5 @@
 //! Rows spread over shares by the hashes of their keys.
-ghost use Rattle.std.specs.Prelude.{◌≡◌, ◌<◌, ◌++◌, ◌∷◌, [], ℕ, IfOk, length};
+ghost use Rattle.std.specs.Prelude.{◌≡◌, ◌<◌, ◌++◌, ◌∷◌, [], ℕ, IfOk, length, map, replicate};
 ghost use Rattle.cells.specs.declared.cell.Cell.{Cell};
 ghost use Rattle.loader.specs.Shares.{AreSpread, Pairs, in_shares, lists, share_count, share_of};
 
@@ -28,11 +28,9 @@ impl Spread {
     pub fn new(alloc: Global) -> Result<Spread, AllocError>
         ensures { IfOk result (λ none. (hash_of : Cell → ℕ) → AreSpread hash_of [] (lists none.shares.items)) }
     {
-        let mut shares = Vec::with_capacity(alloc, SHARES)?;
-        for _ in 0..SHARES {
-            shares.push(Vec::new(alloc))?;
-        }
-        Ok(Spread { shares })
+        Ok(Spread {
+            shares: empty_lists(alloc)?,
+        })
     }
 
     /// Puts a row behind those that are there.
@@ -58,11 +56,9 @@ impl Shares {
     pub fn new(alloc: Global) -> Result<Shares, AllocError>
         ensures { IfOk result (λ none. (hash_of : Cell → ℕ) → AreSpread hash_of [] (in_shares none.shares.items)) }
     {
-        let mut shares = Vec::with_capacity(alloc, SHARES)?;
-        for _ in 0..SHARES {
-            shares.push(Vec::new(alloc))?;
-        }
-        Ok(Shares { shares })
+        Ok(Shares {
+            shares: empty_lists(alloc)?,
+        })
     }
 
     /// Puts the rows of a part behind those that are there.
@@ -80,6 +76,17 @@ impl Shares {
         }
         Ok(())
     }
+}
+
+/// An empty list for each share.
+fn empty_lists<T: Drop>(alloc: Global) -> Result<Vec<Vec<T>>, AllocError>
+    ensures { IfOk result (λ all. map (λ list. list.items) all.items ≡ replicate share_count []) }
+{
+    let mut all = Vec::with_capacity(alloc, SHARES)?;
+    for _ in 0..SHARES {
+        all.push(Vec::new(alloc))?;
+    }
+    Ok(all)
 }
 
 /// The share of a hash.

@@ -43,7 +43,6 @@ pub(crate) fn trie_of_shares<H: KeyHash<Cell> + Send + Sync, G: Gate, R: Threads
     ensures refused { IfErr result (λ e. (e ≡ NoWorker) ⊎ (e ≡ OutOfMemory)) }
 {
     updates_make_a_map();
-    later_puts_lie_over();
     let workers = workers.min(parts as u64).min(SHARES as u64) as usize;
     let runs = runs_of(alloc, shares.shares, parts, workers)?;
     if workers > 1 {
