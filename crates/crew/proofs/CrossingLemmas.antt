@@ -1,4 +1,4 @@
--- What `gather` sends to threads may cross: what is folded, and the work itself. Each type
+-- What is sent to workers and handed back by them may cross threads: what is folded, and the work itself. Each type
 -- has a lemma of its own, since one search that goes down through all of them runs out of steps.
 use denote.Builtin.{usize}
 use denote.Enum.Declared.{row}
@@ -12,7 +12,7 @@ use denote.Struct.Tuple as Struct
 use denote.Ref.{NamedLft}
 use Rattle.std.proofs.Common.{[], ◌∷◌}
 use Rattle.std.proofs.Crossing.{crosses}
-use Rattle.std.proofs.MapsCrossing.{HashMap-send}
+use Rattle.std.proofs.MapsCrossing.{HashMap-send, HashMap-sync}
 use Rattle.aggs.specs.contracts.acc.Acc as Acc
 use Rattle.aggs.specs.contracts.distinct.CountDistinct as CountDistinct
 use Rattle.cells.specs.contracts.cell.Cell as CellType
@@ -20,7 +20,10 @@ use Rattle.cells.specs.contracts.row.Row as RowType
 use Rattle.cells.specs.contracts.tuple.Tuple as TupleType
 use Rattle.cells.specs.declared.cell.Cell.{Cell}
 use Rattle.cells.specs.declared.hash.KeyHash as KeyHash
+use Rattle.columns.specs.contracts.column.Column as Column
+use Rattle.columns.specs.contracts.columns.Columns as Columns
 use Rattle.crew.specs.contracts.gathering.Gathering as Gathering
+use Rattle.crew.specs.contracts.ranging.Ranging as Ranging
 use Rattle.groups.specs.contracts.accumulators.Accumulators as Accumulators
 use Rattle.groups.specs.contracts.aggregation.Aggregation as Aggregation
 use Rattle.groups.specs.contracts.bag.Bag as Bag
@@ -143,3 +146,12 @@ module _ (H : RattleType) (cells : KeyHash.Ghosts H.Denot Cell) (s : IsSend H) (
 
   pub gathering_sync : (life : NamedLft) (G : RattleType) → IsSync G → IsSync (Gathering.the_field life H G cells).row
   gathering_sync life G g = let plan = plan_sync in search (piece_sync, sendable, crosses) depth 40
+
+  column_sync : IsSync (Column.the_field H cells).row
+  column_sync = let cell = cell_sync in search (HashMap-sync, sendable, crosses) depth 40
+
+  columns_sync : IsSync (Columns.the_field H cells).row
+  columns_sync = let column = column_sync in search (sendable, crosses) depth 40
+
+  pub ranging_sync : (life : NamedLft) → IsSync (Ranging.the_field life H cells).row
+  ranging_sync life = let plan = plan_sync in let columns = columns_sync in search (sendable, crosses) depth 40

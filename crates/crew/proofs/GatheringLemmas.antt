@@ -22,7 +22,7 @@ use Rattle.crew.proofs.PlacesLemmas.{all_of, all_weaker, at_last, part_of, permu
 
 -- ---- rows at places
 
-abbrev row_list : List PieceValue → ℕ → List RowValue
+abbrev pub row_list : List PieceValue → ℕ → List RowValue
 row_list pieces = λ place. rows_of (slice_index_or pieces place [])
 
 rows_from : (pieces : List PieceValue) (count from : ℕ) → from + count ≡ length pieces → rows_at pieces (range_with_len from count) ≡ rows_in (drop from pieces)
@@ -34,7 +34,7 @@ rows_from pieces (suc count) from is =
     ∙ sym (at_drop_more rows_in pieces from [] (omega arith))
 
 -- those at all places are the rows of all pieces
-rows_at_all : (pieces : List PieceValue) → rows_at pieces (range_with_len 0 (length pieces)) ≡ rows_in pieces
+pub rows_at_all : (pieces : List PieceValue) → rows_at pieces (range_with_len 0 (length pieces)) ≡ rows_in pieces
 rows_at_all pieces = rows_from pieces (length pieces) 0 (omega arith)
 
 -- at one place more there are the rows of one piece more

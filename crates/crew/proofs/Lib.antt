@@ -2,8 +2,11 @@ pub mod BackLemmas
 pub mod CrossingLemmas
 pub mod GatheringLemmas
 pub mod HistoryLemmas
+pub mod JoiningLemmas
+pub mod LayingLemmas
 pub mod ListsLemmas
 pub mod PlacesLemmas
+pub mod RangingLemmas
 pub mod RisingLemmas
 pub mod RuleLemmas
 pub mod SeatLemmas

@@ -1,7 +1,9 @@
 pub mod Draws
 pub mod Gathering
 pub mod Law
+pub mod Laying
 pub mod Limits
+pub mod Ranging
 pub mod Seats
 pub mod Shares
 pub mod Tasks

@@ -1,6 +1,7 @@
 -- Groups laid over tries.
 use Rattle.std.specs.Prelude.{◌≡◌, ◌==◌, ℕ, ◌+◌, ◌<◌, ◌≤◌, Bool, true, false, not, ◌&&◌, List, [], ◌∷◌, ◌++◌, length, take, drop, Option, Some, None, IfSome, cond, if◌then◌else◌, refl}
 use Rattle.std.specs.FinMap as map
+use Rattle.std.specs.Prelude.{is_some}
 use Rattle.std.specs.FinMap.{IsAntisymmetric}
 use Rattle.std.specs.List.{AllByRecursion}
 use Rattle.std.specs.Ordering.{is_eq, is_lt}
@@ -19,13 +20,13 @@ use Rattle.groups.specs.Accumulators.{AllFit, accs_of, both, group, group_or, is
 use Rattle.groups.specs.Bags.{AreParts, Covers, FitsRow, Group, IsCounted, IsPart, joined}
 use Rattle.groups.specs.Groups.{cell_at, column_of, members, tuple_of}
 use Rattle.groups.specs.Laws.{all_kept, kept_short}
-use Rattle.groups.specs.Laying.{CanMeet, IsLaid, Lays, found, given, met_from}
+use Rattle.groups.specs.Laying.{AreLaidOnce, CanMeet, IsLaid, Lays, found, given, met_from}
 use Rattle.groups.specs.Partials.{StandsAt}
 use Rattle.groups.specs.declared.aggregation.Aggregation.{Aggregation}
 use Rattle.groups.proofs.BagLemmas.{all_in_order, covers_none, met_covers, met_joined, stored_column}
 use Rattle.groups.proofs.TuplesLemmas.{all_both, all_first, all_second}
 use Rattle.trie.specs.Digits.{digit_order}
-use Rattle.trie.specs.Entries.{with_pair}
+use Rattle.trie.specs.Entries.{with_pair, with_pairs}
 use Rattle.trie.specs.Maps.{map_of}
 
 -- with a pair more a list is longer by one at most
@@ -235,3 +236,59 @@ not_nil (x ∷ xs) e f = cc
 pub is_nil : (xs : List ℕ) → true ≡ (length xs == 0) → xs ≡ []
 is_nil [] e = refl
 is_nil (x ∷ xs) e = absurd (omega (arith, eqb-true (length (x ∷ xs)) 0 (sym e)))
+
+-- ---- groups of which no two have one tuple
+module _ {H : Type 0} (hash : List Cell → ℕ) (maps : AreMaps H hash) where
+  abbrev Table : Type 0
+  Table = map.FinMap tuple_cmp (List (Acc H))
+
+  abbrev inserted : List (Group H) → Table → Table
+  inserted [] m = m
+  inserted (g ∷ groups) m = inserted groups (map.insert m g.0 g.1)
+
+  inserted_pairs : (groups es : List (Group H)) → map_of tuple_cmp (with_pairs (digit_order hash tuple_cmp) groups es) ≡ inserted groups (map_of tuple_cmp es)
+  inserted_pairs [] es = refl
+  inserted_pairs (g ∷ groups) es = inserted_pairs groups (with_pair (digit_order hash tuple_cmp) g.0 g.1 es) ∙ ap (inserted groups) (maps.put es g.0 g.1 exact_tuples)
+
+  one_longer : (m : Table) (g : Group H) → map.len (map.insert m g.0 g.1) ≤ map.len m + 1
+  one_longer m g = cases (map.contains_key m g.0) (map.len-insert tuple_cmp-total m g.0 g.1)
+    where
+      cases : (b : Bool) → map.len (map.insert m g.0 g.1) ≡ cond b (map.len m) (map.len m + 1) → map.len (map.insert m g.0 g.1) ≤ map.len m + 1
+      cases true e = omega (arith, e)
+      cases false e = omega (arith, e)
+
+  no_more : (groups : List (Group H)) (m : Table) → map.len (inserted groups m) ≤ map.len m + length groups
+  no_more [] m = omega arith
+  no_more (g ∷ groups) m = omega (arith, no_more groups (map.insert m g.0 g.1), one_longer m g)
+
+  is_new : (m : Table) (g : Group H) → map.len m < map.len (map.insert m g.0 g.1) → map.get m g.0 ≡ None
+  is_new m g h = cases (map.get m g.0) refl
+    where
+      cases : (o : Option (List (Acc H))) → map.get m g.0 ≡ o → o ≡ None
+      cases None e = refl
+      cases (Some a) e = absurd (omega (arith, h, map.len-insert tuple_cmp-total m g.0 g.1 ∙ ap (λ b. cond b (map.len m) (map.len m + 1)) (ap is_some e)))
+
+  gives_each : (groups : List (Group H)) (m : Table) → map.len m + length groups ≤ map.len (inserted groups m) → (t : List Cell) →
+      map.get (inserted groups m) t ≡ met_from (map.get m t) groups t
+  gives_each [] m h t = refl
+  gives_each (g ∷ groups) m h t =
+      let next : Table = map.insert m g.0 g.1 in
+      let new : map.get m g.0 ≡ None = is_new m g (omega (arith, h, no_more groups next, one_longer m g)) in
+      gives_each groups next (omega (arith, h, one_longer m g)) t ∙
+      ap (λ o. met_from o groups t) (map.get-insert tuple_cmp-total m g.0 g.1 t ∙ cases new (tuple_eq t g.0) refl)
+    where
+      cases : map.get m g.0 ≡ None → (b : Bool) → tuple_eq t g.0 ≡ b → cond b (Some g.1) (map.get m t) ≡ both (map.get m t) (cond b (Some g.1) None)
+      cases new true p = let same : t ≡ g.0 = same_tuples t g.0 p in rw (same, new) refl
+      cases new false p = sym (both_none (map.get m t))
+
+  pub laid_once : (groups es : List (Group H)) → map_of {V = List (Acc H)} tuple_cmp [] ≡ map.empty → es ≡ with_pairs (digit_order hash tuple_cmp) groups [] → map.len (map_of tuple_cmp es) ≡ length es → length groups ≤ length es →
+      AreLaidOnce hash groups es
+  laid_once groups es nothing is counted many =
+      let made : map_of tuple_cmp es ≡ inserted groups map.empty = ap (map_of tuple_cmp) is ∙ inserted_pairs groups [] ∙ ap (inserted groups) nothing in
+      let none : map.len (map.empty {X = List (Acc H)} {R = tuple_cmp}) ≡ 0 = map.len-empty tuple_cmp (List (Acc H)) in
+      let long : map.len (inserted groups map.empty) ≡ length es = ap (λ (m : Table). map.len m) (sym made) ∙ counted in
+      record {
+        gives = λ t. sym (maps.value es t) ∙ ap (λ (m : Table). map.get m t) made ∙ gives_each groups map.empty (omega (arith, none, long, many)) t ∙
+            ap (λ o. met_from o groups t) (ap (λ (m : Table). map.get m t) (sym nothing) ∙ maps.value [] t);
+        short = omega (arith, no_more groups map.empty, none, long);
+      }

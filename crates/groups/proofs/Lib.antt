@@ -8,6 +8,13 @@ pub mod JoinLemmas
 pub mod LayingLemmas
 pub mod MeetingLemmas
 pub mod OrderLemmas
+pub mod PartingLemmas
+pub mod NumberedLemmas
+pub mod TallyingLemmas
+pub mod DifferingLemmas
+pub mod ColumnarLemmas
+pub mod RangesLemmas
+pub mod KeepingLemmas
 pub mod PlanLemmas
 pub mod PoolLemmas
 pub mod ReportLemmas

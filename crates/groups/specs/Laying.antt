@@ -34,6 +34,11 @@ module _ {H : Type 0} (hash : List Cell → ℕ) where
     pub gives : (t : List Cell) → found new t ≡ both (found old t) (given (tuple, accs) t)
     pub longer : length new ≤ length old + 1
 
+  -- the groups, of which no two have one tuple, are the entries
+  pub record AreLaidOnce (groups entries : List (Group H)) : Type 0 where
+    pub gives : (t : List Cell) → found entries t ≡ met_from None groups t
+    pub short : length entries ≤ length groups
+
   -- the groups were laid over the start
   pub record IsLaid (aggregations : List Aggregation) (columns : List ℕ) (groups entries : List (Group H)) : Type 0 where
     pub gives : (t : List Cell) → found entries t ≡ met_from (group aggregations columns [] t) groups t

@@ -4,6 +4,13 @@ pub mod Partials
 pub mod Codes
 pub mod Bags
 pub mod Visiting
+pub mod Parting
+pub mod Numbered
+pub mod Tallying
+pub mod Differing
+pub mod Columnar
+pub mod Ranges
+pub mod Keeping
 pub mod Pools
 pub mod Folds
 pub mod Coarsening

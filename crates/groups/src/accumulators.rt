@@ -51,6 +51,13 @@ impl<H: KeyHash<Cell>> Accumulators<H> {
         Ok(Accumulators { accs })
     }
 
+    /// Accumulators in the order of the select list. It takes no memory.
+    pub fn of(accs: Vec<Acc<H>>) -> Accumulators<H>
+        ensures { result ≡ accs.items }
+    {
+        Accumulators { accs }
+    }
+
     /// The accumulators, in the order of the select list. It takes no memory.
     pub fn as_slice(&self) -> &[Acc<H>]
         ensures { result.now ≡ self.now }

@@ -52,6 +52,16 @@ impl<H: KeyHash<Cell>> Bag<H> {
         }
     }
 
+    /// These groups, none of which is found by its hash. It takes no memory.
+    pub fn of(alloc: Global, groups: Vec<(Tuple, Accumulators<H>)>) -> Bag<H>
+        ensures { result ≡ groups.items }
+    {
+        Bag {
+            groups,
+            places: HashMap::new(alloc),
+        }
+    }
+
     /// The groups, in the order in which their first rows came. It takes no memory.
     pub fn groups(&self) -> &[(Tuple, Accumulators<H>)]
         ensures all { result.now ≡ self.now }

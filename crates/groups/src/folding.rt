@@ -1,19 +1,24 @@
 //! Rows folded piece by piece.
-ghost use Rattle.std.specs.Prelude.{◌≡◌, [], List, ◌++◌, IfOk};
+ghost use Rattle.std.specs.Prelude.{◌≡◌, [], List, ◌++◌, IfOk, IfSome};
 ghost use Rattle.cells.specs.Values.{RowValue};
+ghost use Rattle.columns.specs.Columns.{Hold};
 ghost use Rattle.groups.specs.Folds.{group_count, FillsSources, Folds, MayFillSources, MayEnd, MayJoin, MayTakeMore};
 ghost use Rattle.groups.specs.Groups.{kept};
 ghost use Rattle.groups.specs.Partials.{Stands, rows_of};
+ghost use Rattle.groups.specs.Ranges.{MayFoldRange, rows_from};
 ghost use Rattle.query.specs.Plans.{PlanTree};
 
 use crate::aggregation::{Aggregation, aggregations};
+use crate::keeping::kept_rows;
 use crate::meeting::all_with_others;
 use crate::partial::Partial;
 use crate::pool::SetBag;
 use crate::pool_tries::tries_of;
+use crate::ranges::sources_from;
 use crate::sources::sources_of;
 use crate::visiting::{KeptRows, fill_source};
 use cells::{Cell, KeyHash, Row, Tuple};
+use columns::Columns;
 use query::{Plan, rows_fit_columns};
 use std::alloc::{AllocError, Global};
 use trie::Piece;
@@ -59,6 +64,48 @@ impl<'a, H: KeyHash<Cell> + KeyHash<Tuple>> Folding<'a, H> {
         };
         fill_sources(alloc, &rows, &mut self.sources)?;
         Ok(())
+    }
+
+    /// The folding of those rows for which the plan's WHERE is true, of `count` rows from the place `first` on whose columns
+    /// are at hand. They are rows of the table that the plan was checked for. None where a column that the plan needs was left
+    /// out, or groups are too many for a table: then the rows are to be folded piece by piece. The only error is that a growth
+    /// was refused.
+    pub fn of_rows(
+        alloc: Global,
+        plan: &'a Plan,
+        columns: &Columns<H>,
+        first: usize,
+        count: usize,
+    ) -> Result<Option<Folding<'a, H>>, AllocError>
+        requires { MayFoldRange plan.now columns.now first count }
+        ensures { (all : List RowValue) → Hold all columns.now →
+            IfOk result (λ made. IfSome made (Folds plan.now (kept plan.now.condition (rows_from first count all)))) }
+    {
+        rows_fit_columns();
+        let none = Folding::new(alloc, plan)?;
+        let Some(rows) = kept_rows(alloc, plan, columns, first, count)? else {
+            return Ok(None);
+        };
+        let Folding {
+            plan,
+            aggregations,
+            sources,
+        } = none;
+        let made = sources_from(
+            alloc,
+            columns,
+            aggregations.as_slice(),
+            rows.as_slice(),
+            sources.as_slice(),
+        )?;
+        let Some(sources) = made else {
+            return Ok(None);
+        };
+        Ok(Some(Folding {
+            plan,
+            aggregations,
+            sources,
+        }))
     }
 
     /// How many groups it holds so far, those of all sources together. A tuple may have more than one. It takes no memory.

@@ -4,7 +4,7 @@ ghost use Rattle.std.specs.Option.{option_copied};
 ghost use Rattle.cells.specs.Values.{RowValue};
 ghost use Rattle.groups.specs.Accumulators.{AllFit, both};
 ghost use Rattle.groups.specs.Bags.{Covers, IsCounted};
-ghost use Rattle.groups.specs.Laying.{CanMeet, IsLaid, Lays, found};
+ghost use Rattle.groups.specs.Laying.{AreLaidOnce, CanMeet, IsLaid, Lays, found};
 ghost use Rattle.groups.specs.Partials.{StandsAt};
 
 use crate::accumulators::Accumulators;
@@ -56,11 +56,64 @@ fn laid<H: KeyHash<Cell> + KeyHash<Tuple>>(
     requires few { length groups.now < 2 ^ 63 }
     ensures { IfOk result (λ t. IsLaid H.KeyHash-2.hash_of aggregations.now set.now groups.now t) }
 {
+    if !set.is_empty() {
+        if let Some(trie) = made_at_once(alloc, groups)? {
+            return Ok(trie);
+        }
+    }
+    laid_in_turn(alloc, groups, set, aggregations)
+}
+
+/// The same, group by group, where several may have one tuple.
+fn laid_in_turn<H: KeyHash<Cell> + KeyHash<Tuple>>(
+    alloc: Global,
+    groups: &[(Tuple, Accumulators<H>)],
+    set: &[usize],
+    aggregations: &[Aggregation],
+) -> Result<Trie<Tuple, Accumulators<H>, H>, AllocError>
+    requires meet { CanMeet aggregations.now set.now groups.now }
+    requires few { length groups.now < 2 ^ 63 }
+    ensures { IfOk result (λ t. IsLaid H.KeyHash-2.hash_of aggregations.now set.now groups.now t) }
+{
     let mut trie = start(alloc, set, aggregations)?;
     for group in groups {
         trie = with_group(alloc, &trie, group.0.clone()?, group.1.clone()?)?;
     }
     Ok(trie)
+}
+
+/// The trie of groups of which no two have one tuple; None where two have.
+fn made_at_once<H: KeyHash<Cell> + KeyHash<Tuple>>(
+    alloc: Global,
+    groups: &[(Tuple, Accumulators<H>)],
+) -> Result<Option<Trie<Tuple, Accumulators<H>, H>>, AllocError>
+    requires few { length groups.now < 2 ^ 63 }
+    ensures { IfOk result (λ made. IfSome made (AreLaidOnce H.KeyHash-2.hash_of groups.now)) }
+{
+    // These do nothing: they are the trie's laws, by which as many entries as groups are those of as many tuples.
+    entries_are_a_map::<Tuple, Accumulators<H>, H>();
+    let pairs = copies(alloc, groups)?;
+    let trie: Trie<Tuple, Accumulators<H>, H> = Trie::from_pairs(alloc, pairs, &mut Ticks::new())?;
+    trie.keys_rise();
+    if trie.len() < groups.len() as u64 {
+        return Ok(None);
+    }
+    Ok(Some(trie))
+}
+
+/// Copies of the groups.
+fn copies<H: KeyHash<Cell>>(
+    alloc: Global,
+    groups: &[(Tuple, Accumulators<H>)],
+) -> Result<Vec<(Tuple, Accumulators<H>)>, AllocError>
+    ensures { IfOk result (λ v. v.items ≡ groups.now) }
+{
+    let mut all = Vec::with_capacity(alloc, groups.len())?;
+    for group in groups {
+        let tuple = group.0.clone()?;
+        all.push((tuple, group.1.clone()?))?;
+    }
+    Ok(all)
 }
 
 /// The trie with a group more. The call of `entries_are_a_map` does nothing: it is the trie's law.

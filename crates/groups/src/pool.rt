@@ -10,7 +10,7 @@ ghost use Rattle.groups.specs.declared.pool.SetBag.{SetBag};
 
 use crate::bag::Bag;
 use crate::coarsening::coarsened;
-use crate::columns::{has_all, most_columns, places_in};
+use crate::set_places::{has_all, most_columns, places_in};
 use cells::{Cell, KeyHash};
 use query::GroupSet;
 use std::alloc::{AllocError, Global};

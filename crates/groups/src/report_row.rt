@@ -8,7 +8,7 @@ ghost use Rattle.query.specs.Limits.{grouping_limit};
 ghost use Rattle.query.specs.Values.{is_long};
 
 use crate::accumulators::Accumulators;
-use crate::columns::place_in;
+use crate::set_places::place_in;
 use aggs::Acc;
 use cells::{Cell, KeyHash, Total, Tuple};
 use query::Item;

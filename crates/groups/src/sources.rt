@@ -4,8 +4,8 @@ ghost use Rattle.std.specs.List.{AllByRecursion};
 ghost use Rattle.groups.specs.Pools.{AddsSource, ArePlanned, AreSources, has_all, has_finer};
 
 use crate::bag::Bag;
-use crate::columns::{has_all, most_columns};
 use crate::pool::SetBag;
+use crate::set_places::{has_all, most_columns};
 use cells::{Cell, KeyHash};
 use query::GroupSet;
 use std::alloc::{AllocError, Global};

@@ -5,6 +5,7 @@ pub mod DifferentLemmas
 pub mod FallsLemmas
 pub mod HavingLemmas
 pub mod HeadingsLemmas
+pub mod NamingLemmas
 pub mod PlacesLemmas
 pub mod PlansLemmas
 pub mod ShortLemmas

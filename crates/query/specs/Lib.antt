@@ -18,6 +18,7 @@ pub mod Truth
 pub mod Leaves
 pub mod Lent
 pub mod Names
+pub mod Naming
 pub mod Checks
 pub mod Having
 pub mod Headings

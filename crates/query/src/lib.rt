@@ -15,6 +15,7 @@ mod laws;
 mod leaf;
 mod limits;
 mod names;
+mod naming;
 mod owned;
 mod phrases;
 mod places;
@@ -37,7 +38,9 @@ pub use limits::{
     MAX_GROUPING_COLUMNS, MAX_ITEMS, MAX_OPEN_PARENTHESES, MAX_QUERY_BYTES, MAX_SETS,
 };
 pub use plan::Plan;
-pub use plan_laws::{predicates_fit_rows, rows_fit_columns, worked_sets, worked_truths};
+pub use plan_laws::{
+    predicates_fit_rows, rows_fit_columns, truth_by_columns, worked_sets, worked_truths,
+};
 pub use predicate::{Predicate, PredicateForm};
 pub use query::Query;
 pub use reading::read;

@@ -2,6 +2,7 @@
 ghost use Rattle.std.specs.Prelude.{◌≡◌, ◌≢◌, ◌++◌, ℕ, List, [], ◌∷◌, Some, false, length, map, pos, slice_index_or, true};
 ghost use Rattle.cells.specs.Fitting.{IsRowOf};
 ghost use Rattle.cells.specs.Values.{RowValue, Table};
+ghost use Rattle.query.specs.Naming.{AgreeAt, columns_named};
 ghost use Rattle.query.specs.Plans.{IsPlanOf, PlanTree, type_at};
 ghost use Rattle.query.specs.Trees.{Cube, Empty, MoreElements, NoElements, Not, OneUnit, PredicateTree, Rollup, Sets, Holds};
 ghost use Rattle.query.specs.Truth.{IsOver, truth};
@@ -60,6 +61,11 @@ pub fn worked_truths()
     ensures not_in { truth (Holds (Test.In (Operand.Column 0) (Literal.Int (pos 1) ∷ Literal.Int (pos 2) ∷ []) true)) (Total.Null ∷ []) ≡ Truth.Unknown }
     // UNITS BETWEEN 1 AND 2, where UNITS is 2
     ensures between { truth (Holds (Test.Between (Operand.Column 0) (Operand.Literal (Literal.Int (pos 1))) (Operand.Literal (Literal.Int (pos 2))) false)) (Total.Int (pos 2) ∷ []) ≡ Truth.True }
+{}
+
+/// The truth of a predicate over values is decided by those at the places of the columns that it names.
+pub fn truth_by_columns()
+    ensures { (p : PredicateTree (TestTree ℕ)) (xs ys : List Total) → AgreeAt (columns_named p) xs ys → truth p xs ≡ truth p ys }
 {}
 
 /// The predicate of a plan may be asked of each row of the table that the plan is for.

@@ -221,7 +221,15 @@ impl Predicate<usize> {
     pub fn truth(&self, row: &Row) -> Truth
         ensures { result ≡ truth self.now (map cell_total row.now.cells) }
     {
-        self.truth_over(row.cells())
+        self.truth_of_cells(row.cells())
+    }
+
+    /// The truth of the predicate over cells, one at each place that it names. A place that is not there is
+    /// as NULL. It takes no memory.
+    pub fn truth_of_cells(&self, cells: &[Cell]) -> Truth
+        ensures { result ≡ truth self.now (map cell_total cells.now) }
+    {
+        self.truth_over(cells)
     }
 
     /// The truth of the predicate over values, one at each place that it names. It takes no memory.

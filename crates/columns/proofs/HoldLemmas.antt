@@ -1,0 +1,123 @@
+-- Rows put into columns, place by place.
+use Rattle.std.specs.Prelude.{◌≡◌, ℕ, zero, suc, ◌+◌, ◌<◌, ◌≤◌, List, [], ◌∷◌, ◌++◌, length, set, Option, Some, None, IfSome, refl, ⊤}
+use Rattle.std.proofs.Common.{get_or, ap, sym, ◌∙◌, subst, arith}
+use Rattle.std.proofs.lemmas.List.{append_assoc, append-nil, map-append}
+use Rattle.cells.specs.Values.{RowValue}
+use Rattle.cells.specs.declared.cell.Cell.{Cell}
+use Rattle.cells.specs.declared.cell.Cell.TheVariants.{Null}
+use Rattle.columns.specs.Coding.{Puts, PutsAny, PutsAt, TakesRow}
+use Rattle.columns.specs.Columns.{ColumnValue, ColumnsValue, Hold, HoldFrom, cells_at, cells_of, rows_of}
+use Rattle.trie.specs.Walks.{MayTakeAll, TakesAll}
+
+-- ---- no rows
+pub hold_none : (place : ℕ) (columns : ColumnsValue) (column : ColumnValue) → cells_of column ≡ [] → HoldFrom place [] columns → HoldFrom place [] (columns ++ Some column ∷ [])
+hold_none place [] column e held = (e, tt)
+hold_none place (c ∷ columns) column e held = (held.0, hold_none (suc place) columns column e held.1)
+
+-- ---- cells for each place
+module _ (more : ℕ → List Cell) where
+  -- they came behind the first i columns, of which the first is that of the place, and no other has changed
+  abbrev pub GoneOn : ℕ → ℕ → ColumnsValue → ColumnsValue → Type 0
+  GoneOn i place [] [] = ⊤
+  GoneOn i place [] (n ∷ new) = ⊥
+  GoneOn i place (o ∷ old) [] = ⊥
+  GoneOn zero place (o ∷ old) (n ∷ new) = (n ≡ o) × GoneOn zero (suc place) old new
+  GoneOn (suc i) place (o ∷ old) (n ∷ new) = PutsAny (more place) o n × GoneOn i (suc place) old new
+
+  pub gone_none : (place : ℕ) (old : ColumnsValue) → GoneOn 0 place old old
+  gone_none place [] = tt
+  gone_none place (o ∷ old) = (refl, gone_none (suc place) old)
+
+  pub gone_length : (i place : ℕ) (old new : ColumnsValue) → GoneOn i place old new → length new ≡ length old
+  gone_length i place [] [] now = refl
+  gone_length i place [] (n ∷ new) now = absurd now
+  gone_length i place (o ∷ old) [] now = absurd now
+  gone_length zero place (o ∷ old) (n ∷ new) now = ap suc (gone_length zero (suc place) old new now.1)
+  gone_length (suc i) place (o ∷ old) (n ∷ new) now = ap suc (gone_length i (suc place) old new now.1)
+
+  gone_next : (i place : ℕ) (old now : ColumnsValue) (into : Option ColumnValue) → i < length old → GoneOn i place old now → PutsAny (more (place + i)) (get_or now i None) into →
+      GoneOn (suc i) place old (set now i into)
+  gone_next i place [] now into h gone puts = absurd (omega (arith, h))
+  gone_next i place (o ∷ old) [] into h gone puts = absurd gone
+  gone_next zero place (o ∷ old) (n ∷ now) into h gone puts =
+      (subst (λ k. PutsAny (more k) o into) (omega arith) (subst (λ x. PutsAny (more (place + 0)) x into) gone.0 puts), gone.1)
+  gone_next (suc i) place (o ∷ old) (n ∷ now) into h gone puts =
+      let same : place + suc i ≡ suc place + i = omega arith in
+      (gone.0, gone_next i (suc place) old now into (omega (arith, h)) gone.1 (subst (λ k. PutsAny (more k) (get_or now i None) into) same puts))
+
+  pub gone_step : (i : ℕ) (old now new : ColumnsValue) → i < length old → GoneOn i 0 old now → PutsAt i (more i) now new → GoneOn (i + 1) 0 old new
+  gone_step i old now new h gone puts =
+      let next : suc i ≡ i + 1 = omega arith in
+      let here : i ≡ 0 + i = omega arith in
+      subst (λ k. GoneOn k 0 old new) next
+      (subst (GoneOn (suc i) 0 old) (sym puts.is) (gone_next i 0 old now puts.into h gone (subst (λ k. PutsAny (more k) (get_or now i None) puts.into) here puts.puts)))
+
+  gone_held : (rows both : List RowValue) → ((k : ℕ) → cells_at k both ≡ cells_at k rows ++ more k) → (i place : ℕ) (old new : ColumnsValue) → length old ≤ i → GoneOn i place old new →
+      HoldFrom place rows old → HoldFrom place both new
+  gone_held rows both is i place [] [] h gone held = tt
+  gone_held rows both is i place [] (n ∷ new) h gone held = absurd gone
+  gone_held rows both is i place (o ∷ old) [] h gone held = absurd gone
+  gone_held rows both is zero place (o ∷ old) (n ∷ new) h gone held = absurd (omega (arith, h))
+  gone_held rows both is (suc i) place (o ∷ old) (None ∷ new) h gone held = (tt, gone_held rows both is i (suc place) old new (omega (arith, h)) gone.1 held.1)
+  gone_held rows both is (suc i) place (None ∷ old) (Some n ∷ new) h gone held = absurd gone.0
+  gone_held rows both is (suc i) place (Some o ∷ old) (Some n ∷ new) h gone held =
+      ((gone.0).behind ∙ ap (λ l. l ++ more place) held.0 ∙ sym (is place), gone_held rows both is i (suc place) old new (omega (arith, h)) gone.1 held.1)
+
+  pub gone_all : (rows both : List RowValue) → ((k : ℕ) → cells_at k both ≡ cells_at k rows ++ more k) → (i : ℕ) (old new : ColumnsValue) → length old ≤ i → GoneOn i 0 old new →
+      Hold rows old → Hold both new
+  gone_all rows both is i old new h gone held = record { each = gone_held rows both is i 0 old new h gone held.each }
+
+-- ---- the rows of a piece
+pub may_take : (columns : ColumnsValue) (entries : List (Cell × RowValue)) → MayTakeAll {S = ColumnsValue} (λ columns key row. ⊤) (λ old key row new. TakesRow row old new) columns entries
+may_take columns entries = record { asked = λ before after e mid split takes. tt }
+
+pub taken_all : (old new : ColumnsValue) (entries : List (Cell × RowValue)) → TakesAll (λ old key row new. TakesRow row old new) old entries new → (rows : List RowValue) → Hold rows old →
+    Hold (rows ++ rows_of entries) new
+taken_all old new [] e rows held = subst (λ l. Hold l new) (sym (append-nil rows)) (subst (Hold rows) (sym e) held)
+taken_all old new (x ∷ entries) (mid, one, rest) rows held =
+    subst (λ l. Hold l new) (append_assoc rows (x.1 ∷ []) (rows_of entries)) (taken_all mid new entries rest (rows ++ x.1 ∷ []) (one.serves rows held))
+
+-- ---- the column at a place
+hold_at_from : (i place : ℕ) (rows : List RowValue) (columns : ColumnsValue) (column : ColumnValue) → Some column ≡ get_or columns i None → HoldFrom place rows columns →
+    cells_of column ≡ cells_at (place + i) rows
+hold_at_from i place rows [] column e held = absurd (cc (e))
+hold_at_from zero place rows (c ∷ columns) column e held =
+    let here : cells_of column ≡ cells_at place rows = subst (λ o. IfSome o (λ x. cells_of x ≡ cells_at place rows)) (sym e) held.0 in
+    here ∙ ap (λ k. cells_at k rows) (omega arith)
+hold_at_from (suc i) place rows (c ∷ columns) column e held =
+    let same : suc place + i ≡ place + suc i = omega arith in
+    hold_at_from i (suc place) rows columns column e held.1 ∙ ap (λ k. cells_at k rows) same
+
+pub hold_at : (i : ℕ) (rows : List RowValue) (columns : ColumnsValue) (column : ColumnValue) → Some column ≡ get_or columns i None → Hold rows columns → cells_of column ≡ cells_at i rows
+hold_at i rows columns column e held =
+    let here : 0 + i ≡ i = omega arith in
+    hold_at_from i 0 rows columns column e held.each ∙ ap (λ k. cells_at k rows) here
+
+pub puts_behind : (cells others : List Cell) (old new : ColumnValue) → others ≡ cells → Puts others old new → Puts cells old new
+puts_behind cells others old new e puts = subst (λ l. Puts l old new) e puts
+
+pub puts_some : (place : ℕ) (cells : List Cell) (old : ColumnsValue) (column new : ColumnValue) → get_or old place None ≡ Some column → Puts cells column new →
+    PutsAny cells (get_or old place None) (Some new)
+puts_some place cells old column new is puts = subst (λ o. PutsAny cells o (Some new)) (sym is) puts
+
+pub set_again : (columns : ColumnsValue) (place : ℕ) (one two : Option ColumnValue) → set (set columns place one) place two ≡ set columns place two
+set_again [] place one two = refl
+set_again (c ∷ columns) zero one two = refl
+set_again (c ∷ columns) (suc place) one two = ap (λ (l : ColumnsValue). c ∷ l) (set_again columns place one two)
+
+pub cells_both : (rows more : List RowValue) (k : ℕ) → cells_at k (rows ++ more) ≡ cells_at k rows ++ cells_at k more
+cells_both rows more k = map-append (λ r. get_or r.cells k Null) rows more
+
+pub hold_option : (i : ℕ) (rows : List RowValue) (columns : ColumnsValue) (found : Option ColumnValue) → found ≡ get_or columns i None → Hold rows columns →
+    IfSome found (λ column. cells_of column ≡ cells_at i rows)
+hold_option i rows columns None e held = tt
+hold_option i rows columns (Some column) e held = hold_at i rows columns column e held
+
+-- ---- a column is left out
+left_from : (i place : ℕ) (rows : List RowValue) (columns : ColumnsValue) → HoldFrom place rows columns → HoldFrom place rows (set columns i None)
+left_from i place rows [] held = tt
+left_from zero place rows (c ∷ columns) held = (tt, held.1)
+left_from (suc i) place rows (c ∷ columns) held = (held.0, left_from i (suc place) rows columns held.1)
+
+pub hold_left : (i : ℕ) (old new : ColumnsValue) → new ≡ set old i None → (rows : List RowValue) → Hold rows old → Hold rows new
+hold_left i old new e rows held = record { each = subst (HoldFrom 0 rows) (sym e) (left_from i 0 rows old held.each) }

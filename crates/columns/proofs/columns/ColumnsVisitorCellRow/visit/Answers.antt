@@ -1,0 +1,23 @@
+use Rattle.std.proofs.Common.{◌∷◌, [], arith}
+use Rattle.columns.specs.Columns.{cells_at}
+use Rattle.columns.proofs.HoldLemmas.{cells_both, gone_all, gone_length, gone_none, gone_step}
+use Rattle.columns.proofs.columns.ColumnsVisitorCellRow.visit.Goals as goal
+
+pub loop-place-init : goal.loop-place-init
+loop-place-init g c = gone_none (λ k. cells_at k (c.args.row.now ∷ [])) 0 c.args.self.now
+
+pub push_at-requires : goal.push_at-requires
+push_at-requires g c =
+    omega (arith, gone_length (λ k. cells_at k (c.args.row.now ∷ [])) c.loop-place.place 0 c.args.self.now c.loop-place.self c.loop-place.invariant, c.loop-place-test.true, c.places-place-end.ensures)
+
+pub loop-place-preserved : goal.loop-place-preserved
+loop-place-preserved g c =
+    gone_step (λ k. cells_at k (c.args.row.now ∷ [])) c.loop-place.place c.args.self.now c.loop-place.self c.push_at.new.self
+    (omega (arith, c.loop-place-test.true, c.places-place-end.ensures)) c.loop-place.invariant c.in_ok-push_at.ensures
+
+pub returns : goal.returns
+returns g c = record {
+  serves = λ rows held.
+      gone_all (λ k. cells_at k (c.args.row.now ∷ [])) rows _ (cells_both rows (c.args.row.now ∷ [])) c.loop-place.place c.args.self.now c.loop-place.self
+      (omega (arith, c.loop-place-test.false, c.places-place-end.ensures)) c.loop-place.invariant held;
+}

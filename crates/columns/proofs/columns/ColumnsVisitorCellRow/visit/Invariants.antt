@@ -1,0 +1,7 @@
+use Rattle.std.proofs.Common.{◌∷◌, []}
+use Rattle.columns.specs.Columns.{cells_at}
+use Rattle.columns.proofs.HoldLemmas.{GoneOn}
+use Rattle.columns.proofs.columns.ColumnsVisitorCellRow.visit.Given as goal
+
+abbrev pub invariant-loop-place : goal.invariant-loop-place
+invariant-loop-place g l = GoneOn (λ k. cells_at k (l.row ∷ [])) l.place 0 l.fn.self l.self

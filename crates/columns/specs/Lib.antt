@@ -1,0 +1,3 @@
+pub mod Columns
+pub mod Coding
+pub mod Limits

@@ -1,0 +1,148 @@
+//! The columns of rows.
+ghost use Rattle.std.specs.Prelude.{◌≡◌, ◌<◌, ◌∷◌, ◌++◌, List, [], IfOk, IfSome, None, OnOk, length, set, slice_index_or};
+ghost use Rattle.std.specs.Option.{option_copied};
+ghost use Rattle.cells.specs.Values.{RowValue};
+ghost use Rattle.columns.specs.Coding.{PutsAt};
+ghost use Rattle.columns.specs.Columns.{Hold, cells_at, cells_of, rows_of};
+
+use crate::column::Column;
+use cells::{Cell, KeyHash, Row};
+use std::alloc::{AllocError, Global};
+use std::marker::Model;
+use std::mem;
+use trie::{Piece, Visitor};
+
+/// The columns of rows, a column for each place of the table. Rows come one behind another; a column that would have too many
+/// different cells is left out, and its memory given back. It owns copies of the cells.
+#[derive(Drop)]
+pub struct Columns<H: KeyHash<Cell>> {
+    columns: Vec<Option<Column<H>>>,
+}
+
+impl<H: KeyHash<Cell>> Model for Columns<H> {
+    ghost use Rattle.std.specs.Coded.{codes};
+    ghost use Rattle.cells.specs.Codes.{coded_cell};
+    ghost use Rattle.columns.specs.Columns.{ColumnsValue};
+
+    ghost Value = { ColumnsValue };
+
+    ghost coded = { Prim.hlevel (codes, coded_cell) };
+
+    ghost view = { λ c. c.columns.items };
+}
+
+impl<H: KeyHash<Cell>> Columns<H> {
+    /// Columns of no rows, for a table of so many places.
+    pub fn new(alloc: Global, places: usize) -> Result<Columns<H>, AllocError>
+        ensures { IfOk result (Hold []) }
+    {
+        let mut columns = Vec::with_capacity(alloc, places)?;
+        for _place in 0..places {
+            columns.push(Some(Column::new(alloc)))?;
+        }
+        Ok(Columns { columns })
+    }
+
+    /// The column of the place; None where there is none, or it was left out. It takes no memory.
+    pub fn at(&self, place: usize) -> Option<&Column<H>>
+        ensures value { option_copied result ≡ slice_index_or self.now place None }
+        ensures cells { (rows : List RowValue) → Hold rows self.now → IfSome (option_copied result) (λ column. cells_of column ≡ cells_at place rows) }
+    {
+        match self.columns.get(place) {
+            Some(column) => column.as_ref(),
+            None => None,
+        }
+    }
+
+    /// Puts the rows of a piece of a table behind those that are there, in the order in which they are walked. After an error,
+    /// which is that a growth was refused, nothing is known of the columns.
+    pub fn take(&mut self, piece: &Piece<Cell, Row, H>) -> Result<(), AllocError>
+        ensures { (rows : List RowValue) → Hold rows self.old → OnOk result (Hold (rows ++ rows_of piece.now) self.new) }
+    {
+        piece.walk(self)?;
+        Ok(())
+    }
+
+    /// Puts the rows of other columns of the same table behind those that are there. A column that the other ones left out is
+    /// left out here, too. After an error, which is that a growth was refused, nothing is known of the columns.
+    pub fn append(&mut self, alloc: Global, other: &Columns<H>) -> Result<(), AllocError>
+        ensures { (rows more : List RowValue) → Hold rows self.old → Hold more other.now → OnOk result (Hold (rows ++ more) self.new) }
+    {
+        for place in 0..self.places() {
+            self.append_at(alloc, place, other)?;
+        }
+        Ok(())
+    }
+
+    /// How many places the table has.
+    pub fn places(&self) -> usize
+        ensures { result ≡ length self.now }
+    {
+        self.columns.len()
+    }
+
+    /// Puts the row's cell behind the column of the place, or leaves the column out.
+    fn push_at(&mut self, place: usize, row: &Row) -> Result<(), AllocError>
+        requires { place < length self.old }
+        ensures { OnOk result (PutsAt place (cells_at place (row.now ∷ [])) self.old self.new) }
+    {
+        let Some(column) = &mut self.columns[place] else {
+            return Ok(());
+        };
+        let cell = row.cells().get(place).unwrap_or(&Cell::Null);
+        if !column.push(cell)? {
+            self.leave_out(place);
+        }
+        Ok(())
+    }
+
+    /// Puts the cells of the other column of the place behind the column there, or leaves it out.
+    fn append_at(
+        &mut self,
+        alloc: Global,
+        place: usize,
+        other: &Columns<H>,
+    ) -> Result<(), AllocError>
+        requires { place < length self.old }
+        ensures count { OnOk result (length self.new ≡ length self.old) }
+        ensures puts { (more : List RowValue) → Hold more other.now → OnOk result (PutsAt place (cells_at place more) self.old self.new) }
+    {
+        let Some(other) = other.at(place) else {
+            self.leave_out(place);
+            return Ok(());
+        };
+        let Some(column) = &mut self.columns[place] else {
+            return Ok(());
+        };
+        if !column.append(alloc, other)? {
+            self.leave_out(place);
+        }
+        Ok(())
+    }
+
+    /// Leaves the column of the place out, which is one of the table, as its key may be, which no two rows have in common.
+    pub fn leave_out(&mut self, place: usize)
+        requires { place < length self.old }
+        ensures left { self.new ≡ set self.old place None }
+        ensures held { (rows : List RowValue) → Hold rows self.old → Hold rows self.new }
+    {
+        let column = mem::replace(&mut self.columns[place], None);
+        drop(column);
+    }
+}
+
+impl<H: KeyHash<Cell>> Visitor<Cell, Row> for Columns<H> {
+    ghost use Rattle.std.specs.Prelude.{⊤};
+    ghost use Rattle.columns.specs.Coding.{TakesRow};
+
+    ghost asks = { λ columns key row. ⊤ };
+
+    ghost takes = { λ old key row new. TakesRow row old new };
+
+    fn visit(&mut self, _key: &Cell, row: &Row) -> Result<(), AllocError> {
+        for place in 0..self.places() {
+            self.push_at(place, row)?;
+        }
+        Ok(())
+    }
+}

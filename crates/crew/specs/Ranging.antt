@@ -1,0 +1,58 @@
+-- Rows whose columns are at hand, as workers share them: range by range.
+use Rattle.std.specs.Prelude.{◌≡◌, ℕ, ◌-◌, ◌*◌, ◌≤◌, ◌^◌, List, length, min, Option, IfSome}
+use Rattle.std.specs.Int.{div_ceil}
+use Rattle.std.specs.List.{flat_map}
+use Rattle.cells.specs.Values.{RowValue}
+use Rattle.columns.specs.Columns.{ColumnsValue, Hold}
+use Rattle.crew.specs.Tasks.{IsShare}
+use Rattle.groups.specs.Folds.{Folds}
+use Rattle.groups.specs.Groups.{kept}
+use Rattle.groups.specs.Partials.{MayFold}
+use Rattle.groups.specs.Ranges.{rows_from}
+use Rattle.groups.specs.declared.folding.Folding.{Folding}
+use Rattle.query.specs.Plans.{PlanTree}
+
+-- the most rows of a range
+abbrev pub range_limit : ℕ
+range_limit = 524288
+
+-- how many ranges so many rows have
+abbrev pub range_count : ℕ → ℕ
+range_count count = div_ceil count range_limit
+
+-- the rows of the range at a place, of so many rows
+abbrev pub range_rows : ℕ → List RowValue → ℕ → List RowValue
+range_rows count rows place = rows_from (place * range_limit) (min (count - place * range_limit) range_limit) rows
+
+-- those of the ranges at these places, in this order
+abbrev pub ranges_rows : ℕ → List RowValue → List ℕ → List RowValue
+ranges_rows count rows places = flat_map (range_rows count rows) places
+
+-- a plan, and the columns of so many rows
+pub record Ranged : Type 0 where
+  pub plan : PlanTree
+  pub columns : ColumnsValue
+  pub count : ℕ
+
+-- the columns hold so many rows, which may be folded
+pub record MayGatherRows (plan : PlanTree) (columns : ColumnsValue) (count : ℕ) : Type 0 where
+  pub rows : List RowValue
+  pub held : Hold rows columns
+  pub counted : length rows ≡ count
+  pub few : count ≤ 2 ^ 32
+  pub may : MayFold plan rows
+
+-- the same, and the rows of each share of their ranges may be folded
+pub record MayShareRows (ranged : Ranged) : Type 0 where
+  pub rows : List RowValue
+  pub held : Hold rows ranged.columns
+  pub counted : length rows ≡ ranged.count
+  pub few : ranged.count ≤ 2 ^ 32
+  pub may : MayFold ranged.plan rows
+  pub share : (places : List ℕ) → IsShare (range_count ranged.count) places → MayFold ranged.plan (ranges_rows ranged.count rows places)
+
+-- whatever rows the columns hold, if there is a folding, those of them for which WHERE is true went into it from the ranges
+-- at these places
+pub record FoldsRanges {H : Type 0} (ranged : Ranged) (places : List ℕ) (made : Option (Folding H)) : Type 0 where
+  pub folds : (rows : List RowValue) → Hold rows ranged.columns → length rows ≡ ranged.count →
+      IfSome made (Folds ranged.plan (kept ranged.plan.condition (ranges_rows ranged.count rows places)))

@@ -1,0 +1,142 @@
+//! The columns of the rows of a table's pieces, which workers lay out.
+ghost use Rattle.std.specs.Prelude.{◌≡◌, ◌<◌, ◌≤◌, ◌⊎◌, [], length, min, slice_index_or, vec_len, IfErr, IfOk};
+ghost use Rattle.cells.specs.declared.refused.Refused.TheVariants as Refused;
+ghost use Rattle.columns.specs.Columns.{Hold};
+ghost use Rattle.crew.specs.Gathering.{rows_at, rows_in};
+ghost use Rattle.crew.specs.Laying.{HoldAll};
+ghost use Rattle.crew.specs.Limits.{piece_limit, seat_limit};
+ghost use Rattle.crew.specs.Shares.{AreShared};
+
+use crate::sharing::share_out;
+use crate::task::Task;
+use cells::{Cell, KeyHash, Refused, Row, Tuple};
+use columns::Columns;
+use std::alloc::{AllocError, Global};
+use std::sync::Wait;
+use std::thread::Threads;
+use trie::Piece;
+
+/// The columns of the rows of all pieces, of which there are at most [`MAX_PIECES`](crate::MAX_PIECES), for a table of so
+/// many places, of which that of the key has no column. As many workers as the smaller of `workers`, which is 1 to [`MAX_SEATS`](crate::MAX_SEATS), and the number of
+/// pieces draw pieces until none are left, each in a thread of its own. The rows stand in the order in which the workers drew
+/// their pieces, which another run may change. The columns own copies of the cells.
+///
+/// [`Refused::NoWorker`] where a thread could not be started; otherwise [`Refused::OutOfMemory`] where there was no
+/// memory, here or for a worker. All threads that were started are joined before this returns, however it ends.
+pub fn columns_of<H: KeyHash<Cell> + KeyHash<Tuple> + Send + Sync, R: Threads + Wait>(
+    rt: &R,
+    alloc: Global,
+    pieces: &[Piece<Cell, Row, H>],
+    places: usize,
+    key: usize,
+    workers: u64,
+) -> Result<Columns<H>, Refused>
+    requires pieces { length pieces.now ≤ piece_limit }
+    requires workers { (1 ≤ workers) × (workers ≤ seat_limit) }
+    ensures held { IfOk result (HoldAll (rows_in pieces.now)) }
+    ensures refused { IfErr result (λ e. (e ≡ Refused.NoWorker) ⊎ (e ≡ Refused.OutOfMemory)) }
+{
+    let laying = Laying {
+        pieces,
+        places,
+        key,
+    };
+    let parts = parts_of(rt, alloc, &laying, workers)?;
+    Ok(appended(alloc, &laying, parts)?)
+}
+
+/// The columns of each worker, of the pieces that it drew. There are as many workers as the smaller of `workers` and the
+/// number of pieces.
+fn parts_of<'a, H: KeyHash<Cell> + Send + Sync, R: Threads + Wait>(
+    rt: &R,
+    alloc: Global,
+    laying: &Laying<'a, H>,
+    workers: u64,
+) -> Result<Vec<Columns<H>>, Refused>
+    requires pieces { length laying.now.pieces.now ≤ piece_limit }
+    requires workers { (1 ≤ workers) × (workers ≤ seat_limit) }
+    ensures shared { IfOk result (λ v. AreShared (λ places. Hold (rows_at laying.now.pieces.now places)) (length laying.now.pieces.now) v.items) }
+    ensures workers { IfOk result (λ v. vec_len v ≡ min workers (length laying.now.pieces.now)) }
+    ensures refused { IfErr result (λ e. (e ≡ Refused.NoWorker) ⊎ (e ≡ Refused.OutOfMemory)) }
+{
+    share_out(rt, alloc, laying.pieces.len() as u64, workers, laying)
+}
+
+/// The work on all pieces: each worker puts the rows of those that it draws into columns of its own.
+#[derive(Drop)]
+struct Laying<'a, H: KeyHash<Cell>> {
+    pieces: &'a [Piece<Cell, Row, H>],
+    // how many the table has
+    places: usize,
+    key: usize,
+}
+
+impl<'a, H: KeyHash<Cell>> Laying<'a, H> {
+    /// Columns of no rows, without one of the key: each of its cells is another one.
+    fn none(&self, alloc: Global) -> Result<Columns<H>, AllocError>
+        ensures { IfOk result (Hold []) }
+    {
+        let mut columns = Columns::new(alloc, self.places)?;
+        if self.key < columns.places() {
+            columns.leave_out(self.key);
+        }
+        Ok(columns)
+    }
+
+    /// The piece at the place.
+    fn piece(&self, place: u64) -> &Piece<Cell, Row, H>
+        requires { place < length self.now.pieces.now }
+        ensures { result.now ≡ slice_index_or self.now.pieces.now place [] }
+    {
+        let pieces = self.pieces;
+        &pieces[place as usize]
+    }
+}
+
+impl<'a, H: KeyHash<Cell> + Send + Sync> Task for Laying<'a, H> {
+    ghost use Rattle.std.specs.Prelude.{length};
+    ghost use Rattle.columns.specs.Columns.{Hold};
+    ghost use Rattle.crew.specs.Gathering.{rows_at};
+
+    type Made = Columns<H>;
+
+    type Given = Columns<H>;
+
+    ghost count = { λ l. length l.pieces.now };
+
+    ghost makes = { λ l places made. Hold (rows_at l.pieces.now places) made };
+
+    ghost gives = { λ l places given. Hold (rows_at l.pieces.now places) given };
+
+    fn begin(&self, alloc: Global) -> Result<Columns<H>, AllocError> {
+        self.none(alloc)
+    }
+
+    fn take(&self, _alloc: Global, made: &mut Columns<H>, place: u64) -> Result<(), AllocError> {
+        made.take(self.piece(place))
+    }
+
+    fn end(&self, _alloc: Global, made: Columns<H>) -> Result<Columns<H>, AllocError> {
+        Ok(made)
+    }
+}
+
+/// The columns of all pieces, from those of the workers who shared them: the first worker's, with those of the others
+/// behind them in their order.
+fn appended<'a, H: KeyHash<Cell>>(
+    alloc: Global,
+    laying: &Laying<'a, H>,
+    parts: Vec<Columns<H>>,
+) -> Result<Columns<H>, AllocError>
+    requires { AreShared (λ places. Hold (rows_at laying.now.pieces.now places)) (length laying.now.pieces.now) parts.items }
+    ensures { IfOk result (HoldAll (rows_in laying.now.pieces.now)) }
+{
+    let mut parts = parts.into_iter();
+    let Some(mut all) = parts.next() else {
+        return laying.none(alloc);
+    };
+    for part in parts {
+        all.append(alloc, &part)?;
+    }
+    Ok(all)
+}

@@ -1,0 +1,214 @@
+//! The partial result of rows whose columns are at hand, which workers gather range by range.
+ghost use Rattle.std.specs.Prelude.{◌≡◌, ◌<◌, ◌≤◌, ◌⊎◌, ◌++◌, ◌∷◌, ℕ, List, [], length, min, vec_len, IfErr, IfOk, IfSome, Some};
+ghost use Rattle.cells.specs.Values.{RowValue};
+ghost use Rattle.cells.specs.declared.refused.Refused.TheVariants as Refused;
+ghost use Rattle.columns.specs.Columns.{Hold};
+ghost use Rattle.crew.specs.Limits.{seat_limit};
+ghost use Rattle.crew.specs.Ranging.{FoldsRanges, MayGatherRows, MayShareRows, range_count, range_rows};
+ghost use Rattle.crew.specs.Shares.{AreShared};
+ghost use Rattle.crew.specs.Tasks.{MayTake};
+ghost use Rattle.groups.specs.Folds.{Folds};
+ghost use Rattle.groups.specs.Groups.{kept};
+ghost use Rattle.groups.specs.Partials.{Stands};
+
+use crate::sharing::share_out;
+use crate::task::Task;
+use cells::{Cell, KeyHash, Refused, Tuple};
+use columns::Columns;
+use groups::{Folding, Partial, any_order};
+use query::Plan;
+use std::alloc::{AllocError, Global};
+use std::marker::Model;
+use std::sync::Wait;
+use std::thread::Threads;
+
+// So many that what is made of the groups of each range costs little beside its rows.
+const RANGE_ROWS: u64 = 524_288;
+
+/// The partial result of those rows for which the plan's WHERE is true, of `count` rows whose columns are at hand. They are
+/// rows of the table that the plan was checked for, and are not too many for a table. The rows are cut into ranges, which as
+/// many workers as the smaller of `workers`, which is 1 to [`MAX_SEATS`](crate::MAX_SEATS), and the number of ranges draw
+/// until none are left, each in a thread of its own; which worker takes which range has no effect. It owns what it keeps.
+///
+/// None where a column that the plan needs was left out, or groups are too many for a table: then the rows are to be
+/// gathered from their pieces.
+///
+/// [`Refused::NoWorker`] where a thread could not be started; otherwise [`Refused::OutOfMemory`] where there was no
+/// memory, here or for a worker. All threads that were started are joined before this returns, however it ends.
+pub fn gather_rows<H: KeyHash<Cell> + KeyHash<Tuple> + Send + Sync, R: Threads + Wait>(
+    rt: &R,
+    alloc: Global,
+    plan: &Plan,
+    columns: &Columns<H>,
+    count: u64,
+    workers: u64,
+) -> Result<Option<Partial<H>>, Refused>
+    requires rows { MayGatherRows plan.now columns.now count }
+    requires workers { (1 ≤ workers) × (workers ≤ seat_limit) }
+    ensures stands { (rows : List RowValue) → Hold rows columns.now → length rows ≡ count →
+        IfOk result (λ made. IfSome made (λ partial. Stands H.KeyHash-2.hash_of plan.now (kept plan.now.condition rows) partial)) }
+    ensures refused { IfErr result (λ e. (e ≡ Refused.NoWorker) ⊎ (e ≡ Refused.OutOfMemory)) }
+{
+    let ranging = Ranging {
+        plan,
+        columns,
+        count,
+    };
+    let foldings = range_foldings(rt, alloc, &ranging, workers)?;
+    Ok(joined_ranges(alloc, &ranging, foldings)?)
+}
+
+/// A folding of each worker, of the ranges that it drew, or None where one of them could not be folded. There are as many
+/// workers as the smaller of `workers` and the number of ranges.
+fn range_foldings<'a, H: KeyHash<Cell> + KeyHash<Tuple> + Send + Sync, R: Threads + Wait>(
+    rt: &R,
+    alloc: Global,
+    ranging: &Ranging<'a, H>,
+    workers: u64,
+) -> Result<Vec<Option<Folding<'a, H>>>, Refused>
+    requires workers { (1 ≤ workers) × (workers ≤ seat_limit) }
+    ensures shared { IfOk result (λ v. AreShared (FoldsRanges ranging.now) (range_count ranging.now.count) v.items) }
+    ensures workers { IfOk result (λ v. vec_len v ≡ min workers (range_count ranging.now.count)) }
+    ensures refused { IfErr result (λ e. (e ≡ Refused.NoWorker) ⊎ (e ≡ Refused.OutOfMemory)) }
+{
+    ranging.rows_may_fold();
+    share_out(rt, alloc, ranging.ranges(), workers, ranging)
+}
+
+/// The work on all ranges: each worker folds those that it draws into groups of its own.
+#[derive(Drop)]
+struct Ranging<'a, H: KeyHash<Cell>> {
+    plan: &'a Plan,
+    columns: &'a Columns<H>,
+    // how many rows the columns hold
+    count: u64,
+}
+
+impl<'a, H: KeyHash<Cell>> Model for Ranging<'a, H> {
+    ghost use Rattle.std.specs.Coded.{codes};
+    ghost use Rattle.cells.specs.Codes.{coded_cell};
+    ghost use Rattle.crew.specs.Ranging.{MayGatherRows, Ranged};
+    ghost use Rattle.query.specs.Codes.{coded_predicate};
+
+    ghost Value = { Ranged };
+
+    ghost coded = { Prim.hlevel (codes, coded_cell, coded_predicate) };
+
+    ghost view = { λ r. record { plan = r.plan.now; columns = r.columns.now; count = r.count } };
+
+    ghost invariant = { λ r. MayGatherRows r.plan.now r.columns.now r.count };
+}
+
+impl<'a, H: KeyHash<Cell> + KeyHash<Tuple>> Ranging<'a, H> {
+    /// It does nothing: that all rows may be folded is known of each value, and so may those of a share.
+    fn rows_may_fold(&self)
+        ensures { MayShareRows self.now }
+    {
+        any_order::<H>();
+        let _ = &self.plan;
+    }
+
+    /// How many ranges there are.
+    fn ranges(&self) -> u64
+        ensures { result ≡ range_count self.now.count }
+    {
+        self.count.div_ceil(RANGE_ROWS)
+    }
+
+    /// The folding of the range at the place; None where it can't be folded from the columns.
+    fn range(&self, alloc: Global, place: u64) -> Result<Option<Folding<'a, H>>, AllocError>
+        requires { place < range_count self.now.count }
+        ensures { (rows : List RowValue) → Hold rows self.now.columns →
+            IfOk result (λ made. IfSome made (Folds self.now.plan (kept self.now.plan.condition (range_rows self.now.count rows place)))) }
+    {
+        self.rows_may_fold();
+        let first = place * RANGE_ROWS;
+        let count = (self.count - first).min(RANGE_ROWS);
+        Folding::of_rows(
+            alloc,
+            self.plan,
+            self.columns,
+            first as usize,
+            count as usize,
+        )
+    }
+
+    /// What was folded of some ranges, with the range at the place behind them; None where that can't be folded.
+    fn with_range(
+        &self,
+        alloc: Global,
+        before: Folding<'a, H>,
+        place: u64,
+    ) -> Result<Option<Folding<'a, H>>, AllocError>
+        requires { MayTake (FoldsRanges self.now) (range_count self.now.count) (Some before) place }
+        ensures { (places : List ℕ) → FoldsRanges self.now places (Some before.entry) → IfOk result (FoldsRanges self.now (places ++ place ∷ [])) }
+    {
+        self.rows_may_fold();
+        let Some(range) = self.range(alloc, place)? else {
+            return Ok(None);
+        };
+        Ok(Some(before.join(alloc, range)?))
+    }
+}
+
+impl<'a, H: KeyHash<Cell> + KeyHash<Tuple> + Send + Sync> Task for Ranging<'a, H> {
+    ghost use Rattle.crew.specs.Ranging.{FoldsRanges, range_count};
+
+    type Made = Option<Folding<'a, H>>;
+
+    type Given = Option<Folding<'a, H>>;
+
+    ghost count = { λ r. range_count r.count };
+
+    ghost makes = { λ r places made. FoldsRanges r places made };
+
+    ghost gives = { λ r places given. FoldsRanges r places given };
+
+    fn begin(&self, alloc: Global) -> Result<Option<Folding<'a, H>>, AllocError> {
+        Ok(Some(Folding::new(alloc, self.plan)?))
+    }
+
+    fn take(
+        &self,
+        alloc: Global,
+        made: &mut Option<Folding<'a, H>>,
+        place: u64,
+    ) -> Result<(), AllocError> {
+        if let Some(before) = made.take() {
+            *made = self.with_range(alloc, before, place)?;
+        }
+        Ok(())
+    }
+
+    fn end(
+        &self,
+        _alloc: Global,
+        made: Option<Folding<'a, H>>,
+    ) -> Result<Option<Folding<'a, H>>, AllocError> {
+        Ok(made)
+    }
+}
+
+/// The partial result of all ranges, from the foldings of the workers who shared them, which are joined in their order; None
+/// where a worker has none.
+fn joined_ranges<'a, H: KeyHash<Cell> + KeyHash<Tuple>>(
+    alloc: Global,
+    ranging: &Ranging<'a, H>,
+    foldings: Vec<Option<Folding<'a, H>>>,
+) -> Result<Option<Partial<H>>, AllocError>
+    requires { AreShared (FoldsRanges ranging.now) (range_count ranging.now.count) foldings.items }
+    ensures { (rows : List RowValue) → Hold rows ranging.now.columns → length rows ≡ ranging.now.count →
+        IfOk result (λ made. IfSome made (λ partial. Stands H.KeyHash-2.hash_of ranging.now.plan (kept ranging.now.plan.condition rows) partial)) }
+{
+    // These do nothing: they are the laws by which shares may be joined, and are all rows in the end.
+    any_order::<H>();
+    ranging.rows_may_fold();
+    let mut all = Folding::new(alloc, ranging.plan)?;
+    for folding in foldings {
+        let Some(folding) = folding else {
+            return Ok(None);
+        };
+        all = all.join(alloc, folding)?;
+    }
+    Ok(Some(all.into_partial(alloc)?))
+}

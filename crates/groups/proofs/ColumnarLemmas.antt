@@ -1,0 +1,203 @@
+-- Groups made from columns.
+use Rattle.std.specs.Prelude.{◌≡◌, ◌≢◌, ℕ, zero, suc, ◌+◌, ◌<◌, ◌≤◌, ◌==◌, ◌⊎◌, Bool, true, false, List, [], ◌∷◌, ◌++◌, drop, length, map, take, refl}
+use Rattle.std.specs.List.{AllByRecursion, AllZip, Contains, range_with_len}
+use Rattle.std.specs.List.Sorted.{IsPermutation}
+use Rattle.std.proofs.Common.{get_or, ap, ap₂, sym, ◌∙◌, subst, arith, eq-eqb, inl, inr}
+use Rattle.std.proofs.lemmas.Bool.{ne_eqb}
+use Rattle.std.proofs.lemmas.List.{append_assoc, get_or_read, length-map, map-append, take_more}
+use Rattle.std.proofs.lemmas.List.FromFn.{map-range_with_len_more}
+use Rattle.std.proofs.lemmas.List.Sorted.{IsPermutation-append_comm, IsPermutation-append_left, IsPermutation-append_right, IsPermutation-refl, IsPermutation-trans}
+use Rattle.std.proofs.lemmas.Map.Views.{exact_unsigned_eq}
+use Rattle.aggs.specs.Accs.{acc_of}
+use Rattle.aggs.specs.Values.{IsNoText}
+use Rattle.aggs.specs.declared.acc.Acc.{Acc}
+use Rattle.aggs.specs.declared.acc.Kind.TheVariants as kind
+use Rattle.cells.specs.Values.{RowValue}
+use Rattle.cells.specs.declared.cell.Cell.{Cell}
+use Rattle.columns.specs.Columns.{ColumnsValue}
+use Rattle.groups.specs.Accumulators.{accs_of, no_rows}
+use Rattle.groups.specs.Bags.{AreParts, Covers, FitsRow, Group, IsPart, MayTake}
+use Rattle.groups.specs.Columnar.{MayCount, MayTallyRows, TalliesRows, accs_at, groups_from, no_acc}
+use Rattle.groups.specs.Groups.{cell_at, column_of, tuple_of}
+use Rattle.groups.specs.Numbered.{AreNumbered, NumberAll, picked_rows}
+use Rattle.groups.specs.Tallying.{keep_if, those_of}
+use Rattle.groups.specs.declared.aggregation.Aggregation.{Aggregation}
+use Rattle.groups.proofs.BagLemmas.{stored_column}
+use Rattle.groups.proofs.TallyingLemmas.{same_or_other}
+use Rattle.groups.proofs.TuplesLemmas.{all_through}
+
+-- ---- each thing is of one number
+module _ {X : Type 0} where
+  abbrev put_together : List (List X) → List X
+  put_together [] = []
+  put_together (part ∷ parts) = part ++ put_together parts
+
+  same_together : (f g : ℕ → List X) (k a n : ℕ) → k < a → ((m : ℕ) → m ≢ k → g m ≡ f m) → put_together (map g (range_with_len a n)) ≡ put_together (map f (range_with_len a n))
+  same_together f g k a zero h same = refl
+  same_together f g k a (suc n) h same = ap₂ (λ (x y : List X). x ++ y) (same a (λ e. omega (arith, e, h))) (same_together f g k (a + 1) n (omega (arith, h)) same)
+
+  to_middle : (x : X) (xs ys : List X) → IsPermutation (x ∷ xs ++ ys) (xs ++ x ∷ ys)
+  to_middle x xs ys = subst (IsPermutation (x ∷ xs ++ ys)) (append_assoc xs (x ∷ []) ys) (IsPermutation-append_left ys (x ∷ xs) (xs ++ x ∷ []) (IsPermutation-append_comm (x ∷ []) xs))
+
+  insert_one : (f g : ℕ → List X) (x : X) (k a n : ℕ) → a ≤ k → k < a + n → g k ≡ x ∷ f k → ((m : ℕ) → m ≢ k → g m ≡ f m) →
+      IsPermutation (x ∷ put_together (map f (range_with_len a n))) (put_together (map g (range_with_len a n)))
+  insert_one f g x k a zero low high is same = absurd (omega (arith, low, high))
+  insert_one f g x k a (suc n) low high is same =
+      here_or_later (same_or_other a k) (λ other. insert_one f g x k (a + 1) n (omega (arith, low, other)) (omega (arith, high)) is same)
+    where
+      rest : (ℕ → List X) → List X
+      rest h = put_together (map h (range_with_len (a + 1) n))
+
+      here_or_later : (a ≡ k) ⊎ (a ≢ k) → (a ≢ k → IsPermutation (x ∷ rest f) (rest g)) → IsPermutation (x ∷ f a ++ rest f) (g a ++ rest g)
+      here_or_later (inl e) later =
+          let here : g a ≡ x ∷ f a = subst (λ j. g j ≡ x ∷ f j) (sym e) is in
+          subst (IsPermutation (x ∷ f a ++ rest f)) (ap₂ (λ (p q : List X). p ++ q) (sym here) (sym (same_together f g k (a + 1) n (omega (arith, e)) same)))
+          (IsPermutation-refl (x ∷ f a ++ rest f))
+      here_or_later (inr other) later =
+          subst (λ p. IsPermutation (x ∷ f a ++ rest f) (p ++ rest g)) (sym (same a other))
+          (IsPermutation-trans _ _ _ (to_middle x (f a) (rest f)) (IsPermutation-append_right (f a) (x ∷ rest f) (rest g) (later other)))
+
+  none_together : (a n : ℕ) → put_together (map (λ (m : ℕ). those_of m [] []) (range_with_len a n)) ≡ []
+  none_together a zero = refl
+  none_together a (suc n) = none_together (a + 1) n
+
+  pub all_together : (count : ℕ) (numbers : List ℕ) (xs : List X) → length numbers ≡ length xs → AllByRecursion (λ n. n < count) numbers →
+      IsPermutation xs (put_together (map (λ n. those_of n numbers xs) (range_with_len 0 count)))
+  all_together count [] [] e all = subst (IsPermutation []) (sym (none_together 0 count)) (IsPermutation-refl [])
+  all_together count [] (x ∷ xs) e all = absurd (omega (arith, e))
+  all_together count (k ∷ numbers) [] e all = absurd (omega (arith, e))
+  all_together count (k ∷ numbers) (x ∷ xs) e all =
+      IsPermutation-trans _ _ _
+      (IsPermutation-append_right (x ∷ []) xs _ (all_together count numbers xs (omega (arith, e)) all.1))
+      (insert_one (λ n. those_of n numbers xs) (λ n. keep_if (k == n) x (those_of n numbers xs)) x k 0 count (omega arith) (omega (arith, all.0))
+      (ap (λ b. keep_if b x (those_of k numbers xs)) (eq-eqb k k refl))
+      (λ m other. ap (λ b. keep_if b x (those_of m numbers xs)) (ne_eqb k m (λ z. other (sym z)))))
+
+-- ---- the groups that are listed
+pub group_next : {H : Type 0} (tuples : List (List Cell)) (tallies : List (List (Acc H))) (groups added : List (Group H)) (i : ℕ) (tuple : List Cell) (accs : List (Acc H)) → i < length tuples →
+    tuple ≡ get_or tuples i tuple → accs ≡ accs_at i tallies → groups ≡ map (λ n. (get_or tuples n [], accs_at n tallies)) (range_with_len 0 i) → added ≡ groups ++ (tuple, accs) ∷ [] →
+    added ≡ map (λ n. (get_or tuples n [], accs_at n tallies)) (range_with_len 0 (i + 1))
+group_next {H} tuples tallies groups added i tuple accs h at are so e =
+    let f : ℕ → Group H = λ n. (get_or tuples n [], accs_at n tallies) in
+    let here : 0 + i ≡ i = omega arith in
+    e ∙ ap₂ (λ (l : List (Group H)) (g : Group H). l ++ g ∷ []) so (ap₂ (λ (t : List Cell) (a : List (Acc H)). (t, a)) (get_or_read tuples i tuple h at []) are) ∙
+    sym (map-range_with_len_more f 0 i i here)
+
+-- ---- the aggregates, one after another
+zip_push : {A B : Type 0} (R : A → B → Type 0) (xs : List A) (ys : List B) (x : A) (y : B) → AllZip R xs ys → R x y → AllZip R (xs ++ x ∷ []) (ys ++ y ∷ [])
+zip_push R [] [] x y all one = (one, tt)
+zip_push R [] (b ∷ ys) x y all one = absurd all
+zip_push R (a ∷ xs) [] x y all one = absurd all
+zip_push R (a ∷ xs) (b ∷ ys) x y all one = (all.0, zip_push R xs ys x y all.1 one)
+
+pub zip_next : {A B C : Type 0} (R : A → B → Type 0) (f : C → B) (xs : List A) (ys added : List C) (i : ℕ) (x d : A) (y : C) → i < length xs → x ≡ get_or xs i d → AllZip R (take i xs) (map f ys) →
+    R x (f y) → added ≡ ys ++ y ∷ [] → AllZip R (take (i + 1) xs) (map f added)
+zip_next {A} {B} {C} R f xs ys added i x d y h at all one e =
+    subst (λ l. AllZip R (take (i + 1) xs) (map f l)) (sym e)
+    (subst (AllZip R (take (i + 1) xs)) (sym (map-append f ys (y ∷ [])))
+    (subst (λ l. AllZip R l (map f ys ++ f y ∷ [])) (sym (take_more xs i d h ∙ ap (λ (a : A). take i xs ++ a ∷ []) (sym at))) (zip_push R (take i xs) (map f ys) x (f y) all one)))
+
+pub may_tally_each : (aggregations : List Aggregation) (columns : ColumnsValue) (places : List ℕ) → MayCount aggregations columns places → AllByRecursion (MayTallyRows columns places) aggregations
+may_tally_each aggregations columns places may = each aggregations (λ row fits. fits.each) (may.can).each
+  where
+    number_each : (a : Aggregation) (rows : List RowValue) → AllByRecursion (λ row. MayTake row a) rows → a.kind ≡ kind.Sum → AllByRecursion IsNoText (column_of a.column rows)
+    number_each a [] all e = tt
+    number_each a (r ∷ rows) all e = ((all.0).number e, number_each a rows all.1 e)
+
+    each : (some : List Aggregation) → ((row : RowValue) → FitsRow aggregations row → AllByRecursion (MayTake row) some) → AllByRecursion (FitsRow aggregations) (picked_rows may.rows places) →
+        AllByRecursion (MayTallyRows columns places) some
+    each [] take fits = tt
+    each (a ∷ some) take fits = (
+      record {
+        rows = may.rows;
+        held = may.held;
+        within = may.within;
+        few = may.few;
+        may = record {
+          stored = stored_column aggregations a.column (picked_rows may.rows places) fits;
+          numbers = number_each a (picked_rows may.rows places) (all_through (FitsRow aggregations) (λ row. MayTake row a) (λ row f. (take row f).0) (picked_rows may.rows places) fits);
+          few = omega (arith, (may.can).few, length-map (picked_rows may.rows places) (cell_at a.column));
+        };
+      },
+      each some (λ row f. (take row f).1) fits,
+    )
+
+-- ---- the groups cover the rows
+pub number_all : (set : List ℕ) (rows : List RowValue) (numbers : List ℕ) (tuples : List (List Cell)) (count : ℕ) → length rows ≡ count → AreNumbered set rows numbers tuples → NumberAll count numbers tuples
+number_all set rows numbers tuples count is now = record {
+  counted = sym (length-map numbers (λ n. get_or tuples n [])) ∙ ap (λ l. length l) now.stand ∙ length-map rows (tuple_of set) ∙ is;
+  within = now.within;
+}
+
+pub tallies_long : {H : Type 0} (rows : List RowValue) (numbers : List ℕ) (count : ℕ) (aggregations : List Aggregation) (tallies : List (List (Acc H))) →
+    AllZip (TalliesRows rows numbers count) aggregations tallies → AllByRecursion (λ accs. length accs ≡ count) tallies
+tallies_long rows numbers count [] [] all = tt
+tallies_long rows numbers count [] (t ∷ tallies) all = absurd all
+tallies_long rows numbers count (a ∷ aggregations) [] all = absurd all
+tallies_long rows numbers count (a ∷ aggregations) (t ∷ tallies) all = ((all.0).counted, tallies_long rows numbers count aggregations tallies all.1)
+
+those_mapped : {X Y : Type 0} (f : X → Y) (n : ℕ) (numbers : List ℕ) (xs : List X) → those_of n numbers (map f xs) ≡ map f (those_of n numbers xs)
+those_mapped f n [] xs = refl
+those_mapped f n (k ∷ numbers) [] = refl
+those_mapped {X} {Y} f n (k ∷ numbers) (x ∷ xs) = kept (k == n) (those_of n numbers (map f xs)) (those_of n numbers xs) (those_mapped f n numbers xs)
+  where
+    kept : (b : Bool) (ys : List Y) (zs : List X) → ys ≡ map f zs → keep_if b (f x) ys ≡ map f (keep_if b x zs)
+    kept true ys zs e = ap (λ (l : List Y). f x ∷ l) e
+    kept false ys zs e = e
+
+module _ {H : Type 0} (aggregations : List Aggregation) (set : List ℕ) (rows : List RowValue) (numbers : List ℕ) (tuples : List (List Cell)) (tallies : List (List (Acc H))) where
+  accs_are : (n count : ℕ) → n < count → (some : List Aggregation) (lists : List (List (Acc H))) → AllZip (TalliesRows rows numbers count) some lists → accs_at n lists ≡ accs_of some (those_of n numbers rows)
+  accs_are n count h [] [] all = refl
+  accs_are n count h [] (t ∷ lists) all = absurd all
+  accs_are n count h (a ∷ some) [] all = absurd all
+  accs_are n count h (a ∷ some) (t ∷ lists) all =
+      ap₂ (λ (x : Acc H) (xs : List (Acc H)). x ∷ xs) ((all.0).each n h no_acc ∙ ap (acc_of a.kind) (those_mapped (cell_at a.column) n numbers rows)) (accs_are n count h some lists all.1)
+
+  alike_by : (n : ℕ) (ks : List ℕ) (rs : List RowValue) → map (λ k. get_or tuples k []) ks ≡ map (tuple_of set) rs → AllByRecursion (λ r. tuple_of set r ≡ get_or tuples n []) (those_of n ks rs)
+  alike_by n [] rs e = tt
+  alike_by n (k ∷ ks) [] e = tt
+  alike_by n (k ∷ ks) (r ∷ rs) e =
+      kept (k == n) (λ b. b) (ap (λ l. get_or l 0 []) e) (alike_by n ks rs (ap (λ l. drop 1 l) e))
+    where
+      kept : (b : Bool) → (b ≡ true → k == n ≡ true) → get_or tuples k [] ≡ tuple_of set r → AllByRecursion (λ r. tuple_of set r ≡ get_or tuples n []) (those_of n ks rs) →
+          AllByRecursion (λ r. tuple_of set r ≡ get_or tuples n []) (keep_if b r (those_of n ks rs))
+      kept true same first rest = (sym first ∙ ap (λ j. get_or tuples j []) (exact_unsigned_eq k n (same refl)), rest)
+      kept false same first rest = rest
+
+some_there : (n i : ℕ) (numbers : List ℕ) (rows : List RowValue) → length numbers ≡ length rows → i < length numbers → get_or numbers i n ≡ n → no_rows (those_of n numbers rows) ≡ false
+some_there n i [] rows e h is = absurd (omega (arith, h))
+some_there n i (k ∷ numbers) [] e h is = absurd (omega (arith, e))
+some_there n zero (k ∷ numbers) (r ∷ rows) e h is = ap (λ b. no_rows (keep_if b r (those_of n numbers rows))) (eq-eqb k n is)
+some_there n (suc i) (k ∷ numbers) (r ∷ rows) e h is = kept (k == n) (some_there n i numbers rows (omega (arith, e)) (omega (arith, h)) is)
+  where
+    kept : (b : Bool) → no_rows (those_of n numbers rows) ≡ false → no_rows (keep_if b r (those_of n numbers rows)) ≡ false
+    kept true rest = refl
+    kept false rest = rest
+
+parts_by : {H : Type 0} (aggregations : List Aggregation) (set : List ℕ) (f : ℕ → Group H) (p : ℕ → List RowValue) (a n : ℕ) →
+    ((k : ℕ) → a ≤ k → k < a + n → IsPart aggregations set (f k) (p k)) → AreParts aggregations set (map f (range_with_len a n)) (map p (range_with_len a n))
+parts_by aggregations set f p a zero each = tt
+parts_by aggregations set f p a (suc n) each =
+    (each a (omega arith) (omega arith), parts_by aggregations set f p (a + 1) n (λ k low high. each k (omega (arith, low)) (omega (arith, high))))
+
+pub covers_rows : {H : Type 0} (aggregations : List Aggregation) (set : List ℕ) (rows : List RowValue) (numbers : List ℕ) (tuples : List (List Cell)) (tallies : List (List (Acc H))) →
+    AreNumbered set rows numbers tuples → AllZip (TalliesRows rows numbers (length tuples)) aggregations tallies → Covers aggregations set rows (groups_from tuples tallies)
+covers_rows {H} aggregations set rows numbers tuples tallies now all =
+    let same : length numbers ≡ length rows = (number_all set rows numbers tuples (length rows) refl now).counted in
+    record {
+      parts = map (λ n. those_of n numbers rows) (range_with_len 0 (length tuples));
+      each = parts_by aggregations set (λ n. (get_or tuples n [], accs_at n tallies)) (λ n. those_of n numbers rows) 0 (length tuples) (λ n low high.
+          let h : n < length tuples = omega (arith, high) in
+          let met : Contains numbers n = now.met n h in
+          record {
+            some = some_there n met.0 numbers rows same met.1 met.2;
+            alike = alike_by aggregations set rows numbers tuples tallies n numbers rows now.stand;
+            accs = accs_are aggregations set rows numbers tuples tallies n (length tuples) h aggregations tallies all;
+          });
+      all = all_together (length tuples) numbers rows same now.within;
+    }
+
+-- the lists of accumulators are as long as those of tuples
+pub each_long : {A B : Type 0} (f : A → List B) (count : ℕ) (xs : List A) → AllByRecursion (λ l. length l ≡ count) (map f xs) → AllByRecursion (λ x. length (f x) ≡ count) xs
+each_long f count [] all = tt
+each_long f count (x ∷ xs) all = (all.0, each_long f count xs all.1)

@@ -1,0 +1,132 @@
+-- Where a cell counts once, parts are as good as the rows that they are parts of.
+use Rattle.std.specs.Prelude.{◌≡◌, ℕ, zero, suc, ◌<◌, ◌≤◌, ◌==◌, ◌&&◌, ◌||◌, Bool, true, false, not, List, [], ◌∷◌, length, map, refl}
+use Rattle.std.specs.FinSet.{same_set}
+use Rattle.std.specs.List.{AllByRecursion, Contains, list_any}
+use Rattle.std.proofs.Common.{get_or, ap, ap₂, sym, ◌∙◌, subst, arith}
+use Rattle.std.specs.Cmp.{both_ways}
+use Rattle.std.proofs.lemmas.List.{length-map}
+use Rattle.std.proofs.lemmas.List.Folds.{list_any_at}
+use Rattle.std.proofs.Math.ListN.{get_or-map}
+use Rattle.aggs.specs.Accs.{acc_of}
+use Rattle.aggs.specs.Differing.{contains_different, different}
+use Rattle.aggs.specs.Values.{is_null, present}
+use Rattle.aggs.specs.declared.acc.Acc.{Acc}
+use Rattle.aggs.specs.declared.acc.Acc.TheVariants as acc
+use Rattle.aggs.specs.declared.acc.Kind.TheVariants as kind
+use Rattle.cells.specs.CellOrder.{cell_cmp-total, cell_eq}
+use Rattle.cells.specs.Fitting.{AreStored, IsStored}
+use Rattle.cells.specs.SameKeys.{exact_cells}
+use Rattle.cells.specs.declared.cell.Cell.{Cell}
+use Rattle.cells.specs.declared.cell.Cell.TheVariants.{Null, Int, Text}
+use Rattle.columns.specs.Columns.{decoded}
+use Rattle.groups.specs.Differing.{cells_of_parts, groups_of_parts}
+use Rattle.groups.specs.Parting.{AreParted, no_part}
+use Rattle.groups.specs.Tallying.{AreTallied, MayTally, keep_if, those_of}
+use Rattle.groups.specs.declared.parting.Part.{Part}
+use Rattle.groups.proofs.TallyingLemmas.{any_default}
+use Rattle.groups.proofs.TuplesLemmas.{all_at}
+
+-- ---- the part at i
+pub part_group : (parts : List Part) (i : ℕ) → (get_or parts i no_part).group ≡ get_or (groups_of_parts parts) i 0
+part_group parts i = sym (get_or-map (λ (part : Part). part.group) parts i no_part)
+
+pub part_cell : (cells : List Cell) (parts : List Part) (i : ℕ) (cell : Cell) → i < length parts → (get_or parts i no_part).code < length cells →
+    cell ≡ get_or cells (get_or parts i no_part).code cell → cell ≡ get_or (cells_of_parts cells parts) i cell
+part_cell cells parts i cell h below is =
+    let g : Part → Cell = λ part. get_or cells part.code Null in
+    let there : i < length (cells_of_parts cells parts) = omega (arith, h, length-map parts g) in
+    is ∙ any_default cells (get_or parts i no_part).code cell Null below ∙ sym (get_or-map g parts i no_part) ∙ any_default (cells_of_parts cells parts) i (g no_part) cell there
+
+-- ---- whether one of some things is so
+some_at : {X : Type 0} (p : X → Bool) (xs : List X) (d : X) → list_any p xs ≡ true → (i : ℕ) × (i < length xs) × (p (get_or xs i d) ≡ true)
+some_at p [] d e = absurd (cc)
+some_at {X} p (x ∷ xs) d e = here (p x) refl (some_at p xs d) e
+  where
+    here : (b : Bool) → p x ≡ b → (list_any p xs ≡ true → (i : ℕ) × (i < length xs) × (p (get_or xs i d) ≡ true)) → (b || list_any p xs) ≡ true →
+        (i : ℕ) × (i < length (x ∷ xs)) × (p (get_or (x ∷ xs) i d) ≡ true)
+    here true is later e = (0, omega arith, is)
+    here false is later e = let found = later e in (suc found.0, omega (arith, found.1), found.2)
+
+any_present : (p : Cell → Bool) (cells : List Cell) → list_any p (present cells) ≡ list_any (λ c. not (is_null c) && p c) cells
+any_present p [] = refl
+any_present p (Null ∷ cells) = any_present p cells
+any_present p (Int n ∷ cells) = ap (λ b. p (Int n) || b) (any_present p cells)
+any_present p (Text t ∷ cells) = ap (λ b. p (Text t) || b) (any_present p cells)
+
+any_of_number : {X : Type 0} (p : Cell → Bool) (n : ℕ) (f : X → ℕ) (g : X → Cell) (xs : List X) →
+    list_any p (those_of n (map f xs) (map g xs)) ≡ list_any (λ x. (f x == n) && p (g x)) xs
+any_of_number p n f g [] = refl
+any_of_number p n f g (x ∷ xs) = kept (those_of n (map f xs) (map g xs)) (f x == n) ∙ ap (λ b. ((f x == n) && p (g x)) || b) (any_of_number p n f g xs)
+  where
+    kept : (rest : List Cell) (b : Bool) → list_any p (keep_if b (g x) rest) ≡ ((b && p (g x)) || list_any p rest)
+    kept rest true = refl
+    kept rest false = refl
+
+-- ---- parts, each of which has a number
+module _ (parts : List Part) (numbers : List ℕ) (within : AllByRecursion (λ n. n < length parts) numbers) (met : (n : ℕ) → n < length parts → Contains numbers n) where
+  any_of_parts : (p : Part → Bool) → list_any (λ n. p (get_or parts n no_part)) numbers ≡ list_any p parts
+  any_of_parts p = both_ways (list_any (λ n. p (get_or parts n no_part)) numbers) (list_any p parts) down up
+    where
+      down : list_any (λ n. p (get_or parts n no_part)) numbers ≡ true → list_any p parts ≡ true
+      down e =
+          let found = some_at (λ n. p (get_or parts n no_part)) numbers 0 e in
+          list_any_at p parts (get_or numbers found.0 0) no_part (all_at (λ n. n < length parts) numbers found.0 0 within found.1) found.2
+
+      up : list_any p parts ≡ true → list_any (λ n. p (get_or parts n no_part)) numbers ≡ true
+      up e =
+          let found = some_at p parts no_part e in
+          let at = met found.0 found.1 in
+          list_any_at (λ n. p (get_or parts n no_part)) numbers at.0 found.0 at.1 (subst (λ n. p (get_or parts n no_part) ≡ true) (sym at.2) found.2)
+
+module _ (groups codes numbers : List ℕ) (parts : List Part) (cells : List Cell) (are : AreParted groups codes numbers parts) where
+  map_group : groups ≡ map (λ n. (get_or parts n no_part).group) numbers
+  map_group = sym are.of_groups
+
+  map_cell : decoded cells codes ≡ map (λ n. get_or cells (get_or parts n no_part).code Null) numbers
+  map_cell = ap (decoded cells) (sym are.of_codes) ∙ twice numbers
+    where
+      twice : (ns : List ℕ) → decoded cells (map (λ n. (get_or parts n no_part).code) ns) ≡ map (λ n. get_or cells (get_or parts n no_part).code Null) ns
+      twice [] = refl
+      twice (n ∷ ns) = ap (λ (l : List Cell). get_or cells (get_or parts n no_part).code Null ∷ l) (twice ns)
+
+  -- the cells of a group are those of its parts, as a set
+  same_cells_of : (n : ℕ) → different (those_of n groups (decoded cells codes)) ≡ different (those_of n (groups_of_parts parts) (cells_of_parts cells parts))
+  same_cells_of n = same_set cell_cmp-total exact_cells _ _ (λ q.
+      let p : Cell → Bool = λ c. not (is_null c) && cell_eq q c in
+      let f : Part → ℕ = λ part. part.group in
+      let g : Part → Cell = λ part. get_or cells part.code Null in
+      contains_different (those_of n groups (decoded cells codes)) q ∙ any_present (cell_eq q) (those_of n groups (decoded cells codes)) ∙
+      ap₂ (λ (l : List ℕ) (m : List Cell). list_any p (those_of n l m)) map_group map_cell ∙
+      any_of_number p n (λ k. f (get_or parts k no_part)) (λ k. g (get_or parts k no_part)) numbers ∙
+      any_of_parts parts numbers are.within are.met (λ part. (f part == n) && p (g part)) ∙
+      sym (any_of_number p n f g parts) ∙ sym (any_present (cell_eq q) (those_of n (groups_of_parts parts) (cells_of_parts cells parts))) ∙
+      sym (contains_different (those_of n (groups_of_parts parts) (cells_of_parts cells parts)) q))
+
+  pub tallied_by_parts : {H : Type 0} (count : ℕ) (accs : List (Acc H)) → AreTallied kind.CountDistinct count (groups_of_parts parts) (cells_of_parts cells parts) accs →
+      AreTallied kind.CountDistinct count groups (decoded cells codes) accs
+  tallied_by_parts count accs now = record {
+    counted = now.counted;
+    each = λ n h d. now.each n h d ∙ ap acc.CountDistinct (sym (same_cells_of n));
+  }
+
+  part_met : (P : Cell → Type 0) (n : ℕ) → n < length parts → AllByRecursion P (decoded cells codes) → P (get_or cells (get_or parts n no_part).code Null)
+  part_met P n h all =
+      let g : ℕ → Cell = λ k. get_or cells (get_or parts k no_part).code Null in
+      let at = are.met n h in
+      let there : at.0 < length (decoded cells codes) = omega (arith, at.1, ap (λ l. length l) map_cell, length-map numbers g) in
+      subst (λ k. P (g k)) at.2 (subst P (get_or-map g numbers at.0 n) (subst (λ l. P (get_or l at.0 (g n))) map_cell (all_at P (decoded cells codes) at.0 (g n) all there)))
+
+  pub may_tally_parts : MayTally kind.CountDistinct (decoded cells codes) → MayTally kind.CountDistinct (cells_of_parts cells parts)
+  may_tally_parts may = record {
+    stored = stored parts (λ n h. part_met IsStored n h (as_all (decoded cells codes) may.stored));
+    numbers = λ e. absurd (cc (e));
+    few = omega (arith, may.few, are.few, length-map parts (λ (part : Part). get_or cells part.code Null), ap (λ l. length l) map_cell, length-map numbers (λ (k : ℕ). get_or cells (get_or parts k no_part).code Null));
+  }
+    where
+      as_all : (cs : List Cell) → AreStored cs → AllByRecursion IsStored cs
+      as_all [] s = tt
+      as_all (c ∷ cs) s = (s.0, as_all cs s.1)
+
+      stored : (ps : List Part) → ((n : ℕ) → n < length ps → IsStored (get_or cells (get_or ps n no_part).code Null)) → AreStored (cells_of_parts cells ps)
+      stored [] each = tt
+      stored (p ∷ ps) each = (each 0 (omega arith), stored ps (λ n h. each (suc n) (omega (arith, h))))

@@ -1,0 +1,215 @@
+-- Accumulators of numbered cells, a cell after another.
+use Rattle.std.specs.Prelude.{◌≡◌, ◌≢◌, ℕ, zero, suc, ◌+◌, ◌<◌, ◌≤◌, ◌==◌, ◌⊎◌, Bool, true, false, List, [], ◌∷◌, ◌++◌, length, map, min, set, take, refl}
+use Rattle.std.specs.List.{AllByRecursion}
+use Rattle.std.proofs.Common.{get_or, ap, sym, ◌∙◌, subst, arith, eq-eqb, inl, inr}
+use Rattle.std.proofs.lemmas.Bool.{ne_eqb}
+use Rattle.std.proofs.lemmas.List.{append-nil, get_or-set_other, get_or-set_same, length-append, length-map, length-set, length-take, take_all, take_more}
+use Rattle.aggs.specs.Accs.{AccTakes, AccsFit, acc_joins, acc_kind, acc_of, acc_room, acc_takes, acc_together, kind_of}
+use Rattle.aggs.specs.Room.{cell_limit}
+use Rattle.aggs.specs.Values.{IsNoText}
+use Rattle.aggs.specs.Counts.{rows}
+use Rattle.aggs.specs.declared.acc.Acc.{Acc}
+use Rattle.aggs.specs.declared.acc.Acc.TheVariants as acc
+use Rattle.aggs.specs.declared.acc.Kind.{Kind}
+use Rattle.aggs.specs.declared.acc.Kind.TheVariants as kind
+use Rattle.cells.specs.Fitting.{AreStored, IsStored}
+use Rattle.cells.specs.declared.cell.Cell.{Cell}
+use Rattle.cells.specs.declared.cell.Cell.TheVariants.{Null}
+use Rattle.columns.specs.Columns.{AreCodes, decoded}
+use Rattle.groups.specs.Parting.{codes_at}
+use Rattle.groups.specs.Tallying.{AreTallied, MayTally, keep_if, those_of}
+use Rattle.groups.proofs.TuplesLemmas.{all_at}
+
+pub same_or_other : (n m : ℕ) → (n ≡ m) ⊎ (n ≢ m)
+same_or_other zero zero = inl refl
+same_or_other zero (suc m) = inr (λ e. omega (arith, e))
+same_or_other (suc n) zero = inr (λ e. omega (arith, e))
+same_or_other (suc n) (suc m) = further (same_or_other n m)
+  where
+    further : (n ≡ m) ⊎ (n ≢ m) → (suc n ≡ suc m) ⊎ (suc n ≢ suc m)
+    further (inl e) = inl (ap suc e)
+    further (inr other) = inr (λ e. other (omega (arith, e)))
+
+keep_behind : {X : Type 0} (b : Bool) (x : X) (xs ys : List X) → keep_if b x (xs ++ ys) ≡ keep_if b x xs ++ ys
+keep_behind true x xs ys = refl
+keep_behind false x xs ys = refl
+
+pub those_more : {X : Type 0} (m : ℕ) (numbers : List ℕ) (xs : List X) (n : ℕ) (x : X) → length numbers ≡ length xs →
+    those_of m (numbers ++ n ∷ []) (xs ++ x ∷ []) ≡ those_of m numbers xs ++ keep_if (n == m) x []
+those_more m [] [] n x e = refl
+those_more m [] (y ∷ xs) n x e = absurd (omega (arith, e))
+those_more m (k ∷ numbers) [] n x e = absurd (omega (arith, e))
+those_more m (k ∷ numbers) (y ∷ xs) n x e =
+    ap (keep_if (k == m) y) (those_more m numbers xs n x (omega (arith, e))) ∙ keep_behind (k == m) y (those_of m numbers xs) (keep_if (n == m) x [])
+
+pub those_few : {X : Type 0} (m : ℕ) (numbers : List ℕ) (xs : List X) → length (those_of m numbers xs) ≤ length xs
+those_few m [] xs = omega arith
+those_few m (k ∷ numbers) [] = omega arith
+those_few {X} m (k ∷ numbers) (x ∷ xs) = kept (those_of m numbers xs) (k == m) (those_few m numbers xs)
+  where
+    kept : (rest : List X) (b : Bool) → length rest ≤ length xs → length (keep_if b x rest) ≤ suc (length xs)
+    kept rest true few = omega (arith, few)
+    kept rest false few = omega (arith, few)
+
+those_stored : (m : ℕ) (numbers : List ℕ) (cells : List Cell) → AreStored cells → AreStored (those_of m numbers cells)
+those_stored m [] cells s = tt
+those_stored m (k ∷ numbers) [] s = tt
+those_stored m (k ∷ numbers) (c ∷ cells) s = kept (those_of m numbers cells) (k == m) (those_stored m numbers cells s.1)
+  where
+    kept : (rest : List Cell) (b : Bool) → AreStored rest → AreStored (keep_if b c rest)
+    kept rest true stored = (s.0, stored)
+    kept rest false stored = stored
+
+-- ---- tallies
+module _ {H : Type 0} where
+  pub tallied_none : (k : Kind) → AreTallied {H = H} k 0 [] [] []
+  tallied_none k = record { counted = refl; each = λ n h d. absurd (omega (arith, h)) }
+
+  -- an accumulator of no cells more
+  pub tallied_wider : (k : Kind) (count : ℕ) (accs : List (Acc H)) (acc : Acc H) → AreTallied k count [] [] accs → acc ≡ acc_of k [] → AreTallied k (count + 1) [] [] (accs ++ acc ∷ [])
+  tallied_wider k count accs acc now is = record {
+    counted = omega (arith, now.counted, length-append accs (acc ∷ []));
+    each = λ n h d. each n d accs (omega (arith, h, now.counted)) (λ m l. now.each m (omega (arith, l, now.counted)) d);
+  }
+    where
+      each : (n : ℕ) (d : Acc H) (xs : List (Acc H)) → n < length xs + 1 → ((m : ℕ) → m < length xs → get_or xs m d ≡ acc_of k []) → get_or (xs ++ acc ∷ []) n d ≡ acc_of k []
+      each zero d [] h all = is
+      each (suc n) d [] h all = absurd (omega (arith, h))
+      each zero d (x ∷ xs) h all = all 0 (omega arith)
+      each (suc n) d (x ∷ xs) h all = each n d xs (omega (arith, h)) (λ m l. all (suc m) (omega (arith, l)))
+
+  -- a cell more
+  pub tallied_more : (k : Kind) (count : ℕ) (numbers : List ℕ) (cells : List Cell) (accs : List (Acc H)) (n : ℕ) (cell : Cell) (new d : Acc H) → length numbers ≡ length cells → n < count →
+      AreTallied k count numbers cells accs → new ≡ acc_together (get_or accs n d) (acc_of (kind_of (get_or accs n d)) (cell ∷ [])) →
+      AreTallied k count (numbers ++ n ∷ []) (cells ++ cell ∷ []) (set accs n new)
+  tallied_more k count numbers cells accs n cell new d same below now is = record {
+    counted = length-set accs n new ∙ now.counted;
+    each = λ m h e. each m h e (same_or_other n m);
+  }
+    where
+      old : get_or accs n d ≡ acc_of k (those_of n numbers cells)
+      old = now.each n below d
+
+      joined : new ≡ acc_of k (those_of n numbers cells ++ cell ∷ [])
+      joined = is ∙ ap (λ (a : Acc H). acc_together a (acc_of (kind_of a) (cell ∷ []))) old ∙
+          ap (λ kind. acc_together (acc_of k (those_of n numbers cells)) (acc_of kind (cell ∷ []))) (acc_kind H k (those_of n numbers cells)) ∙
+          sym (acc_joins k (those_of n numbers cells) (cell ∷ []))
+
+      each : (m : ℕ) → m < count → (e : Acc H) → (n ≡ m) ⊎ (n ≢ m) → get_or (set accs n new) m e ≡ acc_of k (those_of m (numbers ++ n ∷ []) (cells ++ cell ∷ []))
+      each m h e (inl here) =
+          subst (λ j. get_or (set accs n new) j e ≡ acc_of k (those_of j (numbers ++ n ∷ []) (cells ++ cell ∷ []))) here
+          (get_or-set_same accs n new e (omega (arith, below, now.counted)) ∙ joined ∙
+          ap (acc_of k) (sym (those_more n numbers cells n cell same ∙ ap (λ b. those_of n numbers cells ++ keep_if b cell []) (eq-eqb n n refl))))
+      each m h e (inr other) =
+          get_or-set_other accs n m new e (λ z. other (sym z)) ∙ now.each m h e ∙
+          ap (acc_of k) (sym (those_more m numbers cells n cell same ∙ ap (λ b. those_of m numbers cells ++ keep_if b cell []) (ne_eqb n m other) ∙ append-nil (those_of m numbers cells)))
+
+-- ---- the accumulator may be stepped with the cell at i
+stored_first : (i : ℕ) (cells : List Cell) → AreStored cells → AreStored (take i cells)
+stored_first zero cells s = tt
+stored_first (suc i) [] s = tt
+stored_first (suc i) (c ∷ cells) s = (s.0, stored_first i cells s.1)
+
+stored_there : (cells : List Cell) (i : ℕ) (d : Cell) → i < length cells → AreStored cells → IsStored (get_or cells i d)
+stored_there [] i d h s = absurd (omega (arith, h))
+stored_there (c ∷ cells) zero d h s = s.0
+stored_there (c ∷ cells) (suc i) d h s = stored_there cells i d (omega (arith, h)) s.1
+
+module _ {H : Type 0} (k : Kind) (count : ℕ) (numbers : List ℕ) (cells : List Cell) (accs : List (Acc H)) (i n : ℕ) (cell : Cell) (acc : Acc H) (h : i < length cells)
+    (at : cell ≡ get_or cells i cell) (below : n < count) (read : acc ≡ get_or accs n acc) (may : MayTally k cells) (now : AreTallied k count (take i numbers) (take i cells) accs) where
+  is_tally : acc ≡ acc_of k (those_of n (take i numbers) (take i cells))
+  is_tally = read ∙ now.each n below acc
+
+  pub takes_cell : AccTakes acc cell
+  takes_cell =
+      subst (λ (a : Acc H). AccTakes a cell) (sym is_tally)
+      (acc_takes H k (those_of n (take i numbers) (take i cells)) cell (λ e. subst IsNoText (sym at) (all_at IsNoText cells i cell (may.numbers e) h)))
+
+  pub fits_cell : AccsFit acc (acc_of (kind_of acc) (cell ∷ []))
+  fits_cell =
+      let xs : List Cell = those_of n (take i numbers) (take i cells) in
+      subst (λ (a : Acc H). AccsFit a (acc_of (kind_of a) (cell ∷ []))) (sym is_tally)
+      (subst (λ kind. AccsFit (acc_of {H = H} k xs) (acc_of kind (cell ∷ []))) (sym (acc_kind H k xs))
+      (acc_room H k xs (cell ∷ []) (record {
+        first = those_stored n (take i numbers) (take i cells) (stored_first i cells may.stored);
+        second = (subst IsStored (sym at) (stored_there cells i cell h may.stored), tt);
+        few = omega (arith, may.few, h, those_few n (take i numbers) (take i cells), length-take i cells);
+      })))
+
+-- the cell at i goes behind those before it
+pub tallied_next : {H : Type 0} (k : Kind) (count : ℕ) (numbers : List ℕ) (cells : List Cell) (accs : List (Acc H)) (i n : ℕ) (cell : Cell) (new acc : Acc H) → length numbers ≡ length cells →
+    i < length cells → cell ≡ get_or cells i cell → n ≡ get_or numbers i 0 → n < count → acc ≡ get_or accs n acc → AreTallied k count (take i numbers) (take i cells) accs →
+    new ≡ acc_together acc (acc_of (kind_of acc) (cell ∷ [])) → AreTallied k count (take (i + 1) numbers) (take (i + 1) cells) (set accs n new)
+tallied_next {H} k count numbers cells accs i n cell new acc same h at number below read now is =
+    let first : take (i + 1) numbers ≡ take i numbers ++ n ∷ [] = take_more numbers i 0 (omega (arith, h, same)) ∙ ap (λ (x : ℕ). take i numbers ++ x ∷ []) (sym number) in
+    let second : take (i + 1) cells ≡ take i cells ++ cell ∷ [] = take_more cells i cell h ∙ ap (λ (x : Cell). take i cells ++ x ∷ []) (sym at) in
+    let both : length (take i numbers) ≡ length (take i cells) = length-take i numbers ∙ ap (λ l. min i l) same ∙ sym (length-take i cells) in
+    subst (λ l. AreTallied k count l (take (i + 1) cells) (set accs n new)) (sym first)
+    (subst (λ l. AreTallied k count (take i numbers ++ n ∷ []) l (set accs n new)) (sym second)
+    (tallied_more k count (take i numbers) (take i cells) accs n cell new acc both below now (is ∙ ap (λ (a : Acc H). acc_together a (acc_of (kind_of a) (cell ∷ []))) read)))
+
+pub tallied_all : {H : Type 0} (k : Kind) (count : ℕ) (numbers : List ℕ) (cells : List Cell) (accs : List (Acc H)) (i : ℕ) → length numbers ≤ i → length cells ≤ i →
+    AreTallied k count (take i numbers) (take i cells) accs → AreTallied k count numbers cells accs
+tallied_all k count numbers cells accs i h l now =
+    subst (λ x. AreTallied k count x cells accs) (take_all i numbers h) (subst (λ x. AreTallied k count (take i numbers) x accs) (take_all i cells l) now)
+
+-- ---- the cell of a row
+pub cell_read : (cells : List Cell) (by_row rows : List ℕ) (i : ℕ) → i < length rows → get_or (decoded cells (codes_at by_row rows)) i Null ≡ get_or cells (get_or by_row (get_or rows i 0) 0) Null
+cell_read cells by_row [] i h = absurd (omega (arith, h))
+cell_read cells by_row (r ∷ rows) zero h = refl
+cell_read cells by_row (r ∷ rows) (suc i) h = cell_read cells by_row rows i (omega (arith, h))
+
+-- ---- rows that are counted
+abbrev pub nulls : List ℕ → List Cell
+nulls numbers = map (λ n. Null) numbers
+
+nulls_stored : (numbers : List ℕ) → AreStored (nulls numbers)
+nulls_stored [] = tt
+nulls_stored (n ∷ numbers) = (tt, nulls_stored numbers)
+
+pub may_count : (numbers : List ℕ) → length numbers ≤ cell_limit → MayTally kind.CountRows (nulls numbers)
+may_count numbers few = record {
+  stored = nulls_stored numbers;
+  numbers = λ e. absurd (cc (e));
+  few = omega (arith, few, length-map numbers (λ n. Null));
+}
+
+as_many : {X Y : Type 0} (m : ℕ) (numbers : List ℕ) (xs : List X) (ys : List Y) → length xs ≡ length ys → length (those_of m numbers xs) ≡ length (those_of m numbers ys)
+as_many m [] xs ys e = refl
+as_many m (k ∷ numbers) [] [] e = refl
+as_many m (k ∷ numbers) [] (y ∷ ys) e = absurd (omega (arith, e))
+as_many m (k ∷ numbers) (x ∷ xs) [] e = absurd (omega (arith, e))
+as_many {X} {Y} m (k ∷ numbers) (x ∷ xs) (y ∷ ys) e = kept (those_of m numbers xs) (those_of m numbers ys) (k == m) (as_many m numbers xs ys (omega (arith, e)))
+  where
+    kept : (one : List X) (two : List Y) (b : Bool) → length one ≡ length two → length (keep_if b x one) ≡ length (keep_if b y two)
+    kept one two true same = ap suc same
+    kept one two false same = same
+
+pub counted_any : {H : Type 0} (count : ℕ) (numbers : List ℕ) (cells : List Cell) (accs : List (Acc H)) → length cells ≡ length numbers → AreTallied kind.CountRows count numbers (nulls numbers) accs →
+    AreTallied kind.CountRows count numbers cells accs
+counted_any {H} count numbers cells accs same now = record {
+  counted = now.counted;
+  each = λ n h d. now.each n h d ∙ ap (λ k. acc.CountRows (rows k)) (as_many n numbers (nulls numbers) cells (length-map numbers (λ n. Null) ∙ sym same));
+}
+
+pub null_there : (numbers : List ℕ) (i : ℕ) → Null ≡ get_or (nulls numbers) i Null
+null_there [] i = refl
+null_there (n ∷ numbers) zero = refl
+null_there (n ∷ numbers) (suc i) = null_there numbers i
+
+pub any_default : {X : Type 0} (xs : List X) (i : ℕ) (d e : X) → i < length xs → get_or xs i d ≡ get_or xs i e
+any_default [] i d e h = absurd (omega (arith, h))
+any_default (x ∷ xs) zero d e h = refl
+any_default (x ∷ xs) (suc i) d e h = any_default xs i d e (omega (arith, h))
+
+pub cell_there : (cells : List Cell) (by_row rows : List ℕ) (i : ℕ) (cell : Cell) → i < length rows → AllByRecursion (λ r. r < length by_row) rows → AreCodes cells by_row →
+    cell ≡ get_or cells (get_or by_row (get_or rows i 0) 0) cell → cell ≡ get_or (decoded cells (codes_at by_row rows)) i cell
+cell_there cells by_row rows i cell h within are is =
+    let code : get_or by_row (get_or rows i 0) 0 < length cells =
+    all_at (λ c. c < length cells) by_row (get_or rows i 0) 0 are (all_at (λ r. r < length by_row) rows i 0 within h) in
+    let all : List Cell = decoded cells (codes_at by_row rows) in
+    let there : i < length all = omega (arith, h, length-map rows (λ row. get_or by_row row 0), length-map (codes_at by_row rows) (λ c. get_or cells c Null)) in
+    is ∙ any_default cells (get_or by_row (get_or rows i 0) 0) cell Null code ∙ sym (cell_read cells by_row rows i h) ∙ any_default all i Null cell there
+
+pub decoded_length : (cells : List Cell) (by_row rows : List ℕ) → length (decoded cells (codes_at by_row rows)) ≡ length rows
+decoded_length cells by_row rows = length-map (codes_at by_row rows) (λ c. get_or cells c Null) ∙ length-map rows (λ row. get_or by_row row 0)

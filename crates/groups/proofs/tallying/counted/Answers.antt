@@ -1,0 +1,33 @@
+use Rattle.std.proofs.Common.{◌<◌, arith, get_or, refl, sym}
+use Rattle.std.proofs.lemmas.List.{length-map}
+use Rattle.aggs.specs.declared.acc.Kind.TheVariants.{CountRows}
+use Rattle.cells.specs.declared.cell.Cell.TheVariants.{Null}
+use Rattle.groups.proofs.TallyingLemmas.{counted_any, fits_cell, may_count, null_there, nulls, tallied_all, tallied_next}
+use Rattle.groups.proofs.TuplesLemmas.{all_at}
+use Rattle.groups.proofs.tallying.counted.Goals as goal
+
+pub index_mut-requires : goal.index_mut-requires
+index_mut-requires g c =
+    let there : get_or c.args.numbers.now c.loop-number.number-index 0 < c.args.count = all_at (λ n. n < c.args.count) c.args.numbers.now c.loop-number.number-index 0 c.requires.numbers c.loop-number-test.true in
+    omega (arith, there, c.loop-number.invariant.counted, c.loop-number.accs.ok.0)
+
+pub step-requires-clause-room : goal.step-requires-clause-room
+step-requires-clause-room g c =
+    let i = c.loop-number.number-index in
+    fits_cell CountRows c.args.count c.args.numbers.now (nulls c.args.numbers.now) c.loop-number.accs.items i (get_or c.args.numbers.now i 0) Null c.index_mut.result.now
+    (omega (arith, c.loop-number-test.true, length-map c.args.numbers.now (λ n. Null))) (null_there c.args.numbers.now i)
+    (all_at (λ n. n < c.args.count) c.args.numbers.now i 0 c.requires.numbers c.loop-number-test.true) c.index_mut.ensures.value (may_count c.args.numbers.now c.requires.few) c.loop-number.invariant
+
+pub loop-number-preserved : goal.loop-number-preserved
+loop-number-preserved g c =
+    let i = c.loop-number.number-index in
+    tallied_next CountRows c.args.count c.args.numbers.now (nulls c.args.numbers.now) c.loop-number.accs.items i (get_or c.args.numbers.now i 0) Null c.step.new.self c.index_mut.result.now
+    (sym (length-map c.args.numbers.now (λ n. Null))) (omega (arith, c.loop-number-test.true, length-map c.args.numbers.now (λ n. Null))) (null_there c.args.numbers.now i) refl
+    (all_at (λ n. n < c.args.count) c.args.numbers.now i 0 c.requires.numbers c.loop-number-test.true) c.index_mut.ensures.value c.loop-number.invariant c.in_ok-step.ensures.stepped
+
+pub returns : goal.returns
+returns g c = λ cells same.
+    counted_any c.args.count c.args.numbers.now cells c.loop-number.accs.items same
+    (tallied_all CountRows c.args.count c.args.numbers.now (nulls c.args.numbers.now) c.loop-number.accs.items c.loop-number.number-index
+    (omega (arith, c.loop-number-test.false, c.loop-number.auto.number-index-end))
+    (omega (arith, c.loop-number-test.false, c.loop-number.auto.number-index-end, length-map c.args.numbers.now (λ n. Null))) c.loop-number.invariant)

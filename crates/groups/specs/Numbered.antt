@@ -1,0 +1,38 @@
+-- Rows numbered by their groups.
+use Rattle.std.specs.Prelude.{◌≡◌, ℕ, ◌<◌, ◌≤◌, ◌^◌, List, [], length, map, slice_index_or}
+use Rattle.std.specs.List.{AllByRecursion, Contains}
+use Rattle.cells.specs.Values.{RowValue}
+use Rattle.cells.specs.declared.cell.Cell.{Cell}
+use Rattle.cells.specs.declared.cell.Cell.TheVariants.{Null}
+use Rattle.columns.specs.Columns.{ColumnValue, ColumnsValue, Hold}
+use Rattle.groups.specs.Groups.{tuple_of}
+
+abbrev pub no_row : RowValue
+no_row = record { key = Null; cells = [] }
+
+-- the rows that stand at these places of a list
+abbrev pub picked_rows : List RowValue → List ℕ → List RowValue
+picked_rows rows places = map (λ i. slice_index_or rows i no_row) places
+
+-- the tuples of a set are numbered, and each row has the number of its tuple. Each number has a row; two may have one tuple
+pub record AreNumbered (set : List ℕ) (rows : List RowValue) (numbers : List ℕ) (tuples : List (List Cell)) : Type 0 where
+  pub within : AllByRecursion (λ n. n < length tuples) numbers
+  pub stand : map (λ n. slice_index_or tuples n []) numbers ≡ map (tuple_of set) rows
+  pub met : (n : ℕ) → n < length tuples → Contains numbers n
+
+-- there are numbers for so many rows, each that of a tuple
+pub record NumberAll (count : ℕ) (numbers : List ℕ) (tuples : List (List Cell)) : Type 0 where
+  pub counted : length numbers ≡ count
+  pub within : AllByRecursion (λ n. n < length tuples) numbers
+
+-- the column has a cell for each of the rows at these places
+pub record HasRows (column : ColumnValue) (places : List ℕ) : Type 0 where
+  pub within : AllByRecursion (λ i. i < length column.by_row) places
+  pub few : length places ≤ 2 ^ 32
+
+-- the columns hold rows, those at these places among them
+pub record HaveRows (columns : ColumnsValue) (places : List ℕ) : Type 0 where
+  pub rows : List RowValue
+  pub held : Hold rows columns
+  pub within : AllByRecursion (λ i. i < length rows) places
+  pub few : length places ≤ 2 ^ 32

@@ -1,0 +1,32 @@
+-- Accumulators of numbered cells.
+use Rattle.std.specs.Prelude.{◌≡◌, ℕ, ◌<◌, ◌≤◌, ◌==◌, Bool, true, false, List, [], ◌∷◌, length, slice_index_or}
+use Rattle.std.specs.List.{AllByRecursion}
+use Rattle.aggs.specs.Accs.{acc_of}
+use Rattle.aggs.specs.Room.{cell_limit}
+use Rattle.aggs.specs.Values.{IsNoText}
+use Rattle.aggs.specs.declared.acc.Acc.{Acc}
+use Rattle.aggs.specs.declared.acc.Kind.{Kind}
+use Rattle.aggs.specs.declared.acc.Kind.TheVariants as kind
+use Rattle.cells.specs.Fitting.{AreStored}
+use Rattle.cells.specs.declared.cell.Cell.{Cell}
+
+abbrev pub keep_if : {X : Type 0} → Bool → X → List X → List X
+keep_if true x xs = x ∷ xs
+keep_if false x xs = xs
+
+-- those of some things that have this number, in their order
+abbrev pub those_of : {X : Type 0} → ℕ → List ℕ → List X → List X
+those_of n [] xs = []
+those_of n (k ∷ numbers) [] = []
+those_of n (k ∷ numbers) (x ∷ xs) = keep_if (k == n) x (those_of n numbers xs)
+
+-- accumulators, one for each number below the count, of the cells that have it
+pub record AreTallied {H : Type 0} (kind : Kind) (count : ℕ) (numbers : List ℕ) (cells : List Cell) (accs : List (Acc H)) : Type 0 where
+  pub counted : length accs ≡ count
+  pub each : (n : ℕ) → n < count → (d : Acc H) → slice_index_or accs n d ≡ acc_of kind (those_of n numbers cells)
+
+-- accumulators of the kind may be stepped with these cells: none is a text under SUM, and they are few enough
+pub record MayTally (k : Kind) (cells : List Cell) : Type 0 where
+  pub stored : AreStored cells
+  pub numbers : k ≡ kind.Sum → AllByRecursion IsNoText cells
+  pub few : length cells ≤ cell_limit

@@ -1,0 +1,124 @@
+//! The groups of a set over rows whose columns are at hand: all rows are numbered by their groups first, and then each
+//! aggregate goes over its column (Boncz, Zukowski and Nes, MonetDB/X100, 2005).
+ghost use Rattle.std.specs.Prelude.{◌≡◌, ◌≤◌, ◌^◌, List, IfOk, IfSome, ◌<◌, length, map};
+ghost use Rattle.std.specs.List.{AllByRecursion, AllZip};
+ghost use Rattle.aggs.specs.Room.{cell_limit};
+ghost use Rattle.cells.specs.Values.{RowValue};
+ghost use Rattle.columns.specs.Columns.{Hold};
+ghost use Rattle.groups.specs.Bags.{Covers};
+ghost use Rattle.groups.specs.Columnar.{MayCount, MayTallyRows, TalliesRows, accs_at, groups_from};
+ghost use Rattle.groups.specs.Numbered.{NumberAll, picked_rows};
+
+use crate::accumulators::Accumulators;
+use crate::aggregation::Aggregation;
+use crate::bag::Bag;
+use crate::grouped::{Grouped, groups_of};
+use crate::tallying::{counted, tallied};
+use aggs::{Acc, Kind};
+use cells::{Cell, KeyHash, Tuple};
+use columns::Columns;
+use std::alloc::{AllocError, Global};
+
+/// The bag of a set over the rows at these places of the columns. None where a column that is wanted was left out, or the
+/// groups are too many for a table.
+pub fn bag_of<H: KeyHash<Cell>>(
+    alloc: Global,
+    columns: &Columns<H>,
+    set: &[usize],
+    aggregations: &[Aggregation],
+    rows: &[u32],
+) -> Result<Option<Bag<H>>, AllocError>
+    requires { MayCount aggregations.now columns.now rows.now }
+    ensures { (all : List RowValue) → Hold all columns.now →
+        IfOk result (λ made. IfSome made (λ bag. Covers aggregations.now set.now (picked_rows all rows.now) bag)) }
+{
+    let Some(groups) = groups_of(alloc, columns, set, rows)? else {
+        return Ok(None);
+    };
+    let Some(tallies) = tallies(alloc, columns, aggregations, rows, &groups)? else {
+        return Ok(None);
+    };
+    let groups = listed(alloc, groups.tuples.as_slice(), tallies.as_slice())?;
+    Ok(Some(Bag::of(alloc, groups)))
+}
+
+/// The accumulators of each aggregate, in their order, for all groups. None where a column was left out.
+fn tallies<H: KeyHash<Cell>>(
+    alloc: Global,
+    columns: &Columns<H>,
+    aggregations: &[Aggregation],
+    rows: &[u32],
+    groups: &Grouped,
+) -> Result<Option<Vec<Vec<Acc<H>>>>, AllocError>
+    requires may { AllByRecursion (MayTallyRows columns.now rows.now) aggregations.now }
+    requires all { NumberAll (length rows.now) groups.now.numbers.items groups.now.tuples.items }
+    ensures { (all : List RowValue) → Hold all columns.now →
+        IfOk result (λ made. IfSome made (λ v. AllZip (TalliesRows (picked_rows all rows.now) groups.now.numbers.items (length groups.now.tuples.items)) aggregations.now (map (λ accs. accs.items) v.items))) }
+{
+    let mut tallies = Vec::with_capacity(alloc, aggregations.len())?;
+    for aggregation in aggregations {
+        let Some(accs) = tally(alloc, columns, aggregation, rows, groups)? else {
+            return Ok(None);
+        };
+        tallies.push(accs)?;
+    }
+    Ok(Some(tallies))
+}
+
+/// The accumulators of an aggregate for all groups. None where its column was left out.
+fn tally<H: KeyHash<Cell>>(
+    alloc: Global,
+    columns: &Columns<H>,
+    aggregation: &Aggregation,
+    rows: &[u32],
+    groups: &Grouped,
+) -> Result<Option<Vec<Acc<H>>>, AllocError>
+    requires may { MayTallyRows columns.now rows.now aggregation.now }
+    requires all { NumberAll (length rows.now) groups.now.numbers.items groups.now.tuples.items }
+    ensures { (all : List RowValue) → Hold all columns.now →
+        IfOk result (λ made. IfSome made (λ v. TalliesRows (picked_rows all rows.now) groups.now.numbers.items (length groups.now.tuples.items) aggregation.now v.items)) }
+{
+    let count = groups.tuples.len();
+    let numbers = groups.numbers.as_slice();
+    if let Kind::CountRows = aggregation.kind {
+        return Ok(Some(counted(alloc, count, numbers)?));
+    }
+    let Some(column) = columns.at(aggregation.column) else {
+        return Ok(None);
+    };
+    let accs = tallied(alloc, aggregation.kind, count, numbers, rows, column)?;
+    Ok(Some(accs))
+}
+
+/// The groups of these tuples, each with its accumulators.
+fn listed<H: KeyHash<Cell>>(
+    alloc: Global,
+    tuples: &[Tuple],
+    tallies: &[Vec<Acc<H>>],
+) -> Result<Vec<(Tuple, Accumulators<H>)>, AllocError>
+    requires { AllByRecursion (λ accs. length accs.items ≡ length tuples.now) tallies.now }
+    ensures { IfOk result (λ v. v.items ≡ groups_from tuples.now (map (λ accs. accs.items) tallies.now)) }
+{
+    let mut groups = Vec::with_capacity(alloc, tuples.len())?;
+    for at in 0..tuples.len() {
+        let accumulators = accumulators_at(alloc, tallies, at)?;
+        groups.push((tuples[at].clone()?, accumulators))?;
+    }
+    Ok(groups)
+}
+
+/// The accumulators of one group.
+fn accumulators_at<H: KeyHash<Cell>>(
+    alloc: Global,
+    tallies: &[Vec<Acc<H>>],
+    at: usize,
+) -> Result<Accumulators<H>, AllocError>
+    requires { AllByRecursion (λ accs. at < length accs.items) tallies.now }
+    ensures { IfOk result (λ a. a ≡ accs_at at (map (λ accs. accs.items) tallies.now)) }
+{
+    let mut all = Vec::with_capacity(alloc, tallies.len())?;
+    for accs in tallies {
+        all.push(accs[at].clone()?)?;
+    }
+    Ok(Accumulators::of(all))
+}

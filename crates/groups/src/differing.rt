@@ -1,0 +1,58 @@
+//! COUNT DISTINCT of all groups at once, from a column: an accumulator takes the cell of each code that its group has once,
+//! however many rows have it.
+ghost use Rattle.std.specs.Prelude.{◌≡◌, ◌<◌, ◌≤◌, IfOk, IfSome, length, map};
+ghost use Rattle.std.specs.List.{AllByRecursion};
+ghost use Rattle.aggs.specs.declared.acc.Kind.TheVariants as kind;
+ghost use Rattle.columns.specs.Columns.{decoded};
+ghost use Rattle.groups.specs.Differing.{cells_of_parts, groups_of_parts};
+ghost use Rattle.groups.specs.Numbered.{HasRows};
+ghost use Rattle.groups.specs.Parting.{AreWithinBoth, codes_at};
+ghost use Rattle.groups.specs.Tallying.{AreTallied, MayTally};
+
+use crate::parting::{Part, Parts, parted};
+use crate::tallying::empty_accs;
+use aggs::{Acc, Kind};
+use cells::{Cell, KeyHash};
+use columns::Column;
+use std::alloc::{AllocError, Global};
+
+/// Accumulators of COUNT DISTINCT of `count` groups, as of [`tallied`](crate::tallying::tallied). None where the pairs of a
+/// group and a code are too many for a table.
+pub fn tallied_different<H: KeyHash<Cell>>(
+    alloc: Global,
+    count: usize,
+    numbers: &[u32],
+    rows: &[u32],
+    column: &Column<H>,
+) -> Result<Option<Vec<Acc<H>>>, AllocError>
+    requires rows { HasRows column.now rows.now }
+    requires numbers { (length numbers.now ≡ length rows.now) × AllByRecursion (λ n. n < count) numbers.now }
+    requires may { MayTally kind.CountDistinct (decoded column.now.cells (codes_at column.now.by_row rows.now)) }
+    ensures { IfOk result (λ made. IfSome made (λ v. AreTallied kind.CountDistinct count numbers.now (decoded column.now.cells (codes_at column.now.by_row rows.now)) v.items)) }
+{
+    let codes = column.codes();
+    let cells = column.cells();
+    let Some(made) = parted(alloc, numbers, count, rows, codes, cells.len())? else {
+        return Ok(None);
+    };
+    let Parts { parts, .. } = made;
+    Ok(Some(tallied_parts(alloc, count, parts.as_slice(), cells)?))
+}
+
+/// Accumulators of COUNT DISTINCT of `count` groups, each stepped with the cells of the parts of its group.
+fn tallied_parts<H: KeyHash<Cell>>(
+    alloc: Global,
+    count: usize,
+    parts: &[Part],
+    cells: &[Cell],
+) -> Result<Vec<Acc<H>>, AllocError>
+    requires within { AreWithinBoth count (length cells.now) parts.now }
+    requires may { MayTally kind.CountDistinct (cells_of_parts cells.now parts.now) }
+    ensures { IfOk result (λ v. AreTallied kind.CountDistinct count (groups_of_parts parts.now) (cells_of_parts cells.now parts.now) v.items) }
+{
+    let mut accs = empty_accs(alloc, Kind::CountDistinct, count)?;
+    for part in parts {
+        accs[part.group as usize].step(alloc, &cells[part.code as usize])?;
+    }
+    Ok(accs)
+}

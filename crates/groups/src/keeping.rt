@@ -1,0 +1,166 @@
+//! The rows of a range of columns that WHERE keeps.
+ghost use Rattle.std.specs.Prelude.{◌≡◌, ◌+◌, ◌<◌, ◌≤◌, ◌^◌, List, IfOk, IfSome, length, map};
+ghost use Rattle.std.specs.List.{AllByRecursion, range_with_len};
+ghost use Rattle.cells.specs.Values.{RowValue};
+ghost use Rattle.columns.specs.Columns.{Hold};
+ghost use Rattle.groups.specs.Groups.{cell_of_place, kept};
+ghost use Rattle.groups.specs.Keeping.{HaveRange, KeptBy, cells_for, chosen, truth_for};
+ghost use Rattle.groups.specs.Numbered.{HaveRows, NumberAll, picked_rows};
+ghost use Rattle.groups.specs.Ranges.{rows_from};
+
+use crate::grouped::groups_of;
+use crate::set_places::place_in;
+use cells::{Cell, KeyHash, Tuple};
+use columns::Columns;
+use query::{Plan, Predicate, Truth, truth_by_columns};
+use std::alloc::{AllocError, Global};
+
+/// The places of those rows for which the plan's WHERE is true, of `count` rows from the place `first` on. None where a column
+/// that WHERE names was left out, or the groups of its columns are too many for a table. The predicate is asked once for the
+/// rows that have the same cells in these columns.
+pub fn kept_rows<H: KeyHash<Cell>>(
+    alloc: Global,
+    plan: &Plan,
+    columns: &Columns<H>,
+    first: usize,
+    count: usize,
+) -> Result<Option<Vec<u32>>, AllocError>
+    requires { HaveRange columns.now first count }
+    ensures within { IfOk result (λ made. IfSome made (λ v. AllByRecursion (λ i. i < first + count) v.items)) }
+    ensures few { IfOk result (λ made. IfSome made (λ v. length v.items ≤ count)) }
+    ensures kept { (all : List RowValue) → Hold all columns.now →
+        IfOk result (λ made. IfSome made (λ v. picked_rows all v.items ≡ kept plan.now.condition (rows_from first count all))) }
+{
+    let places = places(alloc, first, count)?;
+    let Some(predicate) = plan.condition() else {
+        return Ok(Some(places));
+    };
+    let Some(kept) = chosen_by(alloc, predicate, columns, places.as_slice())? else {
+        return Ok(None);
+    };
+    Ok(Some(kept))
+}
+
+/// Those of the places whose rows the predicate is true for. None as of [`kept_rows`].
+fn chosen_by<H: KeyHash<Cell>>(
+    alloc: Global,
+    predicate: &Predicate<usize>,
+    columns: &Columns<H>,
+    places: &[u32],
+) -> Result<Option<Vec<u32>>, AllocError>
+    requires { HaveRows columns.now places.now }
+    ensures { (all : List RowValue) → Hold all columns.now →
+        IfOk result (λ made. IfSome made (λ v. KeptBy predicate.now all places.now v.items)) }
+{
+    truth_by_columns();
+    let named = predicate.columns(alloc)?;
+    let Some(width) = width_of(columns, named.as_slice()) else {
+        return Ok(None);
+    };
+    let Some(groups) = groups_of(alloc, columns, named.as_slice(), places)? else {
+        return Ok(None);
+    };
+    let truths = truths(
+        alloc,
+        predicate,
+        named.as_slice(),
+        width,
+        groups.tuples.as_slice(),
+    )?;
+    let kept = chosen(alloc, places, groups.numbers.as_slice(), truths.as_slice())?;
+    Ok(Some(kept))
+}
+
+/// The places of `count` rows from the place `first` on.
+fn places(alloc: Global, first: usize, count: usize) -> Result<Vec<u32>, AllocError>
+    requires { first + count ≤ 2 ^ 32 }
+    ensures { IfOk result (λ v. v.items ≡ range_with_len first count) }
+{
+    let mut places = Vec::with_capacity(alloc, count)?;
+    for at in 0..count {
+        places.push((first + at) as u32)?;
+    }
+    Ok(places)
+}
+
+/// How many cells a list has that has one for each of these columns. None where there is no such column.
+fn width_of<H: KeyHash<Cell>>(columns: &Columns<H>, named: &[usize]) -> Option<usize>
+    ensures { IfSome result (λ width. AllByRecursion (λ k. k < width) named.now) }
+{
+    let width = columns.places();
+    for place in named {
+        if *place >= width {
+            return None;
+        }
+    }
+    Some(width)
+}
+
+/// Whether the predicate is true for rows of each of these tuples, whose cells stand in the columns that it names.
+fn truths(
+    alloc: Global,
+    predicate: &Predicate<usize>,
+    named: &[usize],
+    width: usize,
+    tuples: &[Tuple],
+) -> Result<Vec<bool>, AllocError>
+    ensures { IfOk result (λ v. v.items ≡ map (truth_for predicate.now named.now width) tuples.now) }
+{
+    let mut truths = Vec::with_capacity(alloc, tuples.len())?;
+    for tuple in tuples {
+        let cells = cells_for(alloc, named, width, tuple)?;
+        let truth = predicate.truth_of_cells(cells.as_slice());
+        truths.push(matches!(truth, Truth::True))?;
+    }
+    Ok(truths)
+}
+
+/// The cells of a row with this tuple in the named columns, and NULL in all others.
+fn cells_for(
+    alloc: Global,
+    named: &[usize],
+    width: usize,
+    tuple: &Tuple,
+) -> Result<Vec<Cell>, AllocError>
+    ensures { IfOk result (λ v. v.items ≡ cells_for named.now width tuple.now) }
+{
+    let mut cells = Vec::with_capacity(alloc, width)?;
+    for place in 0..width {
+        let cell = cell_in(tuple.cells(), place_in(named, place))?;
+        cells.push(cell)?;
+    }
+    Ok(cells)
+}
+
+/// A copy of the tuple's cell at a place, and NULL at none.
+fn cell_in(tuple: &[Cell], place: Option<usize>) -> Result<Cell, AllocError>
+    ensures { IfOk result (λ cell. cell ≡ cell_of_place tuple.now place) }
+{
+    match place {
+        None => Ok(Cell::Null),
+        Some(at) => match tuple.get(at) {
+            None => Ok(Cell::Null),
+            Some(cell) => cell.clone(),
+        },
+    }
+}
+
+/// Those of the places whose numbers are marked.
+fn chosen(
+    alloc: Global,
+    places: &[u32],
+    numbers: &[u32],
+    marks: &[bool],
+) -> Result<Vec<u32>, AllocError>
+    requires one { length numbers.now ≡ length places.now }
+    requires within { AllByRecursion (λ n. n < length marks.now) numbers.now }
+    ensures { IfOk result (λ v. v.items ≡ chosen marks.now numbers.now places.now) }
+{
+    let mut kept = Vec::with_capacity(alloc, places.len())?;
+    for at in 0..places.len() {
+        if marks[numbers[at] as usize] {
+            kept.push(places[at])?;
+        }
+    }
+    Ok(kept)
+}

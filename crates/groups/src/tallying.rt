@@ -1,0 +1,95 @@
+//! Accumulators of all groups at once, from a column.
+ghost use Rattle.std.specs.Prelude.{◌≡◌, ◌<◌, ◌≤◌, List, [], IfOk, length};
+ghost use Rattle.std.specs.List.{AllByRecursion};
+ghost use Rattle.aggs.specs.Room.{cell_limit};
+ghost use Rattle.aggs.specs.declared.acc.Kind.TheVariants as kind;
+ghost use Rattle.cells.specs.declared.cell.Cell.{Cell};
+ghost use Rattle.columns.specs.Columns.{decoded};
+ghost use Rattle.groups.specs.Numbered.{HasRows};
+ghost use Rattle.groups.specs.Parting.{codes_at};
+ghost use Rattle.groups.specs.Tallying.{AreTallied, MayTally};
+
+use crate::differing::tallied_different;
+use aggs::{Acc, Kind};
+use cells::{Cell, KeyHash};
+use columns::Column;
+use std::alloc::{AllocError, Global};
+
+/// Accumulators of `count` groups, each stepped with the cells of its rows. `rows` has the places of the rows in the column,
+/// and `numbers` the numbers of their groups.
+pub fn tallied<H: KeyHash<Cell>>(
+    alloc: Global,
+    kind: Kind,
+    count: usize,
+    numbers: &[u32],
+    rows: &[u32],
+    column: &Column<H>,
+) -> Result<Vec<Acc<H>>, AllocError>
+    requires rows { HasRows column.now rows.now }
+    requires numbers { (length numbers.now ≡ length rows.now) × AllByRecursion (λ n. n < count) numbers.now }
+    requires may { MayTally kind (decoded column.now.cells (codes_at column.now.by_row rows.now)) }
+    ensures { IfOk result (λ v. AreTallied kind count numbers.now (decoded column.now.cells (codes_at column.now.by_row rows.now)) v.items) }
+{
+    if let Kind::CountDistinct = kind {
+        if let Some(accs) = tallied_different(alloc, count, numbers, rows, column)? {
+            return Ok(accs);
+        }
+    }
+    stepped(alloc, kind, count, numbers, rows, column)
+}
+
+/// The same, where each accumulator is stepped with each row of its group.
+fn stepped<H: KeyHash<Cell>>(
+    alloc: Global,
+    kind: Kind,
+    count: usize,
+    numbers: &[u32],
+    rows: &[u32],
+    column: &Column<H>,
+) -> Result<Vec<Acc<H>>, AllocError>
+    requires rows { HasRows column.now rows.now }
+    requires numbers { (length numbers.now ≡ length rows.now) × AllByRecursion (λ n. n < count) numbers.now }
+    requires may { MayTally kind (decoded column.now.cells (codes_at column.now.by_row rows.now)) }
+    ensures { IfOk result (λ v. AreTallied kind count numbers.now (decoded column.now.cells (codes_at column.now.by_row rows.now)) v.items) }
+{
+    let codes = column.codes();
+    let cells = column.cells();
+    let mut accs = empty_accs(alloc, kind, count)?;
+    for at in 0..rows.len() {
+        let cell = &cells[codes[rows[at] as usize] as usize];
+        accs[numbers[at] as usize].step(alloc, cell)?;
+    }
+    Ok(accs)
+}
+
+/// Accumulators of `count` groups that count their rows, of whatever cells.
+pub fn counted<H: KeyHash<Cell>>(
+    alloc: Global,
+    count: usize,
+    numbers: &[u32],
+) -> Result<Vec<Acc<H>>, AllocError>
+    requires numbers { AllByRecursion (λ n. n < count) numbers.now }
+    requires few { length numbers.now ≤ cell_limit }
+    ensures { (cells : List Cell) → length cells ≡ length numbers.now → IfOk result (λ v. AreTallied kind.CountRows count numbers.now cells v.items) }
+{
+    let mut accs = empty_accs(alloc, Kind::CountRows, count)?;
+    for number in numbers {
+        accs[*number as usize].step(alloc, &Cell::Null)?;
+    }
+    Ok(accs)
+}
+
+/// Accumulators of no cells.
+pub(crate) fn empty_accs<H: KeyHash<Cell>>(
+    alloc: Global,
+    kind: Kind,
+    count: usize,
+) -> Result<Vec<Acc<H>>, AllocError>
+    ensures { IfOk result (λ v. AreTallied kind count [] [] v.items) }
+{
+    let mut accs = Vec::with_capacity(alloc, count)?;
+    for _number in 0..count {
+        accs.push(Acc::empty(kind))?;
+    }
+    Ok(accs)
+}
