@@ -11,6 +11,8 @@ use Rattle.atomic_table.proofs.send_lease.SendLease.TheSendSync as TheLease
 use Rattle.atomic_table.proofs.shared.Shared.TheSendSync as TheShared
 use Rattle.atomic_table.specs.contracts.badge.Badge as Badge
 use Rattle.atomic_table.specs.contracts.owned.Table as Table
+use Rattle.board.proofs.beside.Beside.TheSendSync as TheBeside
+use Rattle.board.specs.contracts.beside.Beside as Beside
 use Rattle.board.specs.contracts.law.About as About
 use Rattle.board.specs.contracts.law.Law as Law
 use Rattle.board.specs.contracts.law.LawTableRuleOptionSnapshotViewAbout.TheImpl as Rule
@@ -99,8 +101,14 @@ module _ (H : RattleType) (cells : KeyHash.Ghosts H.Denot Cell) (s : IsSend H) (
   pub root_send : IsSend (Root.the_field H cells).row
   root_send = let send = rows_send in let sync = rows_sync in search (sendable, crosses) depth 40
 
+  beside_send : IsSend (Beside.the_row H cells)
+  beside_send = TheBeside.the_send H cells
+
+  beside_sync : IsSync (Beside.the_row H cells)
+  beside_sync = TheBeside.the_sync H cells
+
   pub snapshot_send : IsSend (Snapshot.the_field H cells).row
-  snapshot_send = let root = root_send in let schema = schema_send in let shared = schema_sync in search (sendable, crosses) depth 40
+  snapshot_send = let root = root_send in let sent = beside_send in let shared = beside_sync in search (sendable, crosses) depth 40
 
   abbrev slot : RattleType
   slot = OptionType.the_row (Snapshot.the_row H cells)

@@ -59,7 +59,7 @@ impl<H: KeyHash<Cell>> Keeper<H> {
         ensures refused { IfErr result (λ e. e ≡ Refused.OutOfMemory) }
     {
         let draft = Root::empty(alloc);
-        let last = Snapshot::first(alloc, Arc::new(alloc, schema)?);
+        let last = Snapshot::first(alloc, Arc::new(alloc, schema)?)?;
         let writer = Writer::new(alloc, places as usize, last.share_schema()?)?;
         Ok(Keeper {
             alloc,
@@ -138,7 +138,7 @@ impl<H: KeyHash<Cell>> Keeper<H> {
         ensures refused { IfErr result (λ e. e ≡ Refused.OutOfMemory) }
         ensures unchanged { OnErr result (self.new ≡ self.old) }
     {
-        let next = self.last.next(self.draft.share()?)?;
+        let next = self.last.next(self.alloc, self.draft.share()?)?;
         let copies = self.writer.copies(self.alloc, &next)?;
         self.last = self.writer.publish(rt, next, copies);
         Ok(self.tell())

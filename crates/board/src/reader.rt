@@ -36,7 +36,7 @@ fn copy_of<H: KeyHash<Cell>>(
         Some(snapshot) => snapshot.share(),
         None => {
             let schema = Arc::try_clone(schema)?;
-            Ok(Snapshot::first(alloc, schema))
+            Snapshot::first(alloc, schema)
         }
     }
 }
