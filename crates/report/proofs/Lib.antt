@@ -1,3 +1,4 @@
+pub mod ByColumnsLemmas
 pub mod CrossingLemmas
 pub mod PiecesLemmas
 pub mod TableRowsLemmas

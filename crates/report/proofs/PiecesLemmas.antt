@@ -64,8 +64,10 @@ module _ (rows : Rows) (es : List (Cell × RowValue)) (is : map_of cell_cmp es �
   hold_rows hash pieces parts joined =
       let same : rows_of es ≡ rows_in pieces = ap rows_of (sym joined) ∙ rows_joined pieces in
       record {
-        each = λ rs left alike. rw same at (entries_each rs left alike);
-        fit = λ t are. rw same at (entries_fit t are);
-        count = ap length (sym same) ∙ length-map es (λ e. e.1) ∙ sym es_once ∙ ap (λ (m : Rows). len m) is;
+        all = record {
+          each = λ rs left alike. rw same at (entries_each rs left alike);
+          fit = λ t are. rw same at (entries_fit t are);
+          count = ap length (sym same) ∙ length-map es (λ e. e.1) ∙ sym es_once ∙ ap (λ (m : Rows). len m) is;
+        };
         few = few_pieces hash es pieces parts;
       }

@@ -3,6 +3,7 @@ pub mod Laws
 pub mod Limits
 pub mod Pieces
 pub mod Reports
+pub mod Standing
 pub mod Taken
 pub mod Tapes
 pub mod Waiting

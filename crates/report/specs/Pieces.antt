@@ -1,26 +1,19 @@
 -- The rows that pieces of a table hold.
 use Rattle.std.specs.Prelude.{◌≡◌, ◌≤◌, ℕ, List, length}
-use Rattle.std.specs.FinMap.{len}
-use Rattle.std.specs.List.{AllByRecursion}
-use Rattle.std.specs.List.Sorted.{IsPermutation}
 use Rattle.std.specs.Map.{keys_of}
+use Rattle.board.specs.Beside.{IsListOf}
 use Rattle.cells.specs.CellOrder.{cell_cmp}
-use Rattle.cells.specs.Tables.{AreRowsOf, Rows}
-use Rattle.cells.specs.Fitting.{IsRowOf}
-use Rattle.cells.specs.Tables.{table}
-use Rattle.cells.specs.Updates.{AreLeft}
-use Rattle.cells.specs.Values.{RowValue, Table}
+use Rattle.cells.specs.Tables.{Rows}
+use Rattle.cells.specs.Values.{RowValue}
 use Rattle.cells.specs.declared.cell.Cell.{Cell}
 use Rattle.crew.specs.Gathering.{PieceValue, rows_in}
 use Rattle.trie.specs.Cuts.{cut}
 use Rattle.trie.specs.Maps.{RiseByHash, map_of}
 use Rattle.trie.specs.declared.cutting.Cutting.{Cutting}
 
--- the pieces have each row of the map once, and each has one at least
+-- the pieces have each row of the map once, and each piece has one at least
 pub record HoldRows (rows : Rows) (pieces : List PieceValue) : Type 0 where
-  pub each : (rs : List RowValue) → AreLeft rs → rows ≡ table rs → IsPermutation (rows_in pieces) rs
-  pub fit : (t : Table) → AreRowsOf t rows → AllByRecursion (IsRowOf t) (rows_in pieces)
-  pub count : length (rows_in pieces) ≡ len rows
+  pub all : IsListOf rows (rows_in pieces)
   pub few : length pieces ≤ length (rows_in pieces)
 
 -- the pieces are those that the cutting makes of the map's entries, in the order of the digits of their hashes

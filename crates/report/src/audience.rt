@@ -147,6 +147,7 @@ fn start<
     let alloc = starter.alloc;
     let workers = starter.workers;
     let cutting = starter.cutting;
+    let columns_from = starter.columns_from;
     let gate = starter.gate;
     let job = move || -> Result<Watcher<H>, Refused>
         requires { IsPlanOf viewer.schema plan × (1 ≤ workers) × (workers ≤ worker_limit) }
@@ -158,6 +159,7 @@ fn start<
             alloc,
             workers,
             cutting,
+            columns_from,
             gate,
         };
         Watcher::new(alloc, viewer, plan).watch(&answering, number, count)

@@ -5,20 +5,22 @@
 mod answering;
 mod audience;
 mod backlog;
+mod by_columns;
 mod failing;
 mod limits;
 mod out;
+mod pieces;
 mod pour;
 mod printing;
 mod starting;
 mod tape;
 mod watching;
 
-pub use answering::answer;
+pub use answering::{answer, answer_from};
 pub use audience::Audience;
 pub use backlog::Backlog;
 pub use failing::Failing;
-pub use limits::{MAX_REPORTS, MAX_WORKERS};
+pub use limits::{COLUMNS_FROM, MAX_REPORTS, MAX_WORKERS};
 pub use out::{Out, OutFault, write_whole};
 pub use pour::Pour;
 pub use printing::text;

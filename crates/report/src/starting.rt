@@ -4,7 +4,7 @@ ghost use Rattle.query.specs.Plans.{IsPlanOf};
 ghost use Rattle.report.specs.Limits.{worker_limit};
 ghost use Rattle.report.specs.Waiting.{IsReportText, IsUnmade};
 
-use crate::answering::answer;
+use crate::answering::answer_from;
 use board::{Snapshot, viewers_cross_threads};
 use cells::{Cell, KeyHash, Refused, Tuple};
 use crew::Gate;
@@ -30,8 +30,9 @@ impl<H: KeyHash<Cell>> Promise<Result<Vec<u8>, Refused>> for AnswerOf<H> {
         IfOk result (λ text. IsReportText promise.edition.value.rows promise.plan.value text.items) × IfErr result IsUnmade };
 }
 
-/// What each report is started with: where its threads come from, how many workers answer it and how the rows are cut
-/// into pieces, as of [`answer`](crate::answer), and who is told of the pieces.
+/// What each report is started with: where its threads come from, how many workers answer it, how the rows are cut
+/// into pieces and from how many rows on an edition has columns, as of [`answer_from`](crate::answer_from), and who is told of
+/// the pieces.
 #[derive(Drop)]
 pub struct Starter<'a, 's, 'e, R, G> {
     pub rt: &'s R,
@@ -39,6 +40,7 @@ pub struct Starter<'a, 's, 'e, R, G> {
     pub scope: &'a Scope<'s, &'e ()>,
     pub workers: u64,
     pub cutting: Cutting,
+    pub columns_from: u64,
     pub gate: &'s G,
 }
 
@@ -65,12 +67,24 @@ impl<'a, 's, 'e: 's, R: Threads + Wait + Sync, G: Gate> Starter<'a, 's, 'e, R, G
         let alloc = self.alloc;
         let workers = self.workers;
         let cutting = self.cutting;
+        let columns_from = self.columns_from;
         let gate = self.gate;
         let job = move || -> Result<Vec<u8>, Refused>
             requires { IsPlanOf snapshot.schema plan × (1 ≤ workers) × (workers ≤ worker_limit) }
             ensures answers { IfOk result (λ text. IsReportText snapshot.rows plan text.items) }
             ensures refused { IfErr result IsUnmade }
-        { answer(rt, alloc, &snapshot, &plan, workers, &cutting, gate) };
+        {
+            answer_from(
+                rt,
+                alloc,
+                &snapshot,
+                &plan,
+                workers,
+                &cutting,
+                columns_from,
+                gate,
+            )
+        };
         match self.scope.spawn_with(promise, job) {
             Ok(handle) => Ok(handle),
             Err(_) => Err(Refused::NoWorker),

@@ -7,7 +7,7 @@ ghost use Rattle.report.specs.Limits.{worker_limit};
 ghost use Rattle.report.specs.Waiting.{IsReportText, IsUnmade};
 ghost use Rattle.report.specs.Watching.{GoUpTo, HasWatched, IsLastEdition, IsOf, IsShot, up_to as up_to_last};
 
-use crate::answering::answer;
+use crate::answering::answer_from;
 use board::{Keeper, Snapshot, Viewer};
 use cells::{Cell, KeyHash, Refused, Tuple};
 use crew::Gate;
@@ -58,13 +58,14 @@ impl<H: KeyHash<Cell>> Model for Watcher<H> {
     ghost invariant = { λ w. IsPlanOf w.viewer.schema w.plan × AreShots w.viewer.history w.plan 0 w.shots.items };
 }
 
-/// What each report of a viewer is answered with, as of [`answer`](crate::answer).
+/// What each report of a viewer is answered with, as of [`answer_from`](crate::answer_from).
 #[derive(Drop)]
 pub struct Answering<'a, R, G> {
     pub rt: &'a R,
     pub alloc: Global,
     pub workers: u64,
     pub cutting: Cutting,
+    pub columns_from: u64,
     pub gate: &'a G,
 }
 
@@ -81,13 +82,14 @@ impl<'a, R: Threads + Wait, G: Gate> Answering<'a, R, G> {
         ensures text { IfOk result (λ shot. IsReportText snapshot.now.rows plan.now shot.text) }
         ensures refused { IfErr result IsUnmade }
     {
-        let text = answer(
+        let text = answer_from(
             self.rt,
             self.alloc,
             snapshot,
             plan,
             self.workers,
             &self.cutting,
+            self.columns_from,
             self.gate,
         )?;
         Ok(Shot {

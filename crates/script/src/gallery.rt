@@ -183,6 +183,7 @@ impl<H: KeyHash<Cell> + KeyHash<Tuple> + Send + Sync> Gallery<H> {
             alloc: setup.alloc,
             workers: setup.how.workers(),
             cutting: setup.how.cutting(),
+            columns_from: setup.how.columns_from(),
             gate: setup.gate,
         };
         let mut number = 0u64;

@@ -281,6 +281,7 @@ fn run_lines<
                 scope,
                 workers: setup.how.workers(),
                 cutting: setup.how.cutting(),
+                columns_from: setup.how.columns_from(),
                 gate: setup.gate,
             };
             let mut desk: Option<Keeper<H>> = None;

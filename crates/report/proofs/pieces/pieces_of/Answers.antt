@@ -3,7 +3,7 @@ use Rattle.std.proofs.lemmas.Result.{IfOk-weaker}
 use Rattle.std.specs.List.{AllByRecursion, flat_map}
 use Rattle.trie.specs.Cuts.{IsPart}
 use Rattle.report.proofs.PiecesLemmas.{hold_rows}
-use Rattle.report.proofs.answering.pieces_of.Goals as goal
+use Rattle.report.proofs.pieces.pieces_of.Goals as goal
 
 pub returns-clause-rows : goal.returns-clause-rows
 returns-clause-rows g c =
