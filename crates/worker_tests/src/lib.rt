@@ -1,5 +1,5 @@
-//! Tests of `board`, `crew`, `loader` and `report` by their public items: threads at once, viewers, gates, writers, and what
-//! a refusal of memory gives.
+//! Tests of `board`, `crew`, `loader`, `report` and `shelf` by their public items: threads at once, viewers, gates, writers,
+//! and what a refusal of memory gives.
 #![tactic(auto)]
 
 #[cfg(test)]
@@ -12,3 +12,5 @@ mod of_crew;
 mod of_loader;
 #[cfg(test)]
 mod of_report;
+#[cfg(test)]
+mod of_shelf;

@@ -96,18 +96,19 @@ fn publish_beside<R: Threads + Wait>(
         published: AtomicU64::new(0),
     };
     let flags = &flags;
-    thread::join(
+    let ((viewer, first), told) = thread::join(
         rt,
-        move || -> Watched
-            ensures { result.viewer.board ≡ viewer.board }
+        move || -> (Viewer<Plain>, Option<u64>)
+            ensures { result.0.board ≡ viewer.board }
         {
             let first = first_seen(&mut viewer, flags);
-            Watched { viewer, first }
+            (viewer, first)
         },
         move || -> Result<Told, Refused>
             ensures { IfOk result (λ t. t.board ≡ board keeper) }
         { publish_once_seen(rt, alloc, keeper, flags) },
-    )
+    );
+    (Watched { viewer, first }, told)
 }
 
 /// What a viewer sees once it learnt what was told.
