@@ -5,6 +5,8 @@
 #[cfg(test)]
 mod beside;
 #[cfg(test)]
+mod by_columns;
+#[cfg(test)]
 mod faults;
 #[cfg(test)]
 mod gates;
