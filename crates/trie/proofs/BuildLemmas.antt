@@ -344,14 +344,11 @@ module _ {K V : Type 0} (hash : K → ℕ) (cmp : K → K → Ordering) where
       entries_in place ≡ with_pairs (digit_order hash cmp) ps []
   root_entries ps place made = (made.at [] refl (all_below ps)).entries_are
 
-  pub root_placed : (ps : List (K × V)) (place : Option (Node K V)) → IsMadeOf hash cmp 0 ps place → IsPlace hash cmp place []
-  root_placed ps place made = (made.at [] refl (all_below ps)).placed
-
   pub root_trie : (ps : List (K × V)) (place : Option (Node K V)) → IsMadeOf hash cmp 0 ps place → length ps < 2 ^ 64 →
       IsTrie hash cmp place
   root_trie ps place made fits =
       let most = with_pairs-most (digit_order hash cmp) ps [] in
       record {
-        placed = root_placed ps place made;
+        placed = (made.at [] refl (all_below ps)).placed;
         fits = omega (arith, ap length (root_entries ps place made), most, fits);
       }

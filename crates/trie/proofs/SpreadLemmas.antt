@@ -1,5 +1,5 @@
 -- Pairs that are spread over a list for each digit.
-use Rattle.std.proofs.Common.{◌≡◌, ◌==◌, ℕ, ◌+◌, ◌<◌, ◌≤◌, Bool, true, false, Vec, List, [], ◌∷◌, ◌++◌, length, take, get_or, replicate, set, zero, suc, inl, inr, refl, sym, ap, ◌∙◌, add-one, arith, length-append}
+use Rattle.std.proofs.Common.{◌≡◌, ◌==◌, ℕ, ◌+◌, ◌<◌, Bool, true, false, Vec, List, [], ◌∷◌, ◌++◌, length, take, get_or, replicate, set, zero, suc, inl, inr, refl, sym, ap, ◌∙◌, add-one, arith, length-append}
 use Rattle.std.specs.List.{flat_map}
 use Rattle.std.specs.declared.alloc.Global.{Global}
 use Rattle.std.proofs.Math.ListN.{length-set}
@@ -7,11 +7,9 @@ use Rattle.std.proofs.Math.Seq.{take-suc}
 use Rattle.std.proofs.lemmas.Bool.{cases_Bool, eq-eqb, eqb-true}
 use Rattle.std.proofs.lemmas.List.{append-nil, get_or-map, length-map, map-append, map-set, replicate-append-replicate, take_all, take_more_set}
 use Rattle.std.proofs.lemmas.List.Elements.{filter-append}
-use Rattle.std.proofs.lemmas.List.Folds.{length-flat_map-take}
-use Rattle.trie.specs.Building.{AreSpread, CountsEach, lists, with_digit}
-use Rattle.trie.specs.Digits.{digit, digit_count, place_count}
+use Rattle.trie.specs.Building.{AreSpread, lists, with_digit}
+use Rattle.trie.specs.Digits.{digit, place_count}
 use Rattle.trie.specs.declared.build.Hashed.{Hashed}
-use Rattle.trie.proofs.CountLemmas.{counts_branch, counts_more, counts_part, taken_more}
 use Rattle.trie.proofs.ListsLemmas.{flat_map-around, flat_map-set}
 use Rattle.trie.proofs.MeetLemmas.{read_other, read_written}
 
@@ -118,33 +116,3 @@ module _ {K V : Type 0} where
         let long = length-map parts (λ part. part.items) in
         read_is ∙ ap (λ part. part.items) is ∙ sym (get_or-map (λ part. part.items) parts k part [] (omega (arith, within, long)))
         ∙ spread.each k lt
-
-    module _ (read : List (Hashed K V)) (is : read ≡ with_digit depth k list) (old mid new : ℕ)
-        (done : CountsEach (depth + 1) (length (flat_map (λ part. part) (take k (lists parts)))) old mid)
-        (more : CountsEach (depth + 1) (length read) mid new) where
-      same : length (get_or (lists parts) k []) ≡ length read
-      same = ap length (spread.each k lt ∙ sym is)
-
-      both : CountsEach (depth + 1) (length (flat_map (λ part. part) (take k (lists parts))) + length read) old new
-      both = counts_more (depth + 1) _ _ _ _ old mid new done more
-
-      -- what is counted with one list more
-      pub counted_more : CountsEach (depth + 1) (length (flat_map (λ part. part) (take (k + 1) (lists parts)))) old new
-      counted_more = rw (taken_more (λ part. part) (lists parts) k [] within, same) both
-
-      -- and where it ends there
-      pub counted_end : CountsEach depth (length list) old new
-      counted_end =
-          let some = length-flat_map-take (λ part. part) (lists parts) k [] within in
-          let least : length (flat_map (λ part. part) (take k (lists parts))) + length read ≤ length list =
-          omega (arith, some, same, spread.total) in
-          counts_part depth _ _ _ _ old new both least least
-
-  -- what is counted with all lists, and one node more
-  pub counted_all : (depth : ℕ) (list : List (Hashed K V)) (parts : List (Vec (Hashed K V) Global)) → AreSpread depth list (lists parts) →
-      depth < digit_count → 0 < length list → (old mid new k : ℕ) → k ≡ place_count →
-      CountsEach (depth + 1) (length (flat_map (λ part. part) (take k (lists parts)))) old mid → new ≤ mid + 1 → mid ≤ new →
-      CountsEach depth (length list) old new
-  counted_all depth list parts spread low some old mid new k all done one grows =
-      let whole : take k (lists parts) ≡ lists parts = take_all k (lists parts) (omega (arith, all, spread.wide)) in
-      counts_branch depth _ _ old mid new low some some (rw (whole, spread.total) at done) one grows

