@@ -11,7 +11,7 @@ use crate::digits::{HashPrefix, PLACES};
 use crate::lay::{blended_pair, lay_at};
 use crate::meeting::{Meeting, how_they_meet};
 use crate::node::{
-    Inner, Place, Seen, Unmade, branch_of, child_at, either_has, grown, make, room_for_both, shared,
+    Inner, Place, Seen, Unmade, branch_of, child_at, either_has, grown, make, room_for, shared,
 };
 use crate::ticks::Ticks;
 use cells::KeyHash;
@@ -144,7 +144,7 @@ pub fn merge_at<K: Ord + Clone + Drop, V: Drop, H: KeyHash<K>, B: Blend<V>>(
             second,
             more,
         } => {
-            let mut made = room_for_both(alloc, first, second)?;
+            let mut made = room_for(alloc, first | second)?;
             for digit in 0..PLACES {
                 if !either_has(first, second, digit) {
                     continue;

@@ -1,6 +1,6 @@
 //! Nodes: what stands below a prefix of digits.
 ghost use Rattle.std.specs.Prelude.{◌≡◌, ◌+◌, ◌-◌, ◌<◌, ◌≤◌, ◌^◌, [], false, None, Some, IfOk, IsTrue, OnErr, OnOk, length, set};
-ghost use Rattle.std.specs.Prelude.{◌⊎◌, bit_or, count_ones, get_or, slice_index_or, sum_by, vec_capacity};
+ghost use Rattle.std.specs.Prelude.{◌⊎◌, count_ones, get_or, slice_index_or, sum_by, vec_capacity};
 ghost use Rattle.std.specs.List.{flat_map};
 ghost use Rattle.trie.specs.Counts.{next_count};
 ghost use Rattle.trie.specs.Dense.{below_bit, bit_at, IsDense, places_in};
@@ -239,16 +239,15 @@ pub fn written<K: Drop, V: Drop>(
     Ok(Children { bitmap, children })
 }
 
-/// No children yet, with room for those of two branches.
-pub fn room_for_both<K: Drop, V: Drop>(
+/// No children yet, with room for one of each digit of a bitmap.
+pub fn room_for<K: Drop, V: Drop>(
     alloc: Global,
-    first: Bitmap,
-    second: Bitmap,
+    bitmap: Bitmap,
 ) -> Result<Children<K, V>, AllocError>
     ensures none { IfOk result (λ made. (made.bitmap ≡ 0) × (made.children.items ≡ [])) }
-    ensures room { IfOk result (λ made. vec_capacity made.children ≡ count_ones (bit_or first second)) }
+    ensures room { IfOk result (λ made. vec_capacity made.children ≡ count_ones bitmap) }
 {
-    let children = Vec::with_capacity(alloc, (first | second).count_ones() as usize)?;
+    let children = Vec::with_capacity(alloc, bitmap.count_ones() as usize)?;
     Ok(Children {
         bitmap: 0,
         children,

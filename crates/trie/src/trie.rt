@@ -13,7 +13,7 @@ ghost use Rattle.trie.specs.Shapes.{shape_of};
 ghost use Rattle.trie.specs.Walks.{MayTakeAll, TakesAll};
 
 use crate::blend::Blend;
-use crate::build::{in_digit_order, no_lists, place_of, with_hashes, with_owners};
+use crate::build::{in_digit_order, place_of, with_hashes, with_owners};
 use crate::cutting::Cutting;
 use crate::digits::HashPrefix;
 use crate::entries::with_entries;
@@ -140,11 +140,9 @@ impl<K: Ord + Drop, V: Drop, H: KeyHash<K>> Trie<K, V, H> {
     pub fn from_pairs(alloc: Global, pairs: Vec<(K, V)>) -> Result<Self, AllocError>
         ensures map { IfOk result (λ t. t ≡ with_pairs (digit_order H.hash_of K.cmp) pairs.items []) }
     {
-        let sorted = in_digit_order::<K, V, H>(pairs)?;
+        let sorted = in_digit_order(with_hashes::<K, V, H>(alloc, pairs)?)?;
         let owned = with_owners(alloc, sorted)?;
-        let hashed = with_hashes::<K, V, H>(alloc, owned.as_slice())?;
-        let mut lists = no_lists(alloc)?;
-        let root = place_of::<K, V, H>(alloc, hashed.as_slice(), 0, &mut lists)?;
+        let root = place_of::<K, V, H>(alloc, owned.as_slice(), 0)?;
         Ok(Trie {
             root,
             hash: PhantomData,
