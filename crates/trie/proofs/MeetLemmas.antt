@@ -307,7 +307,7 @@ module _ {K V : Type 0} (hash : K → ℕ) (cmp : K → K → Ordering) (h : Hav
                             (both.below prefix a.one_hash b.one_hash),
                       );
                       entries = λ q s. rw (held, a.entries_are, b.entries_are, entry_at-order hash cmp h q (pairs_of pairs.items), entry_at-order hash cmp h q (pairs_of es.items), entry_at-order hash cmp h q (pairs_of fs.items))
-                          (both.merged.entries q);
+                          (both.entries q);
                       first_in = omega (arith, ap length held, ap length a.entries_are, both.first);
                       most = omega (arith, ap length held, ap length a.entries_are, ap length b.entries_are, both.most);
                     });

@@ -8,7 +8,7 @@ ghost use Rattle.trie.specs.Digits.{digit_count, digit_order};
 ghost use Rattle.trie.specs.Entries.{value_at, with_pair, with_pairs, without_key};
 ghost use Rattle.trie.specs.Holding.{lent};
 ghost use Rattle.trie.specs.Maps.{RiseByHash};
-ghost use Rattle.trie.specs.Merging.{CanBlend, ClonesEqual, HasEntries, IsMerged};
+ghost use Rattle.trie.specs.Merging.{CanBlend, ClonesEqual, IsMerged};
 ghost use Rattle.trie.specs.Shapes.{shape_of};
 ghost use Rattle.trie.specs.Walks.{MayTakeAll, TakesAll};
 
@@ -217,7 +217,6 @@ impl<K: Ord + Clone + Drop, V: Drop, H: KeyHash<K>> Trie<K, V, H> {
         requires clones { ClonesEqual K.is_clone }
         requires can { CanBlend (digit_order H.hash_of K.cmp) (B.asks blend.now) self.now other.now }
         ensures map { IfOk result (λ t. IsMerged (digit_order H.hash_of K.cmp) (B.blend_of blend.now) self.now other.now t) }
-        ensures entries { IfOk result (λ t. HasEntries (digit_order H.hash_of K.cmp) (B.blend_of blend.now) self.now other.now t) }
         ensures counted { ticks.new ≤ ticks.old + (digit_count + 1) * min (length self.now) (length other.now) }
         ensures grows { ticks.old ≤ ticks.new }
     {
