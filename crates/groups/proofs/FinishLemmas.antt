@@ -20,7 +20,7 @@ use Rattle.groups.specs.Accumulators.{accs_of, aggregations_of, group}
 use Rattle.groups.specs.Finishing.{row_by, rows_by}
 use Rattle.groups.specs.Groups.{cell_at, column_of, item_value, members, rows_over, set_rows, shown}
 use Rattle.groups.specs.Partials.{Stands, StandsAt, StandsEach}
-use Rattle.groups.proofs.BagLemmas.{all_from, all_in_order}
+use Rattle.groups.proofs.TuplesLemmas.{all_from, all_in_order}
 use Rattle.groups.proofs.OrderLemmas.{rising_differ, value_by_tuple}
 use Rattle.groups.proofs.SetTuplesLemmas.{all_tuples, group_is, group_is_some, has_group}
 use Rattle.query.specs.Plans.{PlanTree}

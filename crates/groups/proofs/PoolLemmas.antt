@@ -53,7 +53,7 @@ module _ {H : Type 0} where
 
   pub counted_at : (aggregations : List Aggregation) (pool : List (SetBag H)) (set : List ℕ) (groups : List (Group H)) → (counted : AreCounted aggregations pool) →
       ((rows : List RowValue) → IsPool aggregations rows pool → Covers aggregations set rows groups) → IsCounted aggregations set groups
-  counted_at aggregations pool set groups counted covers = record { rows = counted.rows; covers = covers counted.rows counted.covers; can = counted.can }
+  counted_at aggregations pool set groups counted covers = record { rows = counted.rows; covers = covers counted.rows counted.covers; few = counted.few }
 
   pub may_coarsen_at : (pool : List (SetBag H)) (i : ℕ) (f : SetBag H) → MayCoarsenAll pool → i < length pool → f ≡ get_or pool i f → MayCoarsen f
   may_coarsen_at pool i f may h is = record {
@@ -94,7 +94,7 @@ module _ {H : Type 0} where
   set_pushed old new set f is e = rw e (subst (λ s. has_set (old ++ f ∷ []) s ≡ true) is (set_here old f))
 
   pub grown_counted : (aggregations : List Aggregation) (old new : List (SetBag H)) → Grows old new → AreCounted aggregations old → AreCounted aggregations new
-  grown_counted aggregations old new grows counted = record { rows = counted.rows; covers = grows.covers aggregations counted.rows counted.covers; can = counted.can }
+  grown_counted aggregations old new grows counted = record { rows = counted.rows; covers = grows.covers aggregations counted.rows counted.covers; few = counted.few }
 
   pub grown_may : (old new : List (SetBag H)) → Grows old new → MayCoarsenAll old → MayCoarsenAll new
   grown_may old new grows may = record { aggregations = may.aggregations; counted = grown_counted may.aggregations old new grows may.counted }
