@@ -47,7 +47,7 @@ predicate-returns-clause-reads g t c =
 
 pub factors-returns-in_default-clause-reads : goal.factors-returns-in_default-clause-reads
 factors-returns-in_default-clause-reads g t c =
-    kept_end AND (SpellsFactor g.C.Leaf.spells) Any (λ us. tt) c.args.tokens.now c.loop-found.rest.now c.loop-found.found.items c.loop-found.invariant.kept
+    kept_end AND (SpellsFactor g.C.Phrase.spells) Any (λ us. tt) c.args.tokens.now c.loop-found.rest.now c.loop-found.found.items c.loop-found.invariant.kept
     c.in_ok-factor.factor c.in_ok-factor.behind.now c.push.new.self.items c.in_ok-factor.ensures.reads c.in_ok-push.ensures.items c.in_default.ensures
 
 pub factors-loop-found-preserved : goal.factors-loop-found-preserved
@@ -55,7 +55,7 @@ factors-loop-found-preserved g t c =
     let more = ap length c.in-Some.ensures in
     record {
       kept =
-          kept_next AND (SpellsFactor g.C.Leaf.spells) Any (λ us. tt) c.args.tokens.now c.loop-found.rest.now c.loop-found.found.items c.loop-found.invariant.kept
+          kept_next AND (SpellsFactor g.C.Phrase.spells) Any (λ us. tt) c.args.tokens.now c.loop-found.rest.now c.loop-found.found.items c.loop-found.invariant.kept
           c.in_ok-factor.factor c.in_ok-factor.behind.now c.push.new.self.items c.in_ok-factor.ensures.reads c.in_ok-push.ensures.items
           c.in-Some.more.now c.in-Some.ensures;
       shorter = omega (arith, c.in_ok-factor.ensures.shorter);
@@ -63,7 +63,7 @@ factors-loop-found-preserved g t c =
 
 pub terms-returns-in_default-clause-reads : goal.terms-returns-in_default-clause-reads
 terms-returns-in_default-clause-reads g t c =
-    kept_end OR (SpellsTerm g.C.Leaf.spells) AfterAnd or_ends_and c.args.tokens.now c.loop-found.rest.now c.loop-found.found.items c.loop-found.invariant.kept
+    kept_end OR (SpellsTerm g.C.Phrase.spells) AfterAnd or_ends_and c.args.tokens.now c.loop-found.rest.now c.loop-found.found.items c.loop-found.invariant.kept
     c.in_ok-term.term c.in_ok-term.behind.now c.push.new.self.items c.in_ok-term.ensures.reads c.in_ok-push.ensures.items c.in_default.ensures
 
 pub terms-loop-found-preserved : goal.terms-loop-found-preserved
@@ -71,7 +71,7 @@ terms-loop-found-preserved g t c =
     let more = ap length c.in-Some.ensures in
     record {
       kept =
-          kept_next OR (SpellsTerm g.C.Leaf.spells) AfterAnd or_ends_and c.args.tokens.now c.loop-found.rest.now c.loop-found.found.items c.loop-found.invariant.kept
+          kept_next OR (SpellsTerm g.C.Phrase.spells) AfterAnd or_ends_and c.args.tokens.now c.loop-found.rest.now c.loop-found.found.items c.loop-found.invariant.kept
           c.in_ok-term.term c.in_ok-term.behind.now c.push.new.self.items c.in_ok-term.ensures.reads c.in_ok-push.ensures.items
           c.in-Some.more.now c.in-Some.ensures;
       shorter = omega (arith, c.in_ok-term.ensures.shorter);

@@ -27,13 +27,13 @@ abbrev pub decreases-predicate_in : goal.decreases-predicate_in
 decreases-predicate_in g l = 7 * length l.tokens.now + 6
 
 abbrev pub invariant-factors-loop-found : goal.invariant-factors-loop-found
-invariant-factors-loop-found g l = record { kept : Kept AND (SpellsFactor g.C.Leaf.spells) Any (λ us. tt) l.tokens l.found.items l.rest; shorter : length l.rest ≤ length l.tokens }
+invariant-factors-loop-found g l = record { kept : Kept AND (SpellsFactor g.C.Phrase.spells) Any (λ us. tt) l.tokens l.found.items l.rest; shorter : length l.rest ≤ length l.tokens }
 
 abbrev pub decreases-factors-loop-found : goal.decreases-factors-loop-found
 decreases-factors-loop-found g l = length l.rest
 
 abbrev pub invariant-terms-loop-found : goal.invariant-terms-loop-found
-invariant-terms-loop-found g l = record { kept : Kept OR (SpellsTerm g.C.Leaf.spells) AfterAnd or_ends_and l.tokens l.found.items l.rest; shorter : length l.rest ≤ length l.tokens }
+invariant-terms-loop-found g l = record { kept : Kept OR (SpellsTerm g.C.Phrase.spells) AfterAnd or_ends_and l.tokens l.found.items l.rest; shorter : length l.rest ≤ length l.tokens }
 
 abbrev pub decreases-terms-loop-found : goal.decreases-terms-loop-found
 decreases-terms-loop-found g l = length l.rest

@@ -1,6 +1,6 @@
 use Rattle.query.proofs.Lists.{turn_found}
 use Rattle.query.proofs.Units.{unit_one, unit_several}
-use Rattle.query.proofs.grouping.unit.Goals as goal
+use Rattle.query.proofs.grouping.UnitPhrase.read.Goals as goal
 
 pub returns-in-Some-clause-reads : goal.returns-in-Some-clause-reads
 returns-in-Some-clause-reads c =
