@@ -6,6 +6,7 @@ mod conditions;
 mod counting;
 mod depth;
 mod element;
+mod finding;
 mod grouped;
 mod grouping;
 mod having;

@@ -1,7 +1,7 @@
 use Rattle.std.proofs.Common.{rules, ◌≡◌, ◌∙◌, ◌<◌, ◌≤◌, length}
 use Rattle.std.proofs.Math.ListN.{get_or}
 use Rattle.query.proofs.TypesLemmas.{text_at, text_past}
-use Rattle.query.proofs.types.ItemTypesTypesUsize.is_text.Goals as goal
+use Rattle.query.proofs.types.TextItemsFinderUsize.finds.Goals as goal
 
 pub returns-in-Some : goal.returns-in-Some
 returns-in-Some c =
