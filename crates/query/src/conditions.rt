@@ -1,7 +1,7 @@
 //! Reads the predicates of WHERE and of HAVING. Chains of OR and of AND are read by loops, so that only parentheses go deep.
 ghost use Rattle.std.specs.Prelude.{◌≡◌, ◌<◌, ◌∷◌, IfOk, List, Some, length};
 ghost use Rattle.cells.specs.declared.token.Token.{Token};
-ghost use Rattle.query.specs.Grammar.{AND, BETWEEN, IN, OR, Separated, SpellsFactor, SpellsOperand, SpellsPredicate, SpellsPrimary, SpellsTerm, SpellsTest, lparen, rparen};
+ghost use Rattle.query.specs.Grammar.{AND, BETWEEN, IN, SpellsFactor, SpellsOperand, SpellsPredicate, SpellsPrimary, SpellsTerm, SpellsTest, lparen, rparen};
 ghost use Rattle.query.specs.Phrases.{BoundsAt, NullAfter, RangeAfter, TestAfter, comparison_at};
 ghost use Rattle.query.specs.Reading.{AfterAnd, AfterOr, Any, Ends, ReadsPhrase, Starts};
 
@@ -164,7 +164,7 @@ fn test<C: Leaf + Drop>(alloc: Global, tokens: &[Token]) -> Result<(Test<C>, &[T
 }
 
 /// The primary at the front, a predicate in parentheses or a test, and what follows it.
-#[cycle(reader)]
+#[cycle(predicates)]
 fn primary<C: Leaf + Drop>(
     alloc: Global,
     tokens: &[Token],
@@ -180,7 +180,7 @@ fn primary<C: Leaf + Drop>(
 }
 
 /// A primary with an optional NOT before it, and what follows it.
-#[cycle(reader)]
+#[cycle(predicates)]
 fn factor<C: Leaf + Drop>(
     alloc: Global,
     tokens: &[Token],
@@ -195,29 +195,8 @@ fn factor<C: Leaf + Drop>(
     primary(alloc, tokens)
 }
 
-/// The factors at the front, with AND between, and what follows them.
-#[cycle(reader)]
-fn factors<C: Leaf + Drop>(
-    alloc: Global,
-    tokens: &[Token],
-) -> Result<(Vec<Predicate<C>>, &[Token]), Refused>
-    ensures reads { ReadsPhrase (λ x. (x.0.items, x.1.now)) (Starts (Separated AND (SpellsFactor C.spells)) AfterAnd tokens.now) result }
-    ensures shorter { IfOk result (λ x. length x.1.now < length tokens.now) }
-{
-    let mut found = Vec::new(alloc);
-    let mut rest = tokens;
-    loop {
-        let (factor, behind) = factor(alloc, rest)?;
-        found.push(factor)?;
-        let Some(more) = after_word(behind, "AND") else {
-            return Ok((found, behind));
-        };
-        rest = more;
-    }
-}
-
-/// The term at the front, and what follows it.
-#[cycle(reader)]
+/// The term at the front, which is its factors with AND between, and what follows it.
+#[cycle(predicates)]
 fn term<C: Leaf + Drop>(
     alloc: Global,
     tokens: &[Token],
@@ -225,33 +204,20 @@ fn term<C: Leaf + Drop>(
     ensures reads { ReadsPhrase (λ x. (x.0, x.1.now)) (Starts (SpellsTerm C.spells) AfterAnd tokens.now) result }
     ensures shorter { IfOk result (λ x. length x.1.now < length tokens.now) }
 {
-    let (factors, rest) = factors(alloc, tokens)?;
-    Ok((Predicate::all_of(factors), rest))
-}
-
-/// The terms at the front, with OR between, and what follows them.
-#[cycle(reader)]
-fn terms<C: Leaf + Drop>(
-    alloc: Global,
-    tokens: &[Token],
-) -> Result<(Vec<Predicate<C>>, &[Token]), Refused>
-    ensures reads { ReadsPhrase (λ x. (x.0.items, x.1.now)) (Starts (Separated OR (SpellsTerm C.spells)) AfterOr tokens.now) result }
-    ensures shorter { IfOk result (λ x. length x.1.now < length tokens.now) }
-{
-    let mut found = Vec::new(alloc);
+    let mut factors = Vec::new(alloc);
     let mut rest = tokens;
     loop {
-        let (term, behind) = term(alloc, rest)?;
-        found.push(term)?;
-        let Some(more) = after_word(behind, "OR") else {
-            return Ok((found, behind));
+        let (factor, behind) = factor(alloc, rest)?;
+        factors.push(factor)?;
+        let Some(more) = after_word(behind, "AND") else {
+            return Ok((Predicate::all_of(factors), behind));
         };
         rest = more;
     }
 }
 
 /// The predicate at the front, which is its terms with OR between, and what follows it.
-#[cycle(reader)]
+#[cycle(predicates)]
 pub fn predicate<C: Leaf + Drop>(
     alloc: Global,
     tokens: &[Token],
@@ -259,12 +225,20 @@ pub fn predicate<C: Leaf + Drop>(
     ensures reads { ReadsPhrase (λ x. (x.0, x.1.now)) (Starts (SpellsPredicate C.spells) AfterOr tokens.now) result }
     ensures shorter { IfOk result (λ x. length x.1.now < length tokens.now) }
 {
-    let (terms, rest) = terms(alloc, tokens)?;
-    Ok((Predicate::any_of(terms), rest))
+    let mut terms = Vec::new(alloc);
+    let mut rest = tokens;
+    loop {
+        let (term, behind) = term(alloc, rest)?;
+        terms.push(term)?;
+        let Some(more) = after_word(behind, "OR") else {
+            return Ok((Predicate::any_of(terms), behind));
+        };
+        rest = more;
+    }
 }
 
 /// The predicate up to the `)` behind it, and what follows it.
-#[cycle(reader)]
+#[cycle(predicates)]
 fn predicate_in<C: Leaf + Drop>(
     alloc: Global,
     tokens: &[Token],
