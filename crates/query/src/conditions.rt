@@ -164,7 +164,7 @@ fn test<C: Leaf + Drop>(alloc: Global, tokens: &[Token]) -> Result<(Test<C>, &[T
 }
 
 /// The primary at the front, a predicate in parentheses or a test, and what follows it.
-#[cycle(predicates)]
+#[cycle(reader)]
 fn primary<C: Leaf + Drop>(
     alloc: Global,
     tokens: &[Token],
@@ -180,7 +180,7 @@ fn primary<C: Leaf + Drop>(
 }
 
 /// A primary with an optional NOT before it, and what follows it.
-#[cycle(predicates)]
+#[cycle(reader)]
 fn factor<C: Leaf + Drop>(
     alloc: Global,
     tokens: &[Token],
@@ -196,7 +196,7 @@ fn factor<C: Leaf + Drop>(
 }
 
 /// The term at the front, which is its factors with AND between, and what follows it.
-#[cycle(predicates)]
+#[cycle(reader)]
 fn term<C: Leaf + Drop>(
     alloc: Global,
     tokens: &[Token],
@@ -217,7 +217,7 @@ fn term<C: Leaf + Drop>(
 }
 
 /// The predicate at the front, which is its terms with OR between, and what follows it.
-#[cycle(predicates)]
+#[cycle(reader)]
 pub fn predicate<C: Leaf + Drop>(
     alloc: Global,
     tokens: &[Token],
@@ -238,7 +238,7 @@ pub fn predicate<C: Leaf + Drop>(
 }
 
 /// The predicate up to the `)` behind it, and what follows it.
-#[cycle(predicates)]
+#[cycle(reader)]
 fn predicate_in<C: Leaf + Drop>(
     alloc: Global,
     tokens: &[Token],

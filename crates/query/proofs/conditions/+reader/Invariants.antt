@@ -3,7 +3,7 @@ use Rattle.query.specs.Grammar.{AND, OR, SpellsTerm, SpellsFactor}
 use Rattle.query.specs.Reading.{AfterAnd, Any}
 use Rattle.query.proofs.Lists.{Kept}
 use Rattle.query.proofs.Predicates.{or_ends_and}
-use Rattle.query.proofs.conditions.+predicates.Given as goal
+use Rattle.query.proofs.conditions.+reader.Given as goal
 
 abbrev pub decreases-primary : goal.decreases-primary
 decreases-primary g l = 5 * length l.tokens.now + 0

@@ -2,13 +2,18 @@ use Rattle.std.proofs.Common.{ap, arith, length}
 use Rattle.std.proofs.lemmas.Result.{err_from_is_err_and}
 use Rattle.query.specs.Grammar.{AND, OR, SpellsTerm, SpellsFactor, rparen}
 use Rattle.query.specs.Reading.{AfterAnd, Any}
-use Rattle.query.proofs.Lists.{kept_end, kept_next, kept_none, part_err, reads_closed, turn_err, turn_found, turn_reads}
+use Rattle.query.proofs.Lists.{err_closed, kept_end, kept_first, kept_next, kept_none, part_err, reads_closed, turn_err, turn_found, turn_reads}
 use Rattle.query.proofs.Predicates.{term_factors, factor_not, factor_plain, or_ends_and, paren_ends, predicate_terms, primary_parens, primary_test}
-use Rattle.query.proofs.conditions.+predicates.Goals as goal
+use Rattle.query.proofs.conditions.+reader.Goals as goal
 
 pub primary-returns-in-Some-clause-reads : goal.primary-returns-in-Some-clause-reads
 primary-returns-in-Some-clause-reads g t c =
     turn_reads (λ x. (x.0, x.1.now)) c.predicate_in.result (primary_parens g.met.C.Leaf.begins c.args.tokens.now c.in-Some.more.now c.in-Some.ensures) c.predicate_in.ensures.reads
+
+pub primary-returns-in_err-test-clause-reads : goal.primary-returns-in_err-test-clause-reads
+primary-returns-in_err-test-clause-reads g t c =
+    let p = err_from_is_err_and c.from_residual.result c.from_residual.ensures.1 in
+    rw (p.1, p.2) (turn_err (primary_test c.args.tokens.now c.in_default.ensures) c.in_err-test.ensures.reads)
 
 pub primary-returns-clause-reads : goal.primary-returns-clause-reads
 primary-returns-clause-reads g t c =
@@ -76,3 +81,32 @@ predicate-loop-terms-preserved g t c =
 pub predicate_in-returns-clause-reads : goal.predicate_in-returns-clause-reads
 predicate_in-returns-clause-reads g t c =
     reads_closed rparen c.args.tokens.now paren_ends (λ s. s.now) c.in_ok-predicate.predicate c.in_ok-predicate.rest.now c.closed.result c.in_ok-predicate.ensures.reads c.closed.ensures
+
+pub primary-predicate_in-requires : goal.primary-predicate_in-requires
+primary-predicate_in-requires g t c κs outlives = (omega (arith, ap length c.in-Some.ensures), outlives)
+
+pub predicate_in-predicate-requires : goal.predicate_in-predicate-requires
+predicate_in-predicate-requires g t c κs outlives = (omega arith, outlives)
+
+pub term-factor-requires : goal.term-factor-requires
+term-factor-requires g t c κs outlives = (omega (arith, c.loop-factors.invariant.shorter), outlives)
+
+pub term-loop-factors-init : goal.term-loop-factors-init
+term-loop-factors-init g t c = record { kept = rw c.new-factors.ensures.items (kept_first AND (SpellsFactor g.C.Phrase.spells) Any (λ us. tt) c.args.tokens.now); shorter = omega arith }
+
+pub predicate-term-requires : goal.predicate-term-requires
+predicate-term-requires g t c κs outlives = (omega (arith, c.loop-terms.invariant.shorter), outlives)
+
+pub predicate-loop-terms-init : goal.predicate-loop-terms-init
+predicate-loop-terms-init g t c = record { kept = rw c.new-terms.ensures.items (kept_first OR (SpellsTerm g.C.Phrase.spells) AfterAnd or_ends_and c.args.tokens.now); shorter = omega arith }
+
+pub term-returns-in_default-clause-shorter : goal.term-returns-in_default-clause-shorter
+term-returns-in_default-clause-shorter g t c = omega (arith, c.in_ok-factor.ensures.shorter, c.loop-factors.invariant.shorter)
+
+pub predicate-returns-in_default-clause-shorter : goal.predicate-returns-in_default-clause-shorter
+predicate-returns-in_default-clause-shorter g t c = omega (arith, c.in_ok-term.ensures.shorter, c.loop-terms.invariant.shorter)
+
+pub predicate_in-returns-in_err-predicate-clause-reads : goal.predicate_in-returns-in_err-predicate-clause-reads
+predicate_in-returns-in_err-predicate-clause-reads g t c =
+    let p = err_from_is_err_and c.from_residual.result c.from_residual.ensures.1 in
+    rw (p.1, p.2) (err_closed rparen c.args.tokens.now paren_ends c.in_err-predicate.ensures.reads)
