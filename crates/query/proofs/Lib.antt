@@ -9,7 +9,6 @@ pub mod NamingLemmas
 pub mod PlacesLemmas
 pub mod PlansLemmas
 pub mod ShortLemmas
-pub mod PlanLawsLemmas
 pub mod TypesLemmas
 pub mod Trees
 pub mod Lists
