@@ -104,13 +104,9 @@ impl<'a, G: Gate, H: KeyHash<Cell> + Send + Sync> Task for Reading<'a, G, H> {
 
     type Made = Vec<Found>;
 
-    type Given = Vec<Found>;
-
     ghost count = { λ task. length task.parts.now };
 
     ghost makes = { λ task places made. AllZip (IsFound H.hash_of task.schema.now (map part_of task.parts.now)) places made.items };
-
-    ghost gives = { λ task places given. AllZip (IsFound H.hash_of task.schema.now (map part_of task.parts.now)) places given.items };
 
     fn begin(&self, alloc: Global) -> Result<Vec<Found>, AllocError> {
         Ok(Vec::new(alloc))
@@ -121,10 +117,6 @@ impl<'a, G: Gate, H: KeyHash<Cell> + Send + Sync> Task for Reading<'a, G, H> {
         // A faulty record is a result as any other, so that the parts of all places are read.
         let content = read_part::<H>(alloc, self.bytes(place), self.schema)?;
         Ok(made.push(Found { place, content })?)
-    }
-
-    fn end(&self, _alloc: Global, made: Vec<Found>) -> Result<Vec<Found>, AllocError> {
-        Ok(made)
     }
 }
 
