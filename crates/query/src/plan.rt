@@ -85,7 +85,8 @@ impl Plan {
         let columns = schema.columns();
         let (query, outline) = beside(Outline::of(alloc, columns, &query), query)?;
         let (condition, having) = query.into_predicates();
-        let condition = placed_condition(alloc, columns, condition)?;
+        let condition = placed_condition(alloc, columns, condition);
+        let ((outline, having), condition) = beside(condition, (outline, having))?;
         Ok(Plan {
             items: outline.items,
             headings: outline.headings,
