@@ -1,5 +1,5 @@
 -- The plan of a query has a grouping set.
-use Rattle.std.proofs.Common.{◌≡◌, ℕ, ◌<◌, Bool, true, false, List, [], ◌∷◌, length, map, sym, ap, subst, arith}
+use Rattle.std.proofs.Common.{◌≡◌, ℕ, ◌<◌, Bool, true, false, List, [], ◌∷◌, length, map, sym, subst, arith}
 use Rattle.std.proofs.lemmas.List.{length-map}
 use Rattle.cells.specs.declared.schema.Column.{Column}
 use Rattle.query.specs.Sets.{grouping_sets, kept_sets, placed_sets, places}
