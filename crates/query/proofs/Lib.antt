@@ -7,7 +7,6 @@ pub mod HavingLemmas
 pub mod HeadingsLemmas
 pub mod NamingLemmas
 pub mod PlacesLemmas
-pub mod PlansLemmas
 pub mod ShortLemmas
 pub mod TypesLemmas
 pub mod Trees

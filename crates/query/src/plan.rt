@@ -1,5 +1,5 @@
 //! Plans: what a query means for a table.
-ghost use Rattle.std.specs.Prelude.{◌≡◌, ◌<◌, IfOk, false, length, map};
+ghost use Rattle.std.specs.Prelude.{◌≡◌, IfOk, false, map};
 ghost use Rattle.std.specs.List.{list_any};
 ghost use Rattle.std.specs.Option.{option_copied};
 ghost use Rattle.query.specs.Headings.{heading};
@@ -19,8 +19,8 @@ use std::alloc::{AllocError, Global};
 use std::marker::Model;
 
 /// A query with the places of columns for their names, and with its grouping sets. It is made by
-/// [`check`](crate::check), for the table that the query was checked for. It has a grouping set at least, and no GROUPING in it
-/// has more than [`MAX_GROUPING_COLUMNS`](crate::MAX_GROUPING_COLUMNS).
+/// [`check`](crate::check), for the table that the query was checked for. No GROUPING in it has more than
+/// [`MAX_GROUPING_COLUMNS`](crate::MAX_GROUPING_COLUMNS).
 #[derive(Drop)]
 pub struct Plan {
     items: Vec<Item<usize>>,
@@ -42,11 +42,11 @@ impl Model for Plan {
 
     ghost view = { λ p. record { items = p.items.items; headings = p.headings.items; condition = p.condition; sets = p.sets.items; having = p.having } };
 
-    ghost use Rattle.std.specs.Prelude.{◌≡◌, ◌<◌, false, length};
+    ghost use Rattle.std.specs.Prelude.{◌≡◌, false};
     ghost use Rattle.std.specs.List.{list_any};
     ghost use Rattle.query.specs.Values.{is_long};
 
-    ghost invariant = { λ p. (list_any is_long p.items.items ≡ false) × (0 < length p.sets.items) };
+    ghost invariant = { λ p. list_any is_long p.items.items ≡ false };
 }
 
 /// What a plan has of a query beside its predicate.
@@ -64,7 +64,6 @@ impl Outline {
         ensures short { IfOk result (λ outline. list_any is_long outline.items.items ≡ false) }
         ensures headings { IfOk result (λ outline. outline.headings.items ≡ map heading query.now.items) }
         ensures sets { IfOk result (λ outline. outline.sets.items ≡ placed_sets columns.now query.now.groups) }
-        ensures some { IfOk result (λ outline. 0 < length outline.sets.items) }
     {
         let items = placed_items(alloc, columns, query.items(), query.having_items())?;
         let headings = headings(alloc, query.items())?;
@@ -85,7 +84,8 @@ impl Plan {
         let columns = schema.columns();
         let (query, outline) = beside(Outline::of(alloc, columns, &query), query)?;
         let (condition, having) = query.into_predicates();
-        let condition = placed_condition(alloc, columns, condition)?;
+        let condition = placed_condition(alloc, columns, condition);
+        let ((outline, having), condition) = beside(condition, (outline, having))?;
         Ok(Plan {
             items: outline.items,
             headings: outline.headings,
@@ -118,10 +118,9 @@ impl Plan {
         self.condition.as_ref()
     }
 
-    /// The grouping sets, at least one, in order, repeated ones too unless DISTINCT was asked for. It takes no memory.
+    /// The grouping sets, in order, repeated ones too unless DISTINCT was asked for. It takes no memory.
     pub fn sets(&self) -> &[GroupSet]
-        ensures sets { result.now ≡ self.now.sets }
-        ensures some { 0 < length self.now.sets }
+        ensures { result.now ≡ self.now.sets }
     {
         self.sets.as_slice()
     }

@@ -201,7 +201,7 @@ fn grouped(alloc: Global, tokens: &[Token]) -> Result<Grouped, Refused>
         return grouped_by(alloc, more);
     }
     let having = having(alloc, tokens)?;
-    let groups = Groups::all_rows(alloc)?;
+    let (having, groups) = beside(Groups::all_rows(alloc), having)?;
     Ok(Grouped { groups, having })
 }
 
@@ -242,8 +242,15 @@ fn last_predicate(alloc: Global, tokens: &[Token]) -> Result<Predicate<Item<Text
     ensures { ReadsPhrase (λ p. (p, [])) (Whole SpellsLast tokens.now) result }
 {
     let (predicate, rest) = predicate(alloc, tokens)?;
+    ended(predicate, rest)
+}
+
+/// The value, where no token follows it.
+fn ended<T: Drop>(value: T, rest: &[Token]) -> Result<T, Refused>
+    ensures { MatchResult result (λ x. (x ≡ value) × (rest.now ≡ [])) (λ e. (e ≡ Refused.QuerySyntax) × (rest.now ≢ [])) }
+{
     if is_end(rest) {
-        return Ok(predicate);
+        return Ok(value);
     }
     Err(Refused::QuerySyntax)
 }

@@ -1,7 +1,6 @@
-use Rattle.std.proofs.Common.{◌++◌, ◌∙◌, ap₂, map, subst, sym}
+use Rattle.std.proofs.Common.{◌++◌, ◌∙◌, ap₂, map}
 use Rattle.query.specs.Plans.{placed_item}
-use Rattle.query.specs.Values.{AreFilled, items_of}
-use Rattle.query.proofs.PlansLemmas.{some_placed}
+use Rattle.query.specs.Values.{items_of}
 use Rattle.query.proofs.ShortLemmas.{short_both, short_placed}
 use Rattle.query.proofs.plan.Outline.of.Goals as goal
 
@@ -10,8 +9,3 @@ returns-clause-short c =
     let made = c.in_ok-items.ensures ∙ ap₂ (λ is more. map (placed_item c.args.columns.now) (is ++ more)) c.items.ensures.items c.having_items.ensures.items in
     short_placed c.args.columns.now (items_of c.args.query.now) c.in_ok-items.items.items made
     (short_both c.args.query.now.items c.args.query.now.having.items c.items.ensures.short c.having_items.ensures.short)
-
-pub returns-clause-some : goal.returns-clause-some
-returns-clause-some c =
-    some_placed c.args.columns.now (record { distinct = c.is_distinct.result; elements = c.elements.result.now }) c.in_ok-sets.sets.items c.in_ok-sets.ensures
-    (subst AreFilled (sym c.elements.ensures.elements) c.elements.ensures.filled)
