@@ -32,7 +32,7 @@ use Rattle.script.specs.Tails.{of_lines as tail_of_lines, too_much as tail_too_m
 use Rattle.script.specs.Says.{MeansPlan, Says, answer, answer_of, no_plan, no_query}
 use Rattle.script.specs.Tails.{AreViewers, AreViews, IsTailBehind, IsView, Viewing, last_view, no_viewer, turned_away, undeclared, view_first, view_heading, viewed, viewer_first, viewers_refused}
 use Rattle.script.specs.Desks.{IsBehind, Keeps, Stays}
-use Rattle.script.specs.Viewers.{Attend, HasAttended, HasViewers, IsStarted, IsTailOf, IsUnstarted, IsWritten, MayAttend, MayWant, begun, expected, too_much_text, turned, view_block}
+use Rattle.script.specs.Viewers.{Attend, HasAttended, HasViewers, IsStarted, IsTailOf, IsWritten, MayAttend, MayWant, begun, expected, too_much_text, turned, view_block}
 use Rattle.script.specs.declared.ended.Ended.{Ended}
 use Rattle.script.specs.declared.ended.Ended.TheVariants.{WriteFailed}
 use Rattle.script.specs.declared.fault.Fault.TheVariants.{Line}
@@ -309,13 +309,6 @@ module _ {W T : Type 0} (taken : W → Option (List ℕ)) (faults : W → ℕ) (
       is_second = tail_of_lines short (omega (arith, few, counted)) two.is_second;
       joined = two.joined;
     }
-
--- viewers that could not be started ended the run behind a beginning of the whole
-pub delivers_unstarted : {W T : Type 0} (taken : W → Option (List ℕ)) (faults : W → ℕ) (old new : W) (IsWhole : List ℕ → Type 0) (e : Ended) (result : Result T Ended) →
-    BeginsToWrite IsWhole (taken old) (taken new) → IsUnstarted e → result ≡ Err e → Delivers taken faults old new IsWhole result
-delivers_unstarted taken faults old new IsWhole e result beginning (inl memory) is = rw (is, memory) (record { output = tt; beginning = beginning; fault = λ late. absurd cc; sound = tt })
-delivers_unstarted taken faults old new IsWhole e result beginning (inr (inl worker)) is = rw (is, worker) (record { output = tt; beginning = beginning; fault = λ late. absurd cc; sound = tt })
-delivers_unstarted taken faults old new IsWhole e result beginning (inr (inr place)) is = rw (is, place) (record { output = tt; beginning = beginning; fault = λ late. absurd cc; sound = tt })
 
 -- ---- how a tail is delivered
 

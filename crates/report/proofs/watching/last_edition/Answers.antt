@@ -8,6 +8,10 @@ pub returns-in_err-seen-clause-learnt : goal.returns-in_err-seen-clause-learnt
 returns-in_err-seen-clause-learnt g c =
     subst (λ (h : History). IsPrefix h c.snapshot.new.self.history) c.tell.ensures.told.history (learnt_of c.args.viewer.now c.tell.result c.learn.new.self c.snapshot.new.self c.learn.ensures c.snapshot.ensures.looks)
 
+pub returns-in_err-snapshot-clause-learnt : goal.returns-in_err-snapshot-clause-learnt
+returns-in_err-snapshot-clause-learnt g c =
+    subst (λ (h : History). IsPrefix h c.snapshot.new.self.history) c.tell.ensures.told.history (learnt_of c.args.viewer.now c.tell.result c.learn.new.self c.snapshot.new.self c.learn.ensures c.snapshot.ensures.looks)
+
 pub returns-then-edition-clause-learnt : goal.returns-then-edition-clause-learnt
 returns-then-edition-clause-learnt g c =
     subst (λ (h : History). IsPrefix h c.snapshot.new.self.history) c.tell.ensures.told.history (learnt_of c.args.viewer.now c.tell.result c.learn.new.self c.snapshot.new.self c.learn.ensures c.snapshot.ensures.looks)
