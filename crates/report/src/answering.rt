@@ -1,12 +1,10 @@
 //! The answer of a plan on a snapshot.
-ghost use Rattle.std.specs.Prelude.{◌≡◌, ◌≤◌, ◌⊎◌, List, IfErr, IfOk};
+ghost use Rattle.std.specs.Prelude.{◌≡◌, ◌⊎◌, List, IfErr, IfOk};
 ghost use Rattle.cells.specs.Tables.{table};
 ghost use Rattle.cells.specs.Updates.{AreLeft};
 ghost use Rattle.cells.specs.Values.{RowValue};
 ghost use Rattle.cells.specs.declared.refused.Refused.TheVariants as Refused;
 ghost use Rattle.groups.specs.Groups.{report_rows};
-ghost use Rattle.query.specs.Plans.{IsPlanOf};
-ghost use Rattle.report.specs.Limits.{worker_limit};
 ghost use Rattle.report.specs.Reports.{report_text};
 ghost use Rattle.report.specs.Standing.{StandsForEdition};
 
@@ -25,8 +23,8 @@ use std::thread::Threads;
 use trie::Cutting;
 
 /// The text of the plan's report over the rows of the snapshot, in whatever order they came and however they are cut
-/// into pieces. The plan was checked for the snapshot's schema. As many workers as the smaller of `workers`, which is 1
-/// to [`MAX_WORKERS`](crate::MAX_WORKERS), and the number of pieces fold the pieces, each in a thread of its own, and
+/// into pieces. As many workers as the smaller of `workers`, taken as 1 at least and
+/// [`MAX_WORKERS`](crate::MAX_WORKERS) at most, and the number of pieces fold the pieces, each in a thread of its own, and
 /// are joined before this returns. The gate is told of each piece. An edition of [`COLUMNS_FROM`](crate::COLUMNS_FROM) rows
 /// or more may be answered by its columns, as [`Answering`] says.
 ///
@@ -42,8 +40,6 @@ pub fn answer<H: KeyHash<Cell> + KeyHash<Tuple> + Send + Sync, G: Gate, R: Threa
     cutting: &Cutting,
     gate: &G,
 ) -> Result<Vec<u8>, Refused>
-    requires planned { IsPlanOf snapshot.now.schema plan.now }
-    requires workers { 1 ≤ workers × (workers ≤ worker_limit) }
     ensures text { (rs : List RowValue) → AreLeft rs → snapshot.now.rows ≡ table rs →
         IfOk result (λ text. text.items ≡ report_text plan.now (report_rows plan.now rs)) }
     ensures refused { IfErr result (λ e. (e ≡ Refused.NoWorker) ⊎ (e ≡ Refused.OutOfMemory)) }
@@ -95,8 +91,6 @@ impl<'a, R: Threads + Wait, G: Gate> Answering<'a, R, G> {
         snapshot: &Snapshot<H>,
         plan: &Plan,
     ) -> Result<Vec<u8>, Want>
-        requires planned { IsPlanOf snapshot.now.schema plan.now }
-        requires workers { 1 ≤ self.now.workers × (self.now.workers ≤ worker_limit) }
         ensures { (rs : List RowValue) → AreLeft rs → snapshot.now.rows ≡ table rs →
             IfOk result (λ text. text.items ≡ report_text plan.now (report_rows plan.now rs)) }
     {
@@ -114,8 +108,6 @@ impl<'a, R: Threads + Wait, G: Gate> Answering<'a, R, G> {
         snapshot: &Snapshot<H>,
         plan: &Plan,
     ) -> Result<Partial<H>, Want>
-        requires planned { IsPlanOf snapshot.now.schema plan.now }
-        requires workers { 1 ≤ self.now.workers × (self.now.workers ≤ worker_limit) }
         ensures { IfOk result (StandsForEdition H.KeyHash-2.hash_of snapshot.now.rows plan.now) }
     {
         if snapshot.root().len() >= self.columns_from {
@@ -133,8 +125,6 @@ impl<'a, R: Threads + Wait, G: Gate> Answering<'a, R, G> {
         snapshot: &Snapshot<H>,
         plan: &Plan,
     ) -> Result<Partial<H>, Want>
-        requires planned { IsPlanOf snapshot.now.schema plan.now }
-        requires workers { 1 ≤ self.now.workers × (self.now.workers ≤ worker_limit) }
         ensures { IfOk result (StandsForEdition H.KeyHash-2.hash_of snapshot.now.rows plan.now) }
     {
         let pieces = pieces_of(self.alloc, snapshot.root(), &self.cutting)?;

@@ -1,7 +1,5 @@
 //! The threads of viewers.
-ghost use Rattle.std.specs.Prelude.{◌≡◌, ◌≤◌, ◌++◌, ◌∷◌, [], IfOk, IfSome, IsNone, OnOk};
-ghost use Rattle.query.specs.Plans.{IsPlanOf};
-ghost use Rattle.report.specs.Limits.{worker_limit};
+ghost use Rattle.std.specs.Prelude.{◌≡◌, ◌++◌, ◌∷◌, [], IfOk, IfSome, IsNone, OnOk};
 ghost use Rattle.report.specs.Watching.{ComesBack, HasWatched, watch_from};
 
 use crate::starting::Starter;
@@ -84,8 +82,6 @@ impl<H: KeyHash<Cell>> Audience<H> {
     ) -> Result<(), Want>
     where
         H: KeyHash<Tuple> + Send + Sync + 's,
-        requires planned { IsPlanOf viewer.schema plan }
-        requires workers { 1 ≤ starter.now.answering.workers × (starter.now.answering.workers ≤ worker_limit) }
         ensures watching { OnOk result (self.new ≡ self.old ++ watch_from viewer plan count ∷ []) }
     {
         let number = self.started.len() as u64 + 1;
@@ -126,8 +122,6 @@ fn start<
     number: u64,
     count: u64,
 ) -> Result<PromisedHandle<Result<Watcher<H>, Want>, WatchOf<H>>, Want>
-    requires planned { IsPlanOf viewer.schema plan }
-    requires workers { 1 ≤ starter.now.answering.workers × (starter.now.answering.workers ≤ worker_limit) }
     ensures viewer { IfOk result (λ handle. handle.promise.viewer.value ≡ viewer) }
     ensures plan { IfOk result (λ handle. handle.promise.plan.value ≡ plan) }
     ensures count { IfOk result (λ handle. handle.promise.count ≡ count) }
@@ -141,7 +135,6 @@ fn start<
     };
     let answering = starter.answering;
     let job = move || -> Result<Watcher<H>, Want>
-        requires { IsPlanOf viewer.schema plan × (1 ≤ answering.workers) × (answering.workers ≤ worker_limit) }
         ensures { IfOk result (HasWatched (watch_from viewer plan count)) }
     { Watcher::new(answering.alloc, viewer, plan).watched(&answering, number, count) };
     match starter.scope.spawn_with(promise, job) {

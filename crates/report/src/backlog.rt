@@ -1,8 +1,7 @@
 //! Text that waits to be written behind reports that are under way.
 ghost use Rattle.std.specs.Prelude.{◌≡◌, ℕ, ◌+◌, ◌<◌, ◌≤◌, ◌^◌, ◌++◌, ◌∷◌, [], List, length, IfErr, IsErrOf, OnErr, OnOk};
 ghost use Rattle.std.specs.Io.KnownBytes.{Appends};
-ghost use Rattle.query.specs.Plans.{IsPlanOf};
-ghost use Rattle.report.specs.Limits.{under_way_limit, worker_limit};
+ghost use Rattle.report.specs.Limits.{under_way_limit};
 ghost use Rattle.report.specs.Taken.{TakesBeginning};
 ghost use Rattle.report.specs.Waiting.{Awaits, AwaitsThen, Heads, WritesAll, WritesOn};
 ghost use Rattle.report.specs.declared.unwritten.Unwritten.TheVariants as unwritten;
@@ -193,8 +192,6 @@ impl<H: KeyHash<Cell>> Backlog<H> {
     ) -> Result<(), Unwritten>
     where
         H: KeyHash<Tuple> + Send + Sync + 's,
-        requires planned { IsPlanOf snapshot.schema plan }
-        requires workers { 1 ≤ starter.now.answering.workers × (starter.now.answering.workers ≤ worker_limit) }
         requires faults { O.faults out.old + 1 < 2 ^ 64 }
         ensures { WritesOn O.taken O.faults out.old out.new self.new (AwaitsThen self.old (Heads heading.now snapshot plan)) result }
     {

@@ -3,8 +3,6 @@ ghost use Rattle.std.specs.Prelude.{◌≤◌, IfOk, IfSome};
 ghost use Rattle.std.specs.FinMap.{len};
 ghost use Rattle.board.specs.Beside.{HoldEdition};
 ghost use Rattle.board.specs.Limits.{row_limit};
-ghost use Rattle.query.specs.Plans.{IsPlanOf};
-ghost use Rattle.report.specs.Limits.{worker_limit};
 ghost use Rattle.report.specs.Standing.{StandsForEdition};
 
 use crate::answering::Answering;
@@ -29,8 +27,6 @@ impl<'a, R: Threads + Wait, G: Gate> Answering<'a, R, G> {
         snapshot: &Snapshot<H>,
         plan: &Plan,
     ) -> Result<Option<Partial<H>>, Want>
-        requires planned { IsPlanOf snapshot.now.schema plan.now }
-        requires workers { 1 ≤ self.now.workers × (self.now.workers ≤ worker_limit) }
         ensures { IfOk result (λ made. IfSome made (StandsForEdition H.KeyHash-2.hash_of snapshot.now.rows plan.now)) }
     {
         let root = snapshot.root();
@@ -46,7 +42,7 @@ impl<'a, R: Threads + Wait, G: Gate> Answering<'a, R, G> {
         let found = shelf.value_or_make(
             rt,
             move || -> Option<Columns<H>>
-                requires { (1 ≤ workers) × (workers ≤ worker_limit) × (len root.now ≤ row_limit) }
+                requires { len root.now ≤ row_limit }
                 ensures { IfSome result (HoldEdition root.entry.now) }
             { laid_out(rt, alloc, root, places, key, workers, cutting) },
         );
@@ -69,7 +65,6 @@ fn laid_out<H: KeyHash<Cell> + KeyHash<Tuple> + Send + Sync, R: Threads + Wait>(
     workers: u64,
     cutting: &Cutting,
 ) -> Option<Columns<H>>
-    requires workers { 1 ≤ workers × (workers ≤ worker_limit) }
     requires few { len root.now ≤ row_limit }
     ensures { IfSome result (HoldEdition root.now) }
 {

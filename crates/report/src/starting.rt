@@ -1,7 +1,5 @@
 //! Reports that are answered in threads of their own.
-ghost use Rattle.std.specs.Prelude.{◌≡◌, ◌≤◌, IfOk};
-ghost use Rattle.query.specs.Plans.{IsPlanOf};
-ghost use Rattle.report.specs.Limits.{worker_limit};
+ghost use Rattle.std.specs.Prelude.{◌≡◌, IfOk};
 ghost use Rattle.report.specs.Waiting.{IsReportText};
 
 use crate::answering::Answering;
@@ -42,8 +40,6 @@ impl<'a, 's, 'e: 's, R: Threads + Wait + Sync, G: Gate> Starter<'a, 's, 'e, R, G
         snapshot: Snapshot<H>,
         plan: Plan,
     ) -> Result<PromisedHandle<Result<Vec<u8>, Want>, AnswerOf<H>>, Want>
-        requires planned { IsPlanOf snapshot.schema plan }
-        requires workers { 1 ≤ self.now.answering.workers × (self.now.answering.workers ≤ worker_limit) }
         ensures edition { IfOk result (λ handle. handle.promise.edition.value ≡ snapshot) }
         ensures plan { IfOk result (λ handle. handle.promise.plan.value ≡ plan) }
     {
@@ -55,7 +51,6 @@ impl<'a, 's, 'e: 's, R: Threads + Wait + Sync, G: Gate> Starter<'a, 's, 'e, R, G
         };
         let answering = self.answering;
         let job = move || -> Result<Vec<u8>, Want>
-            requires { IsPlanOf snapshot.schema plan × (1 ≤ answering.workers) × (answering.workers ≤ worker_limit) }
             ensures { IfOk result (λ text. IsReportText snapshot.rows plan text.items) }
         { answering.text(&snapshot, &plan) };
         match self.scope.spawn_with(promise, job) {

@@ -1,9 +1,7 @@
 //! Viewers that report in threads of their own while the keeper goes on.
-ghost use Rattle.std.specs.Prelude.{◌≡◌, ◌≤◌, ◌+◌, ◌++◌, ◌∷◌, [], length, map, IfOk, OnOk};
+ghost use Rattle.std.specs.Prelude.{◌≡◌, ◌+◌, ◌++◌, ◌∷◌, [], length, map, IfOk, OnOk};
 ghost use mathlib.Core.List.{IsPrefix};
 ghost use Rattle.board.specs.Editions.{IsLastOf, Looks, edition, history, published};
-ghost use Rattle.query.specs.Plans.{IsPlanOf};
-ghost use Rattle.report.specs.Limits.{worker_limit};
 ghost use Rattle.report.specs.Waiting.{IsReportText};
 ghost use Rattle.report.specs.Watching.{GoUpTo, HasWatched, IsLastEdition, IsLastShot, IsOf, IsShot, up_to as up_to_last};
 
@@ -46,8 +44,7 @@ impl<H: KeyHash<Cell>> Model for Watcher<H> {
     ghost use Rattle.std.specs.Coded.{codes};
     ghost use Rattle.board.specs.Editions.{coded_known};
     ghost use Rattle.query.specs.Codes.{coded_predicate};
-    ghost use Rattle.query.specs.Plans.{IsPlanOf};
-    ghost use Rattle.report.specs.Watching.{AreShots, Watching};
+        ghost use Rattle.report.specs.Watching.{AreShots, Watching};
 
     ghost Value = { Watching };
 
@@ -55,7 +52,7 @@ impl<H: KeyHash<Cell>> Model for Watcher<H> {
 
     ghost view = { λ w. record { viewer = w.viewer; plan = w.plan; shots = w.shots.items } };
 
-    ghost invariant = { λ w. IsPlanOf w.viewer.schema w.plan × AreShots w.viewer.history w.plan 0 w.shots.items };
+    ghost invariant = { λ w. AreShots w.viewer.history w.plan 0 w.shots.items };
 }
 
 impl<'a, R: Threads + Wait, G: Gate> Answering<'a, R, G> {
@@ -65,8 +62,6 @@ impl<'a, R: Threads + Wait, G: Gate> Answering<'a, R, G> {
         snapshot: &Snapshot<H>,
         plan: &Plan,
     ) -> Result<Shot, Want>
-        requires planned { IsPlanOf snapshot.now.schema plan.now }
-        requires workers { 1 ≤ self.now.workers × (self.now.workers ≤ worker_limit) }
         ensures edition { IfOk result (λ shot. shot.edition ≡ snapshot.now.number) }
         ensures text { IfOk result (λ shot. IsReportText snapshot.now.rows plan.now shot.text) }
     {
@@ -81,7 +76,6 @@ impl<'a, R: Threads + Wait, G: Gate> Answering<'a, R, G> {
 impl<H: KeyHash<Cell>> Watcher<H> {
     /// The viewer before its first report. It takes no memory.
     pub(crate) fn new(alloc: Global, viewer: Viewer<H>, plan: Plan) -> Watcher<H>
-        requires { IsPlanOf viewer.schema plan }
         ensures { result ≡ record { viewer = viewer; plan = plan; shots = [] } }
     {
         Watcher {
@@ -100,7 +94,6 @@ impl<H: KeyHash<Cell> + KeyHash<Tuple> + Send + Sync> Watcher<H> {
         number: u64,
         count: u64,
     ) -> Result<Watcher<H>, Want>
-        requires workers { 1 ≤ answering.now.workers × (answering.now.workers ≤ worker_limit) }
         ensures { IfOk result (HasWatched (record { before = self; count = count })) }
     {
         let mut watcher = self;
@@ -115,7 +108,6 @@ impl<H: KeyHash<Cell> + KeyHash<Tuple> + Send + Sync> Watcher<H> {
         number: u64,
         count: u64,
     ) -> Result<(), Want>
-        requires workers { 1 ≤ answering.now.workers × (answering.now.workers ≤ worker_limit) }
         ensures { OnOk result (HasWatched (record { before = self.old; count = count }) self.new) }
     {
         for _ in 0..count {
@@ -130,7 +122,6 @@ impl<H: KeyHash<Cell> + KeyHash<Tuple> + Send + Sync> Watcher<H> {
         answering: &Answering<'_, R, G>,
         number: u64,
     ) -> Result<(), Want>
-        requires workers { 1 ≤ answering.now.workers × (answering.now.workers ≤ worker_limit) }
         ensures { OnOk result (HasWatched (record { before = self.old; count = 1 }) self.new) }
     {
         let shot = look(answering, &mut self.viewer, &self.plan, number)?;
@@ -149,7 +140,6 @@ impl<H: KeyHash<Cell> + KeyHash<Tuple> + Send + Sync> Watcher<H> {
         keeper: &mut Keeper<H>,
     ) -> Result<Vec<Shot>, Want>
         requires own { IsOf keeper.old self.viewer }
-        requires workers { 1 ≤ answering.now.workers × (answering.now.workers ≤ worker_limit) }
         ensures same { keeper.new ≡ keeper.old }
         ensures shots { IfOk result (λ shots. GoUpTo (history keeper.old) self.plan (edition keeper.old) 0 (length self.shots) shots.items) }
     {
@@ -172,9 +162,7 @@ fn last_look<H: KeyHash<Cell> + KeyHash<Tuple> + Send + Sync, R: Threads + Wait,
     plan: &Plan,
     keeper: &mut Keeper<H>,
 ) -> Result<Shot, Want>
-    requires planned { IsPlanOf viewer.old.schema plan.now }
     requires own { IsOf keeper.old viewer.old }
-    requires workers { 1 ≤ answering.now.workers × (answering.now.workers ≤ worker_limit) }
     ensures same { keeper.new ≡ keeper.old }
     ensures learnt { IsPrefix viewer.old.history viewer.new.history × IsPrefix (history keeper.old) viewer.new.history }
     ensures last { IfOk result (IsLastShot keeper.old plan.now) }
@@ -190,8 +178,6 @@ fn look<H: KeyHash<Cell> + KeyHash<Tuple> + Send + Sync, R: Threads + Wait, G: G
     plan: &Plan,
     number: u64,
 ) -> Result<Shot, Want>
-    requires planned { IsPlanOf viewer.old.schema plan.now }
-    requires workers { 1 ≤ answering.now.workers × (answering.now.workers ≤ worker_limit) }
     ensures looks { Looks viewer.old viewer.new }
     ensures shot { IfOk result (λ shot. IsShot viewer.new.history plan.now shot × (length viewer.new.history ≡ shot.edition + 1)) }
 {
