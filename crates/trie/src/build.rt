@@ -67,12 +67,9 @@ pub fn with_owners<K: Drop, V: Drop>(
     ensures { IfOk result (λ v. map bare v.items ≡ pairs.items) }
 {
     let mut owned = Vec::with_capacity(alloc, pairs.len())?;
-    for one in pairs {
-        let pair = Arc::new(alloc, one.pair)?;
-        owned.push(Hashed {
-            hash: one.hash,
-            pair,
-        })?;
+    for Hashed { hash, pair } in pairs {
+        let pair = Arc::new(alloc, pair)?;
+        owned.push(Hashed { hash, pair })?;
     }
     Ok(owned)
 }

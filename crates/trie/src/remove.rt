@@ -8,7 +8,7 @@ ghost use Rattle.trie.specs.Tree.{IsPlace};
 
 use crate::bucket::without;
 use crate::digits::HashPrefix;
-use crate::node::{Inner, Node, Place, Seen, Unmade, make, shared_children, step, with_place};
+use crate::node::{Inner, Place, Seen, Unmade, View, copied_with, make, step, view_of};
 use crate::ticks::Ticks;
 use cells::KeyHash;
 use std::alloc::{AllocError, Global};
@@ -40,34 +40,28 @@ pub fn remove_at<K: Ord + Drop, V: Drop, H: KeyHash<K>>(
     ensures counted { ticks.new + at.depth ≤ ticks.old + (digit_count + 1) }
     ensures grows { ticks.old ≤ ticks.new }
 {
-    let Some(node) = place else {
-        return Ok(Removed::Missing);
-    };
-    match node {
-        Node::Leaf(pair) => {
+    match view_of(place) {
+        View::Empty => Ok(Removed::Missing),
+        View::Leaf(pair) => {
             if key.cmp(&pair.0).is_eq() {
                 Ok(Removed::Left(None))
             } else {
                 Ok(Removed::Missing)
             }
         }
-        Node::Inner(inner) => match &**inner {
-            Inner::Bucket(pairs) => remove_from_bucket::<K, V, H>(alloc, pairs, key, at, ticks),
-            Inner::Branch {
-                bitmap,
-                children,
-                ..
-            } => {
-                let (child, below) = step::<K, V, H>(*bitmap, children, at);
-                let Removed::Left(rest) = remove_at::<K, V, H>(alloc, child, key, below, ticks)?
-                else {
-                    return Ok(Removed::Missing);
-                };
-                let children = shared_children(alloc, children)?;
-                let node = with_place::<K, V, H>(alloc, *bitmap, children, rest, at, ticks)?;
-                Ok(Removed::Left(Some(node)))
-            }
-        },
+        View::Bucket(pairs) => remove_from_bucket::<K, V, H>(alloc, pairs, key, at, ticks),
+        View::Branch {
+            bitmap,
+            children,
+            ..
+        } => {
+            let (child, below) = step::<K, V, H>(bitmap, children, at);
+            let Removed::Left(rest) = remove_at::<K, V, H>(alloc, child, key, below, ticks)? else {
+                return Ok(Removed::Missing);
+            };
+            let node = copied_with::<K, V, H>(alloc, bitmap, children, rest, at, ticks)?;
+            Ok(Removed::Left(Some(node)))
+        }
     }
 }
 
