@@ -146,6 +146,11 @@ module _ {K V : Type 0} (hash : K → ℕ) (cmp : K → K → Ordering) where
       × (flat_map entries_in (places_in bitmap children.items) ≡ entries_in place)
       × IsDense bitmap (length children.items)
 
+  -- these entries are left
+  abbrev pub IsLeft : HashPrefix → List (K × V) → Removed K V → Type 0
+  IsLeft at held Missing = ⊥
+  IsLeft at held (Left place) = Holds (prefix_of at) held (node_of place)
+
   -- the key is not there, or this is what is left without it
   abbrev pub IsRemoved : HashPrefix → K → List (K × V) → Removed K V → Type 0
   IsRemoved at key held Missing = without_key (digit_order hash cmp) key held ≡ held

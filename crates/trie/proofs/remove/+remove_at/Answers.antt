@@ -1,12 +1,12 @@
 use Rattle.std.proofs.Common.{◌≡◌, ◌<◌, ◌^◌, true, [], ◌∷◌, length, ap, ◌∙◌, arith, rules}
-use Rattle.std.proofs.lemmas.Result.{err_from_is_err_and}
+use Rattle.std.proofs.lemmas.Result.{IfOk-weaker, err_from_is_err_and}
 use Rattle.std.specs.Ordering.{is_eq}
 use Rattle.trie.specs.Holding.{seen_in}
 use Rattle.trie.specs.Tree.{entries_in}
 use Rattle.trie.proofs.CountLemmas.{counts_above, counts_below}
 use Rattle.trie.proofs.OrderLemmas.{same_hash, value_at-order, without_key-order}
 use Rattle.trie.proofs.PlacesLemmas.{value_at-below, without_key-below, without_key-bounds, without_key-missing}
-use Rattle.trie.proofs.RemoveLemmas.{value_alone}
+use Rattle.trie.proofs.RemoveLemmas.{left_without, value_alone}
 use Rattle.trie.proofs.VariantsLemmas.{branch_dense, branch_in, leaf_in}
 use Rattle.trie.proofs.remove.+remove_at.Goals as goal
 
@@ -15,8 +15,8 @@ step-requires-clause-dense g t c =
     branch_dense g.H.KeyHash.hash_of g.K.Ord.cmp _ _ _ _ _
     c.in-Branch.ensures c.requires.placed
 
-pub copied_with-requires-clause-dense : goal.copied_with-requires-clause-dense
-copied_with-requires-clause-dense g t c =
+pub left_with-requires-clause-dense : goal.left_with-requires-clause-dense
+left_with-requires-clause-dense g t c =
     branch_dense g.H.KeyHash.hash_of g.K.Ord.cmp _ _ _ _ _ c.in-Branch.ensures c.requires.placed
 
 pub step-requires-clause-places : goal.step-requires-clause-places
@@ -42,12 +42,12 @@ returns-in_default-clause-map g t c =
     (without_key-missing g.H.KeyHash.hash_of g.K.Ord.cmp _ _ c.args.at.within _ branch.places_are c.args.key.now
     c.requires.hashed _ c.step.ensures.place (rw c.in_default.is at c.in_ok-rest-in-Branch.ensures.map))
 
-pub copied_with-requires-clause-places : goal.copied_with-requires-clause-places
-copied_with-requires-clause-places g t c =
+pub left_with-requires-clause-places : goal.left_with-requires-clause-places
+left_with-requires-clause-places g t c =
     (branch_in g.H.KeyHash.hash_of g.K.Ord.cmp _ _ _ _ _ c.in-Branch.ensures c.requires.placed).places_are
 
-pub copied_with-requires-clause-some : goal.copied_with-requires-clause-some
-copied_with-requires-clause-some g t c =
+pub left_with-requires-clause-some : goal.left_with-requires-clause-some
+left_with-requires-clause-some g t c =
     let branch =
     branch_in g.H.KeyHash.hash_of g.K.Ord.cmp _ _ _ _ _
     c.in-Branch.ensures c.requires.placed in
@@ -57,8 +57,8 @@ copied_with-requires-clause-some g t c =
     c.requires.hashed _ c.step.ensures.place _ rest.entries_are in
     omega (arith, branch.many, bounds.1)
 
-pub copied_with-requires-clause-fits : goal.copied_with-requires-clause-fits
-copied_with-requires-clause-fits g t c =
+pub left_with-requires-clause-fits : goal.left_with-requires-clause-fits
+left_with-requires-clause-fits g t c =
     let branch =
     branch_in g.H.KeyHash.hash_of g.K.Ord.cmp _ _ _ _ _
     c.in-Branch.ensures c.requires.placed in
@@ -78,16 +78,15 @@ returns-then-is_eq-clause-map g t c =
     g.met.H.KeyHash.respects_eq in
     record { placed = tt; entries_are = rw (leaf.entries_are, without_key-order g.H.KeyHash.hash_of g.K.Ord.cmp same c.args.key.now (c.in-Leaf.pair.now.value ∷ [])) (search rules) }
 
-pub returns-in_ok-node-in-Branch-clause-map : goal.returns-in_ok-node-in-Branch-clause-map
-returns-in_ok-node-in-Branch-clause-map g t c =
-    let branch =
-    branch_in g.H.KeyHash.hash_of g.K.Ord.cmp _ _ _ _ _
-    c.in-Branch.ensures c.requires.placed in
+pub returns-in-Left-clause-map : goal.returns-in-Left-clause-map
+returns-in-Left-clause-map g t c =
+    let branch = branch_in g.H.KeyHash.hash_of g.K.Ord.cmp _ _ _ _ _ c.in-Branch.ensures c.requires.placed in
     let rest = rw c.in-Left.is at c.in_ok-rest-in-Branch.ensures.map in
     let whole =
     without_key-below g.H.KeyHash.hash_of g.K.Ord.cmp _ _ c.args.at.within _ branch.places_are c.args.key.now
     c.requires.hashed _ c.step.ensures.place _ rest.entries_are in
-    rw (branch.entries_are, ← whole) c.in_ok-node-in-Branch.ensures.held
+    IfOk-weaker c.left_with.result _ _
+    (λ r left. rw branch.entries_are (left_without g.H.KeyHash.hash_of g.K.Ord.cmp c.args.at c.args.key.now _ _ r whole left)) c.left_with.ensures.left
 
 pub returns-in_err-rest-in-Branch-clause-missed : goal.returns-in_err-rest-in-Branch-clause-missed
 returns-in_err-rest-in-Branch-clause-missed g t c = λ none.
@@ -111,18 +110,8 @@ returns-in_default-clause-missed g t c = λ none.
     c.requires.hashed _ c.step.ensures.place in
     (rw c.in_default.is at c.in_ok-rest-in-Branch.ensures.missed) (below ∙ rw branch.entries_are at none)
 
-pub returns-in_err-node-in-Branch-clause-missed : goal.returns-in_err-node-in-Branch-clause-missed
-returns-in_err-node-in-Branch-clause-missed g t c = λ none.
-    let branch =
-    branch_in g.H.KeyHash.hash_of g.K.Ord.cmp _ _ _ _ _
-    c.in-Branch.ensures c.requires.placed in
-    let below =
-    value_at-below g.H.KeyHash.hash_of g.K.Ord.cmp _ _ c.args.at.within _ branch.places_are c.args.key.now
-    c.requires.hashed _ c.step.ensures.place in
-    absurd ((rw c.in-Left.is at c.in_ok-rest-in-Branch.ensures.missed) (below ∙ rw branch.entries_are at none))
-
-pub returns-in_ok-node-in-Branch-clause-missed : goal.returns-in_ok-node-in-Branch-clause-missed
-returns-in_ok-node-in-Branch-clause-missed g t c = λ none.
+pub returns-in-Left-clause-missed : goal.returns-in-Left-clause-missed
+returns-in-Left-clause-missed g t c = λ none.
     let branch =
     branch_in g.H.KeyHash.hash_of g.K.Ord.cmp _ _ _ _ _
     c.in-Branch.ensures c.requires.placed in
@@ -143,8 +132,8 @@ returns-then-is_eq-clause-missed g t c = λ none.
     let found : is_eq (g.K.Ord.cmp c.args.key.now c.in-Leaf.pair.now.value.0) ≡ true = search rules in
     value_alone (λ k. is_eq (g.K.Ord.cmp c.args.key.now k)) c.in-Leaf.pair.now.value found here
 
-pub copied_with-requires-clause-placed : goal.copied_with-requires-clause-placed
-copied_with-requires-clause-placed g t c =
+pub left_with-requires-clause-placed : goal.left_with-requires-clause-placed
+left_with-requires-clause-placed g t c =
     let rest = rw c.in-Left.is at c.in_ok-rest-in-Branch.ensures.map in
     rw (c.step.ensures.hash, c.step.ensures.depth) at rest.placed
 
@@ -154,10 +143,6 @@ returns-in_err-rest-in-Branch-clause-counted g t c = counts_below _ _ _ _ c.step
 pub returns-in_default-clause-counted : goal.returns-in_default-clause-counted
 returns-in_default-clause-counted g t c = counts_below _ _ _ _ c.step.ensures.depth c.remove_at.ensures.counted
 
-pub returns-in_err-node-in-Branch-clause-counted : goal.returns-in_err-node-in-Branch-clause-counted
-returns-in_err-node-in-Branch-clause-counted g t c =
-    counts_above _ _ _ _ _ c.step.ensures.depth c.remove_at.ensures.counted c.copied_with.ensures.counted
-
-pub returns-in_ok-node-in-Branch-clause-counted : goal.returns-in_ok-node-in-Branch-clause-counted
-returns-in_ok-node-in-Branch-clause-counted g t c =
-    counts_above _ _ _ _ _ c.step.ensures.depth c.remove_at.ensures.counted c.copied_with.ensures.counted
+pub returns-in-Left-clause-counted : goal.returns-in-Left-clause-counted
+returns-in-Left-clause-counted g t c =
+    counts_above _ _ _ _ _ c.step.ensures.depth c.remove_at.ensures.counted c.left_with.ensures.counted
