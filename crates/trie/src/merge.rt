@@ -13,7 +13,8 @@ use crate::digits::{Bitmap, HashPrefix, PLACES};
 use crate::lay::{blended_pair, lay_at};
 use crate::meeting::{Meeting, how_they_meet};
 use crate::node::{
-    Inner, Node, Place, Seen, Unmade, branch_of, child_at, either_has, grown, make, room_for, shared,
+    Inner, Node, Place, Seen, Unmade, branch_of, child_at, either_has, grown, make, room_for,
+    shared,
 };
 use crate::ticks::Ticks;
 use cells::KeyHash;
@@ -173,9 +174,7 @@ pub fn merge_at<K: Ord + Clone + Drop, V: Drop, H: KeyHash<K>, B: Blend<V>>(
             place,
             pair,
             is_first,
-        } => {
-            leaf_over::<K, V, H, B>(alloc, place, pair, is_first, blend, depth, ticks)
-        }
+        } => { leaf_over::<K, V, H, B>(alloc, place, pair, is_first, blend, depth, ticks) }
         Meeting::Buckets(pairs, more) => {
             bucket_of_both::<K, V, H, B>(alloc, pairs, more, blend, ticks)
         }

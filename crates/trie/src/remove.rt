@@ -9,9 +9,7 @@ ghost use Rattle.trie.specs.Tree.{IsPlace};
 
 use crate::bucket::without;
 use crate::digits::{Bitmap, HashPrefix};
-use crate::node::{
-    Inner, Node, Place, Seen, Unmade, View, copied_with, make, step, view_of,
-};
+use crate::node::{Inner, Node, Place, Seen, Unmade, View, copied_with, make, step, view_of};
 use crate::ticks::Ticks;
 use cells::KeyHash;
 use std::alloc::{AllocError, Global};

@@ -1,4 +1,4 @@
-use Rattle.std.proofs.Common.{◌<◌, ◌≡◌, [], ◌∷◌, ap, sym, ◌∙◌, rules, refl, replicate, None}
+use Rattle.std.proofs.Common.{◌<◌, ◌≡◌, [], ◌∷◌, ap, ◌∙◌, rules, refl, replicate, None}
 use Rattle.trie.specs.Digits.{digit_count, place_count}
 use Rattle.trie.specs.Dense.{places_of}
 use Rattle.trie.specs.Nodes.{Node, values}
