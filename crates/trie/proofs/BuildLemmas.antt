@@ -1,13 +1,13 @@
 -- The nodes that are made of a list of pairs.
-use Rattle.std.proofs.Common.{◌≡◌, ◌==◌, ℕ, ◌+◌, ◌-◌, ◌^◌, ◌<◌, ◌≤◌, Bool, true, false, cond, Option, Some, None, Vec, List, [], ◌∷◌, ◌++◌, length, map, get_or, zero, suc, refl, sym, ap, ◌∙◌, subst, arith, length-append, set, sum_by, inl, inr}
+use Rattle.std.proofs.Common.{◌≡◌, ◌==◌, ℕ, ◌+◌, ◌-◌, ◌^◌, ◌<◌, ◌≤◌, Bool, true, false, cond, Option, Some, None, Vec, List, [], ◌∷◌, ◌++◌, length, map, get_or, zero, suc, refl, sym, ap, ◌∙◌, subst, arith, length-append, sum_by}
 use Rattle.std.specs.Prelude.{◌&&◌, slice_get}
 use Rattle.std.specs.List.{AllByRecursion, filter, flat_map, fold, list_all}
-use Rattle.std.specs.Ordering.{eq_by_cmp, is_eq}
+use Rattle.std.specs.Ordering.{is_eq}
 use Rattle.std.specs.declared.alloc.Global.{Global}
 use Rattle.std.specs.declared.cmp.Ordering.{Ordering}
 use Rattle.std.specs.declared.cmp.Ordering.TheVariants.{Equal}
 use Rattle.std.specs.declared.sync.Arc.{Arc}
-use Rattle.std.proofs.lemmas.Bool.{and_from, cases_lt, eq-eqb, eqb-false, eqb-true, false_from_ne_true}
+use Rattle.std.proofs.lemmas.Bool.{and_from, eq-eqb, eqb-true}
 use Rattle.std.proofs.lemmas.Cmp.{alike_right, tied_itself}
 use Rattle.std.proofs.lemmas.List.{get_or-map, length-map}
 use Rattle.std.proofs.lemmas.List.Elements.{All-from_recursion, All-head, All-tail}
@@ -18,7 +18,7 @@ use Rattle.trie.specs.Digits.{digit, digit_count, digit_order, digits, first_dig
 use Rattle.trie.specs.Entries.{entry_at, with_pair, with_pairs}
 use Rattle.trie.specs.Holding.{ArePlaces, Holds, IsTrie, node_len, pairs_of}
 use Rattle.trie.specs.Nodes.{Branch, Bucket, Child, Leaf, Node, values}
-use Rattle.trie.specs.Tree.{entries_in, IsNode, IsPlace, StartsWith}
+use Rattle.trie.specs.Tree.{entries_in, IsNode, StartsWith}
 use Rattle.trie.specs.declared.build.Hashed.{Hashed}
 use Rattle.trie.proofs.DenseLemmas.{length-places_of}
 use Rattle.trie.proofs.DigitsLemmas.{get_or-digits, length-digits, starts_with-next}
@@ -26,7 +26,7 @@ use Rattle.trie.proofs.EntriesLemmas.{with_pair-all}
 use Rattle.trie.proofs.ListsLemmas.{all-unmap, all-weaken}
 use Rattle.trie.proofs.MapRisingLemmas.{places_rise}
 use Rattle.trie.proofs.MapsLemmas.{digit_total, HaveHashes, is_Equal}
-use Rattle.trie.proofs.MeetLemmas.{children_each, read_other, read_written, starts_is}
+use Rattle.trie.proofs.MeetLemmas.{children_each, starts_is}
 use Rattle.trie.proofs.NodesLemmas.{branch_holds, total_lens}
 use Rattle.trie.proofs.OrderLemmas.{order_agrees, with_pair-order}
 use Rattle.trie.proofs.PairsLemmas.{alike_pairs, found_kept, last_stands, same_by_entries, with_pairs-all, with_pairs-most, with_pairs-some, with_pairs-sorted}

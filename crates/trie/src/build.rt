@@ -67,12 +67,9 @@ pub fn with_owners<K: Drop, V: Drop>(
     ensures { IfOk result (λ v. map bare v.items ≡ pairs.items) }
 {
     let mut owned = Vec::with_capacity(alloc, pairs.len())?;
-    for one in pairs {
-        let pair = Arc::new(alloc, one.pair)?;
-        owned.push(Hashed {
-            hash: one.hash,
-            pair,
-        })?;
+    for Hashed { hash, pair } in pairs {
+        let pair = Arc::new(alloc, pair)?;
+        owned.push(Hashed { hash, pair })?;
     }
     Ok(owned)
 }
@@ -128,7 +125,8 @@ fn end_of<P>(pairs: &[Hashed<P>], place: u32, most: usize) -> usize
     pairs.partition_point(|one| digit_at(one.hash, place) <= most)
 }
 
-/// The pairs that have the digit of the first one in a place where digits do not fall, and the rest; None where there is no pair.
+/// The pairs that have the digit of the first one in a place where digits do not fall, and the rest; None where there is
+/// no pair.
 fn next_run<P>(pairs: &[Hashed<P>], place: u32) -> Option<Run<'_, P>>
     requires place { place < digit_count }
     requires rise { IsNonDecreasingBy (λ one. digit one.hash place) pairs.now }
@@ -147,9 +145,9 @@ fn uncounted<K: Drop, V: Drop>(alloc: Global, node: Unmade<K, V>) -> Result<Plac
     Ok(Some(make(alloc, node, &mut Ticks::new())?))
 }
 
-/// The place of a prefix of this depth with these pairs, in the order of their digits, of pairs of one key the last. Each node is
-/// made once: none for no pair, a leaf for one key, a bucket where no digit is left, and else a branch, with a child for each run of pairs
-/// that have one next digit.
+/// The place of a prefix of this depth with these pairs, which stand in the order of their digits: of pairs of one key
+/// the last. Each node is made once: none for no pair, a leaf for one key, a bucket where no digit is left, and else a
+/// branch, with a child for each run of pairs that have one next digit.
 pub fn place_of<K: Ord + Drop, V: Drop, H: KeyHash<K>>(
     alloc: Global,
     pairs: &[Hashed<Arc<(K, V)>>],

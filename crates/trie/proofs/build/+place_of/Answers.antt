@@ -7,7 +7,7 @@ use Rattle.trie.specs.Nodes.{node_of, values}
 use Rattle.trie.proofs.BuildLemmas.{branch_fits, branch_made, bucket_made, leaf_made, more_keys, part_below}
 use Rattle.trie.proofs.DenseLemmas.{length-places_of, none_dense}
 use Rattle.trie.proofs.MapsLemmas.{hashes}
-use Rattle.trie.proofs.RunsLemmas.{begun_all, begun_more, begun_none, digits_rise, fewer_left, rest_below, run_before, run_kept}
+use Rattle.trie.proofs.RunsLemmas.{begun_all, begun_more, begun_none, digits_rise, rest_below, run_before, run_kept}
 use Rattle.trie.proofs.build.+place_of.Goals as goal
 
 pub returns-then-have_key_of : goal.returns-then-have_key_of

@@ -1,4 +1,4 @@
-use Rattle.std.proofs.Common.{leb, leb-true, leb-false, arith, rules}
+use Rattle.std.proofs.Common.{leb, leb-true, leb-false, rules}
 use Rattle.std.proofs.lemmas.List.Sorted.{IsPartitionPoint-from_clause, IsPartitionedBy-leb}
 use Rattle.trie.specs.Digits.{digit}
 use Rattle.trie.proofs.build.end_of.Goals as goal

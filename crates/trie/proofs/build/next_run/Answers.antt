@@ -1,4 +1,3 @@
-use Rattle.std.proofs.Common.{rules}
 use Rattle.trie.proofs.RunsLemmas.{run_made}
 use Rattle.trie.proofs.build.next_run.Goals as goal
 

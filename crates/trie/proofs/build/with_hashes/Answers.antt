@@ -1,7 +1,15 @@
 use Rattle.std.proofs.Common.{◌≡◌, ◌<◌, ◌^◌, arith}
 use Rattle.std.proofs.lemmas.Grind.{common_steps}
-use Rattle.std.proofs.lemmas.List.Elements.{All-push}
+use Rattle.std.proofs.lemmas.List.Elements.{All-nil, All-push}
 use Rattle.trie.proofs.build.with_hashes.Goals as goal
+
+pub loop-pair-init : goal.loop-pair-init
+loop-pair-init g c =
+    rw c.in_ok-hashed.ensures.items (record {
+      pairs = c.into_iter-pair-iterator.ensures.into_iter_gives.0;
+      hashed = All-nil (λ one. one.hash ≡ g.H.KeyHash.hash_of one.pair.0);
+      small = All-nil (λ one. one.hash < 2 ^ 64);
+    })
 
 pub loop-pair-preserved : goal.loop-pair-preserved
 loop-pair-preserved g c =
