@@ -5,6 +5,9 @@ import pathlib
 import re
 
 TOP = pathlib.Path(__file__).resolve().parent.parent
+PROGRAM = "olap"
+# Where the build of a crate keeps what the checker said, in the crate's folder `out`.
+LOG = "build.log"
 # What a check of one crate is likely to take at most, in bytes.
 MEMORY = 3_500_000_000
 
@@ -31,8 +34,20 @@ def crates():
     return below
 
 
+def of_program():
+    """The crates that the program stands on, lowest first, and the program."""
+    below = crates()
+    return [it for it in below if it == PROGRAM or it in below[PROGRAM]]
+
+
 def is_program(name):
     return (TOP / "crates" / name / "src/main.rt").is_file()
+
+
+def size(name):
+    """How many bytes of sources, definitions and proofs a crate has."""
+    folders = (TOP / "crates" / name / it for it in ("src", "specs", "proofs"))
+    return sum(it.stat().st_size for folder in folders for it in folder.rglob("*") if it.is_file())
 
 
 def lanes():

@@ -1,5 +1,5 @@
 -- How many rows a draft has.
-use Rattle.std.proofs.Common.{◌≡◌, ℕ, ◌+◌, ◌-◌, ◌≤◌, Bool, true, false, None, Some, refl, ◌∙◌, arith, cond}
+use Rattle.std.proofs.Common.{◌≡◌, ℕ, ◌+◌, ◌-◌, ◌≤◌, Bool, true, false, None, Some, Option, refl, ◌∙◌, arith, cond}
 use Rattle.std.specs.FinMap.{contains_key, empty, get, insert, len, len-empty, len-insert, len-remove, remove}
 use Rattle.cells.specs.CellOrder.{cell_cmp, cell_cmp-total}
 use Rattle.cells.specs.Values.{RowValue}
@@ -31,3 +31,11 @@ len_over old key row there e = len-insert cell_cmp-total old key row ∙ rw e re
 
 pub len_beside : (old : Rows) (key : Cell) (row : RowValue) → get old key ≡ None → len (insert old key row) ≡ len old + 1
 len_beside old key row e = len-insert cell_cmp-total old key row ∙ rw e refl
+
+most_by : (old : Rows) (key : Cell) (row : RowValue) (there : Option RowValue) → get old key ≡ there → len (insert old key row) ≤ len old + 1
+most_by old key row None e = omega (arith, len_beside old key row e)
+most_by old key row (Some there) e = omega (arith, len_over old key row there e)
+
+-- whatever is there, a row more at most
+pub len_most : (old : Rows) (key : Cell) (row : RowValue) → len (insert old key row) ≤ len old + 1
+len_most old key row = most_by old key row (get old key) refl

@@ -218,16 +218,17 @@ impl<H: KeyHash<Cell>> Keeper<H> {
     }
 }
 
-/// Whether a draft that keeps the limit still keeps it with a row laid over the key.
-#[tactic(auto, using(crate::proofs::EditionsLemmas::len_over, crate::proofs::EditionsLemmas::len_beside))]
+/// Whether a draft that keeps the limit still keeps it with a row laid over the key. The key is looked up only where the
+/// draft is full.
+#[tactic(auto, using(crate::proofs::EditionsLemmas::len_most, crate::proofs::EditionsLemmas::len_over, crate::proofs::EditionsLemmas::len_beside))]
 fn has_room<H: KeyHash<Cell>>(draft: &Root<H>, key: &Cell, limit: u64) -> bool
     requires { map.len draft.now ≤ limit }
     ensures { (row : RowValue) → IsTrue result ↔ (map.len (map.insert draft.now key.now row) ≤ limit) }
 {
-    match draft.get(key) {
-        Some(_) => true,
-        None => draft.len() < limit,
+    if draft.len() < limit {
+        return true;
     }
+    draft.get(key).is_some()
 }
 
 /// Whether the rows of a trie are no more than the limit.
