@@ -30,8 +30,13 @@ module _ {One H : Type 0} (plan : PlanTree) (part : ℕ → List RowValue) (all 
     firsts = it.first;
     seconds = folds;
     few = omega (
-      arith, few, kept_short (keeps plan.condition) it.done, kept_short (keeps plan.condition) it.rows, length-append it.done it.rows,
-      length-append (it.done ++ it.rows) (flat_map (flat_map part) it.shares), length_permutation _ _ it.whole,
+      arith,
+      few,
+      kept_short (keeps plan.condition) it.done,
+      kept_short (keeps plan.condition) it.rows,
+      length-append it.done it.rows,
+      length-append (it.done ++ it.rows) (flat_map (flat_map part) it.shares),
+      length_permutation _ _ it.whole,
     );
   }
 

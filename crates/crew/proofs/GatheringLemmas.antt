@@ -77,8 +77,12 @@ module _ {H : Type 0} (planned : Planned) where
         taken = kept_at planned may_take.places;
         folds = may_take.made_of;
         few = omega (
-          arith, few, kept_short (keeps planned.plan.condition) rows, share_short planned.pieces (may_take.places ++ place ∷ []) may_take.share,
-          ap (λ l. length l) (rows_at_next planned.pieces may_take.places place piece is), length-append rows (rows_of piece),
+          arith,
+          few,
+          kept_short (keeps planned.plan.condition) rows,
+          share_short planned.pieces (may_take.places ++ place ∷ []) may_take.share,
+          ap (λ l. length l) (rows_at_next planned.pieces may_take.places place piece is),
+          length-append rows (rows_of piece),
         );
       }
 

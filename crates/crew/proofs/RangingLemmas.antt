@@ -131,8 +131,12 @@ module _ {H : Type 0} (ranged : Ranged) where
     firsts = may_take.made_of.folds it.rows it.held it.counted;
     seconds = folds;
     few = omega (
-      arith, it.few, kept_short (keeps ranged.plan.condition) (ranges_rows ranged.count it.rows may_take.places), kept_short (keeps ranged.plan.condition) (range_rows ranged.count it.rows place),
-      ranges_short ranged.count it.rows it.counted (may_take.places ++ place ∷ []) may_take.share, ap (λ l. length l) (ranges_next ranged.count it.rows may_take.places place),
+      arith,
+      it.few,
+      kept_short (keeps ranged.plan.condition) (ranges_rows ranged.count it.rows may_take.places),
+      kept_short (keeps ranged.plan.condition) (range_rows ranged.count it.rows place),
+      ranges_short ranged.count it.rows it.counted (may_take.places ++ place ∷ []) may_take.share,
+      ap (λ l. length l) (ranges_next ranged.count it.rows may_take.places place),
       length-append (ranges_rows ranged.count it.rows may_take.places) (range_rows ranged.count it.rows place),
     );
   }

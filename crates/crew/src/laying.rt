@@ -17,9 +17,10 @@ use std::thread::Threads;
 use trie::Piece;
 
 /// The columns of the rows of all pieces, of which there are at most [`MAX_PIECES`](crate::MAX_PIECES), for a table of so
-/// many places, of which that of the key has no column. As many workers as the smaller of `workers`, taken as 1 at
-/// least and [`MAX_SEATS`](crate::MAX_SEATS) at most, and the number of pieces draw pieces until none are left, each in a thread of its own. The rows stand in the order in which the workers drew
-/// their pieces, which another run may change. The columns own copies of the cells.
+/// many places, of which that of the key has no column. As many workers as the smaller of `workers`, taken as 1 at least
+/// and [`MAX_SEATS`](crate::MAX_SEATS) at most, and the number of pieces draw pieces until none are left, each in a thread
+/// of its own. The rows stand in the order in which the workers drew their pieces, which another run may change. The
+/// columns own copies of the cells.
 ///
 /// [`Refused::NoWorker`] where a thread could not be started; otherwise [`Refused::OutOfMemory`] where there was no
 /// memory, here or for a worker. All threads that were started are joined before this returns, however it ends.

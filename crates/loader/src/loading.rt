@@ -32,13 +32,13 @@ use trie::Trie;
 /// [`MAX_PIECES`](crew::MAX_PIECES) places in the list, with at most [`MAX_LISTED_BYTES`](crate::MAX_LISTED_BYTES) bytes
 /// together.
 ///
-/// As many workers as the smaller of `workers`, taken as 1 at least and [`MAX_SEATS`](crew::MAX_SEATS) at most, and the number
-/// of places read the parts, each worker in a thread of its own; what is read depends neither on their number nor on which worker
-/// reads which part. The gate is told of each place before its part is read. Where no record is faulty, a trie is then made
-/// of the rows, in two runs where there are two places or more, or in as many as there are workers, if these are more. One
-/// worker makes one run after another; more of them make a run each, in threads of their own. The gate is told of the first
-/// run before it is made, as of place 0, and of the one in the middle, as of the middle of the list. This waits for all
-/// threads that it starts, however it ends.
+/// As many workers as the smaller of `workers`, taken as 1 at least and [`MAX_SEATS`](crew::MAX_SEATS) at most, and the
+/// number of places read the parts, each worker in a thread of its own; what is read depends neither on their number nor
+/// on which worker reads which part. The gate is told of each place before its part is read. Where no record is faulty, a
+/// trie is then made of the rows, in two runs where there are two places or more, or in as many as there are workers, if
+/// these are more. One worker makes one run after another; more of them make a run each, in threads of their own. The gate
+/// is told of the first run before it is made, as of place 0, and of the one in the middle, as of the middle of the list.
+/// This waits for all threads that it starts, however it ends.
 ///
 /// [`PartFault::NoWorker`] where a thread could not be started; otherwise [`PartFault::OutOfMemory`] where there was no
 /// memory, here or for a worker; otherwise [`PartFault::Bad`] where a part has a faulty record, with the first listed

@@ -27,7 +27,12 @@ module _ {H : Type 0} (plan : PlanTree) (piece : List (Cell × RowValue)) (short
   taken_more count old new now more = record {
     taken = now.taken ++ kept plan.condition (rows_of piece);
     few = omega (
-      arith, short, now.few, kept_short (keeps plan.condition) (rows_of piece), length-map piece (λ e. e.1), length-append now.taken (kept plan.condition (rows_of piece)),
+      arith,
+      short,
+      now.few,
+      kept_short (keeps plan.condition) (rows_of piece),
+      length-map piece (λ e. e.1),
+      length-append now.taken (kept plan.condition (rows_of piece)),
     );
     folds = more plan now.taken now.folds;
   }

@@ -31,7 +31,11 @@ fn is_short<H: KeyHash<Cell>>(alloc: Global, sale: &Piece<Cell, Row, H>) -> Resu
 }
 
 /// How many groups there are when the sale was taken a thousand times; of a longer piece none is taken.
-fn groups_of(alloc: Global, plan: &Plan, sale: &Piece<Cell, Row, Plain>) -> Result<u128, AllocError> {
+fn groups_of(
+    alloc: Global,
+    plan: &Plan,
+    sale: &Piece<Cell, Row, Plain>,
+) -> Result<u128, AllocError> {
     let mut folding = Folding::new(alloc, plan)?;
     if is_short(alloc, sale)? {
         for _i in 0..1_000u64 {
@@ -41,15 +45,29 @@ fn groups_of(alloc: Global, plan: &Plan, sale: &Piece<Cell, Row, Plain>) -> Resu
     Ok(folding.groups())
 }
 
+/// The plan of the query.
+fn planned(alloc: Global, schema: &Schema) -> Result<Plan, Refused> {
+    let query = read(alloc, QUERY)?;
+    check(alloc, query, schema)
+}
+
+/// How many groups the query has when the sale was taken a thousand times.
+fn counted(
+    alloc: Global,
+    schema: &Schema,
+    sale: &Piece<Cell, Row, Plain>,
+) -> Result<u128, Refused> {
+    let plan = planned(alloc, schema)?;
+    Ok(groups_of(alloc, &plan, sale)?)
+}
+
 #[test]
 fn a_thousand_rows_of_one_region_are_one_group(rt: HostRuntime) -> Result<(), Fail> {
     let schema = Schema::read(rt.alloc(), TABLE)?;
-    let query = read(rt.alloc(), QUERY)?;
-    let plan = check(rt.alloc(), query, &schema)?;
     let sales = one_sale(rt.alloc(), &schema)?;
     assert_eq!(rt; sales.len(), 1);
     for sale in &sales {
-        assert_eq!(rt; groups_of(rt.alloc(), &plan, sale)?, 1);
+        assert_eq!(rt; counted(rt.alloc(), &schema, sale)?, 1);
     }
     Ok(())
 }
@@ -105,8 +123,7 @@ fn report_of_two<H: KeyHash<Cell> + KeyHash<Tuple>>(
     alloc: Global,
     plan: &Plan,
     sale: &Piece<Cell, Row, H>,
-) -> Result<Vec<ReportRow>, AllocError>
-{
+) -> Result<Vec<ReportRow>, AllocError> {
     if !is_short(alloc, sale)? {
         return Ok(Vec::new(alloc));
     }
@@ -123,16 +140,25 @@ fn counts_two(rows: &[ReportRow]) -> bool {
     }
 }
 
+/// Whether the report of the sale, which is taken twice, has one row that counts two.
+fn are_two(
+    alloc: Global,
+    schema: &Schema,
+    sale: &Piece<Cell, Row, Plain>,
+) -> Result<bool, Refused> {
+    let plan = planned(alloc, schema)?;
+    let rows = report_of_two(alloc, &plan, sale)?;
+    Ok(counts_two(rows.as_slice()))
+}
+
 /// Run with each allocation refused in turn, too: what is folded, joined and finished again gives what it would have given.
 #[test]
 fn partial_results_behind_a_refusal(rt: HostRuntime) -> Result<(), Fail> {
     let schema = Schema::read(rt.alloc(), TABLE)?;
-    let query = read(rt.alloc(), QUERY)?;
-    let plan = check(rt.alloc(), query, &schema)?;
     let sales = one_sale(rt.alloc(), &schema)?;
     assert_eq!(rt; sales.len(), 1);
     for sale in &sales {
-        assert!(rt; counts_two(report_of_two(rt.alloc(), &plan, sale)?.as_slice()));
+        assert!(rt; are_two(rt.alloc(), &schema, sale)?);
     }
     Ok(())
 }

@@ -138,8 +138,7 @@ fn visited<G: Gate, R: Threads + Wait>(
     workers: u64,
     refused_at: u64,
 ) -> Result<(u64, usize), Refused>
-    requires count { count ≤ piece_limit }
-    requires workers { (1 ≤ workers) × (workers ≤ seat_limit) }
+    requires { count ≤ piece_limit }
 {
     let visits = Visits {
         count,
