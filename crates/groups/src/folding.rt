@@ -49,8 +49,9 @@ impl<'a, H: KeyHash<Cell> + KeyHash<Tuple>> Folding<'a, H> {
         })
     }
 
-    /// Takes the rows of the piece for which the plan's WHERE is true, behind those that are there. All of them together are
-    /// at most 4,294,967,296. A row whose group is there takes memory only for what accumulators keep of it. After an error nothing is known of the rows, and the folding is to be dropped.
+    /// Takes the rows of the piece for which the plan's WHERE is true, behind those that are there. All of them together
+    /// are at most 4,294,967,296. A row whose group is there takes memory only for what accumulators keep of it. After an
+    /// error nothing is known of the rows, and the folding is to be dropped.
     pub fn take(&mut self, alloc: Global, piece: &Piece<Cell, Row, H>) -> Result<(), AllocError>
         requires { MayTakeMore self.old (rows_of piece.now) }
         ensures { (plan : PlanTree) (rows : List RowValue) → Folds plan rows self.old →
@@ -65,9 +66,9 @@ impl<'a, H: KeyHash<Cell> + KeyHash<Tuple>> Folding<'a, H> {
         Ok(())
     }
 
-    /// The folding of those rows for which the plan's WHERE is true, of `count` rows from the place `first` on whose columns
-    /// are at hand. None where a column that the plan needs was left out, or groups are too many for a table: then the rows are to be folded piece by piece. The only error is that a growth
-    /// was refused.
+    /// The folding of those rows for which the plan's WHERE is true, of `count` rows from the place `first` on whose
+    /// columns are at hand. None where a column that the plan needs was left out, or groups are too many for a table: then
+    /// the rows are to be folded piece by piece. The only error is that a growth was refused.
     pub fn of_rows(
         alloc: Global,
         plan: &'a Plan,
