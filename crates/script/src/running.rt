@@ -54,17 +54,18 @@ use std::thread::{self, Threads};
 ///
 /// What the table holds at the end is given back.
 pub fn run<
+    'a,
     H: KeyHash<Cell> + KeyHash<Tuple> + Send + Sync,
     O: Out,
     G: Gate,
     R: Threads + Wait + Sync,
 >(
-    rt: &R,
+    rt: &'a R,
     alloc: Global,
     script: &[u8],
-    parts: &[Vec<u8>],
-    how: &How,
-    gate: &G,
+    parts: &'a [Vec<u8>],
+    how: &'a How,
+    gate: &'a G,
     out: &mut O,
 ) -> Result<(), Ended>
     requires { O.faults out.old + 1 < 2 ^ 64 }
@@ -97,20 +98,21 @@ pub fn run<
 /// threads are joined before this returns, however the run ends. The gate is told of each snapshot of a viewer by the
 /// viewer's thread, and of all else as by [`run`].
 pub fn live<
+    'a,
     H: KeyHash<Cell> + KeyHash<Tuple> + Send + Sync,
     O: Out,
     G: Gate,
     R: Threads + Wait + Sync,
 >(
-    rt: &R,
+    rt: &'a R,
     alloc: Global,
     script: &[u8],
-    parts: &[Vec<u8>],
-    how: &How,
+    parts: &'a [Vec<u8>],
+    how: &'a How,
     viewers: u64,
     shots: u64,
-    query: &str,
-    gate: &G,
+    query: &'a str,
+    gate: &'a G,
     out: &mut O,
 ) -> Result<(), Ended>
     requires { O.faults out.old + 1 < 2 ^ 64 }
