@@ -10,12 +10,12 @@ ghost use Rattle.olap.specs.Jobs.{IsHelp};
 ghost use Rattle.olap.specs.Programs.{AskForHelp, AskToWrite, IsOutputOf, IsOutputOfJob};
 
 use crate::close::{NOTHING_RUN, WRITTEN, close_run};
-use crate::input::{Folder, read_input};
+use crate::input::{Folder, Input, read_input};
 use crate::job::{Job, WordsFault};
 use crate::words::job_of;
 use crew::Open;
 use report::Pour;
-use script::{HashChoice, How, Setup, run_last};
+use script::{HashChoice, How, Setup, Viewing, run_last};
 use std::alloc::Global;
 use std::io::{BufWriter, Read, Write};
 use std::sync::Wait;
@@ -52,10 +52,10 @@ pub fn run_words<F: Folder, W: Write + Drop, E: Write, R: Threads + Wait + Sync>
 
 /// Runs a job over the files that it names, and gives the program's status and the writer back, as
 /// [`run_words`] does.
-fn run_job<'a, F: Folder, W: Write + Drop, E: Write, R: Threads + Wait + Sync>(
-    rt: &'a R,
+fn run_job<F: Folder, W: Write + Drop, E: Write, R: Threads + Wait + Sync>(
+    rt: &R,
     alloc: Global,
-    job: &'a Job,
+    job: &Job,
     folder: &F,
     out: BufWriter<W>,
     err: &mut E,
@@ -67,17 +67,16 @@ fn run_job<'a, F: Folder, W: Write + Drop, E: Write, R: Threads + Wait + Sync>(
     ensures beginning { result.0 ≡ 3 → BeginsToWrite (IsOutputOfJob (F.file folder.now) job.now) (writer_contents W.contents out) (writer_contents W.contents result.1) }
 {
     match read_input(alloc, folder, job) {
-        Ok(input) => {
-            let setup = Setup {
-                rt,
-                alloc,
-                how: &job.how,
-                parts: input.parts.as_slice(),
-                viewing: job.viewing(),
-                gate: &Open,
-            };
-            run_input(&setup, job.hash, input.script.as_slice(), out, err)
-        }
+        Ok(input) => run_input(
+            rt,
+            alloc,
+            &job.how,
+            job.hash,
+            job.viewing(),
+            &input,
+            out,
+            err,
+        ),
         Err(name) => (cannot_read(name, err), out),
     }
 }
@@ -102,39 +101,51 @@ pub fn run_standard_input<I: Read + Drop, W: Write + Drop, E: Write, R: Threads 
     let Ok(_) = input.read_to_end(&mut script) else {
         return (cannot_read("-", err), out);
     };
-    let how = How::default();
     let parts = Vec::new(alloc);
-    let setup = Setup {
+    let input = Input { script, parts };
+    run_input(
         rt,
         alloc,
-        how: &how,
-        parts: parts.as_slice(),
-        viewing: None,
-        gate: &Open,
-    };
-    run_input(&setup, HashChoice::default(), script.as_slice(), out, err)
+        &How::default(),
+        HashChoice::default(),
+        None,
+        &input,
+        out,
+        err,
+    )
 }
 
-/// Runs the script, flushes what it wrote, and gives the program's status and the writer back: 0 where the output was
-/// written whole and none of it waits in the buffer, and 3 where a beginning of it was written, and why it ended is on
-/// `err`. The memory of the run's table is left to the system.
-pub fn run_input<W: Write + Drop, E: Write, R: Threads + Wait + Sync>(
-    setup: &Setup<'_, R, Open>,
+/// Runs the script over the parts, with viewers beside it where there are some, flushes what it wrote, and gives the program's
+/// status and the writer back: 0 where the output was written whole and none of it waits in the buffer, and 3 where a
+/// beginning of it was written, and why it ended is on `err`. The memory of the run's table is left to the system.
+pub fn run_input<'a, W: Write + Drop, E: Write, R: Threads + Wait + Sync>(
+    rt: &'a R,
+    alloc: Global,
+    how: &'a How,
     hash: HashChoice,
-    script: &[u8],
+    viewing: Option<Viewing<&'a str>>,
+    input: &'a Input,
     out: BufWriter<W>,
     err: &mut E,
 ) -> (u8, BufWriter<W>)
     ensures status { (result.0 ≡ 0) ⊎ (result.0 ≡ 3) }
-    ensures written { result.0 ≡ 0 → Writes (IsWritten (hash_of_choice hash) (givens setup.now.how.now.rows setup.now.parts.now) (asked_of setup.now.viewing) script.now)
+    ensures written { result.0 ≡ 0 → Writes (IsWritten (hash_of_choice hash) (givens how.now.rows input.now.parts.items) (asked_of viewing.entry) input.now.script.items)
         (writer_contents W.contents out) (writer_contents W.contents result.1) }
     ensures flushed { result.0 ≡ 0 → writer_buffer result.1 ≡ [] }
-    ensures beginning { BeginsToWrite (IsWritten (hash_of_choice hash) (givens setup.now.how.now.rows setup.now.parts.now) (asked_of setup.now.viewing) script.now)
+    ensures beginning { BeginsToWrite (IsWritten (hash_of_choice hash) (givens how.now.rows input.now.parts.items) (asked_of viewing.entry) input.now.script.items)
         (writer_contents W.contents out) (writer_contents W.contents result.1) }
     ensures quiet { result.0 ≡ 0 → err.new ≡ err.old }
 {
     let mut pour = Pour::new(out);
-    let ended = run_last(setup, hash, script, &mut pour);
+    let setup = Setup {
+        rt,
+        alloc,
+        how,
+        parts: input.parts.as_slice(),
+        viewing,
+        gate: &Open,
+    };
+    let ended = run_last(&setup, hash, input.script.as_slice(), &mut pour);
     let mut out = pour.into_inner();
     let status = close_run(ended, &mut out, err);
     (status, out)

@@ -10,7 +10,7 @@ pub returns-clause-beginning : goal.returns-clause-beginning
 returns-clause-beginning g c =
     let all = c.run_last-ended.ensures.delivered.output in
     let part = c.run_last-ended.ensures.delivered.beginning in
-    begins_closed (IsWritten (hash_of_choice c.args.hash) (givens c.args.setup.now.how.now.rows c.args.setup.now.parts.now) (asked_of c.args.setup.now.viewing) c.args.script.now)
+    begins_closed (IsWritten (hash_of_choice c.args.hash) (givens c.args.how.now.rows c.args.input.now.parts.items) (asked_of c.args.viewing) c.args.input.now.script.items)
     (writer_contents g.W.Write.contents c.args.out) (writer_contents g.W.Write.contents c.into_inner-out.result)
     (writer_contents g.W.Write.contents c.close_run-status.new.out)
     c.run_last-ended.result (search rules) (search rules) (search rules)

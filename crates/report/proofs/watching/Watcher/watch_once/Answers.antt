@@ -20,5 +20,5 @@ pub invariant_of-self-2 : goal.invariant_of-self-2
 invariant_of-self-2 g c = (
   subst (λ t. IsPlanOf t c.self.inside.plan) (sym c.look.ensures.looks.schema) c.self.invariant.0,
   subst (AreShots c.look.new.viewer.history c.self.inside.plan 0) (sym c.in_ok-push.ensures.items)
-  (shots_more c.look.new.viewer.history c.in_ok-shot.shot c.look.ensures.looks.seen c.in_ok-shot.ensures.shot.1 (omega arith) c.in_ok-shot.ensures.shot.0 c.self.invariant.1),
+      (shots_more c.look.new.viewer.history c.in_ok-shot.shot c.look.ensures.looks.seen c.in_ok-shot.ensures.shot.1 (omega arith) c.in_ok-shot.ensures.shot.0 c.self.invariant.1),
 )
