@@ -1,5 +1,6 @@
 -- A run that may have viewers beside it.
-use Rattle.std.specs.Prelude.{◌≡◌, ℕ, List, [], ◌++◌, Bor, Option, Some, None, Result, Err, ⊤, length, reverse}
+use Rattle.std.specs.Prelude.{◌≡◌, ℕ, List, [], ◌++◌, Option, Some, None, Result, Err, ⊤, length, reverse}
+use Rattle.std.specs.Borrow.{Bor}
 use Rattle.std.specs.List.{AllByRecursion}
 use Rattle.std.specs.Str.Lines.{lines}
 use Rattle.cells.specs.Values.{Table}
@@ -9,7 +10,7 @@ use Rattle.cells.specs.declared.refused.Refused.TheVariants.{Limit, NoTable}
 use Rattle.script.specs.declared.fault.Fault.TheVariants.{Line}
 use Rattle.board.specs.Editions.{Editions}
 use Rattle.board.specs.Editions as keeper
-use Rattle.query.specs.Plans.{IsPlanOf, PlanTree}
+use Rattle.query.specs.Plans.{PlanTree}
 use Rattle.report.specs.Watching.{Sight, Watch}
 use Rattle.script.specs.Endings.{AsksForWorkers, Ends}
 use Rattle.script.specs.Givens.{Givens}
@@ -58,7 +59,7 @@ view_block viewer shot = view_heading viewer shot.edition ++ shot.text
 
 -- plans of the query
 abbrev pub ArePlans : Table → List ℕ → List PlanTree → Type 0
-ArePlans t query plans = AllByRecursion (λ plan. MeansPlan t query plan × IsPlanOf t plan) plans
+ArePlans t query plans = AllByRecursion (MeansPlan t query) plans
 
 -- how far the viewers of a run are at its desk: they are expected, or turned away since the query is refused, or they were
 -- all started

@@ -2,7 +2,6 @@
 ghost use Rattle.std.specs.Prelude.{◌≡◌, ◌+◌, ◌<◌, ◌≤◌, ◌^◌, ℕ, [], List, length, IfErr, IfOk, OnOk};
 ghost use Rattle.std.specs.List.{AllByRecursion};
 ghost use Rattle.board.specs.Editions.{edition, schema as schema_of};
-ghost use Rattle.report.specs.Limits.{worker_limit};
 ghost use Rattle.report.specs.Watching.{IsOf};
 ghost use Rattle.script.specs.Desks.{IsBehind, Keeps};
 ghost use Rattle.script.specs.Endings.{Delivers, Ends};
@@ -65,7 +64,6 @@ impl<H: KeyHash<Cell> + KeyHash<Tuple> + Send + Sync> Gallery<H> {
     where
         H: 's,
         requires attend { MayAttend (asked_of setup.now.viewing) desk.old self.old.stage self.old.audience }
-        requires workers { 1 ≤ starter.now.answering.workers × (starter.now.answering.workers ≤ worker_limit) }
         ensures same { desk.new ≡ desk.old }
         ensures attended { OnOk result (HasAttended (asked_of setup.now.viewing) desk.new self.new.stage self.new.audience) }
         ensures asked { IfErr result (λ _. HasViewers (asked_of setup.now.viewing)) }
@@ -93,7 +91,6 @@ impl<H: KeyHash<Cell> + KeyHash<Tuple> + Send + Sync> Gallery<H> {
     where
         H: 's,
         requires nobody { self.old.audience ≡ [] }
-        requires workers { 1 ≤ starter.now.answering.workers × (starter.now.answering.workers ≤ worker_limit) }
         ensures same { keeper.new ≡ keeper.old }
         ensures attend { OnOk result (Attend (viewing_of viewing.entry) (Some keeper.old) self.new.stage self.new.audience) }
         ensures stage { OnOk result (self.new.stage ≡ Stage.Expected → ⊥) }
@@ -124,7 +121,6 @@ impl<H: KeyHash<Cell> + KeyHash<Tuple> + Send + Sync> Gallery<H> {
         H: 's,
         requires nobody { self.old.audience ≡ [] }
         requires plans { ArePlans (schema_of keeper.old) viewing.query.now plans.items }
-        requires workers { 1 ≤ starter.now.answering.workers × (starter.now.answering.workers ≤ worker_limit) }
         ensures same { keeper.new ≡ keeper.old }
         ensures many { OnOk result (length self.new.audience ≡ length plans.items) }
         ensures started { OnOk result (AllByRecursion (IsStarted (viewing_of viewing.entry) keeper.old) self.new.audience) }
@@ -232,7 +228,6 @@ fn write_viewer<
     requires own { IsOf keeper.old watcher.viewer }
     requires plan { MeansPlan (schema_of keeper.old) viewing.query.now watcher.plan }
     requires shots { length watcher.shots ≡ viewing.shots }
-    requires workers { 1 ≤ answering.now.workers × (answering.now.workers ≤ worker_limit) }
     requires faults { O.faults out.old + 1 < 2 ^ 64 }
     ensures same { keeper.new ≡ keeper.old }
     ensures sound { OnOk result (O.faults out.new ≡ O.faults out.old) }

@@ -1,8 +1,6 @@
 //! The reports of a run: what a text asks is read and checked at its line, over the edition that stands published there.
 ghost use Rattle.std.specs.Prelude.{◌≡◌, IfOk};
-ghost use Rattle.board.specs.Editions as editions;
-ghost use Rattle.query.specs.Plans.{IsPlanOf};
-ghost use Rattle.script.specs.Blocks.{WillReport, WillReportPlan, IsPlanned};
+ghost use Rattle.script.specs.Blocks.{WillReport, WillReportPlan};
 ghost use Rattle.script.specs.Says.{GivesPlan};
 
 use crate::block::{Asked, Block, refusal_block, report_heading};
@@ -20,7 +18,6 @@ pub fn execute_report<H: KeyHash<Cell>>(
     number: u64,
 ) -> Result<Block<H>, AllocError>
     ensures block { IfOk result (WillReport keeper.now number text.now) }
-    ensures planned { IfOk result IsPlanned }
 {
     match read_plan(alloc, text, keeper.schema()) {
         Ok(plan) => ask(alloc, keeper, plan, number),
@@ -35,7 +32,6 @@ pub fn execute_report<H: KeyHash<Cell>>(
 /// for the table; or [`Refused::OutOfMemory`].
 pub fn read_plan(alloc: Global, text: &str, schema: &Schema) -> Result<Plan, Refused>
     ensures exact { GivesPlan schema.now text.now result }
-    ensures planned { IfOk result (IsPlanOf schema.now) }
 {
     let query = read(alloc, text)?;
     check(alloc, query, schema)
@@ -48,9 +44,7 @@ fn ask<H: KeyHash<Cell>>(
     plan: Plan,
     number: u64,
 ) -> Result<Block<H>, AllocError>
-    requires { IsPlanOf (editions.schema keeper.now) plan }
     ensures block { IfOk result (WillReportPlan keeper.now number plan) }
-    ensures planned { IfOk result IsPlanned }
 {
     let Ok(snapshot) = keeper.snapshot() else {
         return Err(AllocError);

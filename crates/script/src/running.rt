@@ -1,11 +1,10 @@
 //! Runs a script: one keeper, line after line, and a block of output for each line that has one.
 ghost use Rattle.std.specs.Prelude.{◌≡◌, ◌⊎◌, ◌+◌, ◌<◌, ◌≤◌, ◌^◌, [], length, IfOk, IsErrOf, OnOk};
 ghost use Rattle.std.specs.Str.Lines.{lines};
-ghost use Rattle.report.specs.Limits.{worker_limit};
 ghost use Rattle.report.specs.Waiting.{AwaitsThen, WritesOn};
 ghost use Rattle.report.specs.declared.unwritten.Unwritten.TheVariants as unwritten;
 ghost use Rattle.report.specs.declared.want.Want.TheVariants as want;
-ghost use Rattle.script.specs.Blocks.{IsAsked, IsPlanned, WillBe};
+ghost use Rattle.script.specs.Blocks.{IsAsked, WillBe};
 ghost use Rattle.script.specs.Endings.{AsksForWorkers, Delivers, Ends};
 ghost use Rattle.script.specs.Givens.{givens};
 ghost use Rattle.script.specs.Hows.{hash_of_choice};
@@ -54,17 +53,18 @@ use std::thread::{self, Threads};
 ///
 /// What the table holds at the end is given back.
 pub fn run<
+    'a,
     H: KeyHash<Cell> + KeyHash<Tuple> + Send + Sync,
     O: Out,
     G: Gate,
     R: Threads + Wait + Sync,
 >(
-    rt: &R,
+    rt: &'a R,
     alloc: Global,
     script: &[u8],
-    parts: &[Vec<u8>],
-    how: &How,
-    gate: &G,
+    parts: &'a [Vec<u8>],
+    how: &'a How,
+    gate: &'a G,
     out: &mut O,
 ) -> Result<(), Ended>
     requires { O.faults out.old + 1 < 2 ^ 64 }
@@ -97,20 +97,21 @@ pub fn run<
 /// threads are joined before this returns, however the run ends. The gate is told of each snapshot of a viewer by the
 /// viewer's thread, and of all else as by [`run`].
 pub fn live<
+    'a,
     H: KeyHash<Cell> + KeyHash<Tuple> + Send + Sync,
     O: Out,
     G: Gate,
     R: Threads + Wait + Sync,
 >(
-    rt: &R,
+    rt: &'a R,
     alloc: Global,
     script: &[u8],
-    parts: &[Vec<u8>],
-    how: &How,
+    parts: &'a [Vec<u8>],
+    how: &'a How,
     viewers: u64,
     shots: u64,
-    query: &str,
-    gate: &G,
+    query: &'a str,
+    gate: &'a G,
     out: &mut O,
 ) -> Result<(), Ended>
     requires { O.faults out.old + 1 < 2 ^ 64 }
@@ -252,7 +253,6 @@ fn run_beside<
 ) -> Result<(), Ended>
     requires faults { O.faults out.old + 1 < 2 ^ 64 }
     requires short { length script.now ≤ script_limit }
-    requires workers { 1 ≤ starter.now.answering.workers × (starter.now.answering.workers ≤ worker_limit) }
     requires fresh { IsFresh desk.old × (backlog.old ≡ record { reports = []; after = [] }) }
     requires nobody { (gallery.old.stage ≡ Stage.Expected) × (gallery.old.audience ≡ []) }
     ensures { EndsLines H.KeyHash-1.hash_of O.taken O.faults out.old out.new (givens setup.now.how.now.rows setup.now.parts.now) (asked_of setup.now.viewing) (lines script.now) result }
@@ -285,8 +285,6 @@ fn add<
     out: &mut O,
     block: Block<H>,
 ) -> Result<(), Unwritten>
-    requires planned { IsPlanned block }
-    requires workers { 1 ≤ starter.now.answering.workers × (starter.now.answering.workers ≤ worker_limit) }
     requires faults { O.faults out.old + 1 < 2 ^ 64 }
     ensures goes_on { WritesOn O.taken O.faults out.old out.new backlog.new (AwaitsThen backlog.old (WillBe block)) result }
     ensures asked { OnOk result (0 < length backlog.new.reports → (0 < length backlog.old.reports) ⊎ IsAsked block) }

@@ -1,7 +1,4 @@
 //! What a run is made with, beside its script and its writer.
-ghost use Rattle.std.specs.Prelude.{◌≤◌};
-ghost use Rattle.report.specs.Limits.{worker_limit};
-
 use crate::how::How;
 use crate::viewing::Viewing;
 use crew::Gate;
@@ -23,9 +20,7 @@ pub struct Setup<'a, R, G: Gate> {
 
 impl<'a, R, G: Gate> Setup<'a, R, G> {
     /// What the reports of the run are answered with.
-    pub(crate) fn answering(&self) -> Answering<'a, R, G>
-        ensures { 1 ≤ result.workers × (result.workers ≤ worker_limit) }
-    {
+    pub(crate) fn answering(&self) -> Answering<'a, R, G> {
         Answering {
             rt: self.rt,
             alloc: self.alloc,

@@ -4,7 +4,7 @@ ghost use Rattle.std.specs.FinMap.{remove};
 ghost use Rattle.cells.specs.Fitting.{IsRowOf};
 ghost use Rattle.board.specs.Editions.{ChangesDraft, Publishes};
 ghost use Rattle.board.specs.Editions as editions;
-ghost use Rattle.script.specs.Blocks.{IsPlanned, Steps};
+ghost use Rattle.script.specs.Blocks.{Steps};
 ghost use Rattle.script.specs.Deeds.{deed};
 ghost use Rattle.report.specs.declared.want.Want.TheVariants as want;
 ghost use Rattle.script.specs.Endings.{HasWorkers};
@@ -44,7 +44,6 @@ pub fn execute<H: KeyHash<Cell> + Send + Sync, G: Gate, R: Threads + Wait>(
     requires publishable { Publishable desk.old }
     requires short { length line.bytes.now ≤ script_limit }
     ensures step { IfOk result (Steps H.hash_of (givens setup.now.how.now.rows setup.now.parts.now) line.entry.bytes.now line.entry.number desk.old desk.new) }
-    ensures planned { IfOk result IsPlanned }
     ensures worker { IsErrOf result want.Worker → HasWorkers (deed (schema_of_desk desk.old) line.entry.bytes.now) }
 {
     if let Some(keeper) = desk {
@@ -87,7 +86,6 @@ fn execute_kept<H: KeyHash<Cell> + Send + Sync, G: Gate, R: Threads + Wait>(
     requires publishable { editions.edition keeper.old + 1 < 2 ^ 64 }
     requires short { length line.bytes.now ≤ script_limit }
     ensures step { IfOk result (Steps H.hash_of (givens setup.now.how.now.rows setup.now.parts.now) line.entry.bytes.now line.entry.number (Some keeper.old) (Some keeper.new)) }
-    ensures planned { IfOk result IsPlanned }
     ensures worker { IsErrOf result want.Worker → HasWorkers (deed (Some (editions.schema keeper.old)) line.entry.bytes.now) }
 {
     let alloc = setup.alloc;
@@ -115,7 +113,6 @@ fn execute_kept<H: KeyHash<Cell> + Send + Sync, G: Gate, R: Threads + Wait>(
 /// The block of a line that gives this text.
 fn text_block<H: KeyHash<Cell>>(text: Result<Vec<u8>, AllocError>) -> Result<Block<H>, Want>
     ensures found { IfOk text (λ bytes. result ≡ Ok (Block.Text bytes)) }
-    ensures planned { IfOk result IsPlanned }
     ensures memory { IfErr text (λ _. result ≡ Err want.Memory) }
     ensures worker { IsErrOf result want.Worker → ⊥ }
 {

@@ -1,6 +1,5 @@
 //! The rows of a small table, grouped by workers.
 ghost use Rattle.std.specs.Prelude.{◌≤◌};
-ghost use Rattle.report.specs.Limits.{worker_limit};
 
 use crate::gates::{Hold, Stay, Watch};
 use board::{Keeper, Snapshot};
@@ -48,7 +47,6 @@ fn is_counted<G: Gate, R: Threads + Wait>(
     gate: &G,
     wanted: &str,
 ) -> Result<bool, Refused>
-    requires { (1 ≤ workers) × (workers ≤ worker_limit) }
 {
     let query = read(alloc, QUERY)?;
     let plan = check(alloc, query, snapshot.schema())?;

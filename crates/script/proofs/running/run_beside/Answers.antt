@@ -32,13 +32,13 @@ pub returns-in_err-block : goal.returns-in_err-block
 returns-in_err-block g c =
     let p = err_from_is_err_and c.from_residual.result c.from_residual.ensures.1 in
     ends_for g.O.Out.taken g.O.Out.faults _ _ _ _ c.from_residual.result p.1
-        (begins_tailed c.each_text_has_an_answer.ensures g.H.KeyHash-1.hash_of (givens c.args.setup.now.how.now.rows c.args.setup.now.parts.now) (asked_of c.args.setup.now.viewing) (lines c.args.script.now) _ _
-          (reached_so_far _ _ g.H.KeyHash-1.hash_of (givens c.args.setup.now.how.now.rows c.args.setup.now.parts.now) (last_first c.loop-bytes.yielded) c.loop-bytes.bytes-iterator (lines c.args.script.now) c.loop-bytes.desk c.loop-bytes.backlog c.loop-bytes.number
-          c.loop-bytes.invariant.reached c.each_text_has_an_answer.ensures))
-        _ _ _ p.2
-        (λ late. may_want (givens c.args.setup.now.how.now.rows c.args.setup.now.parts.now) (asked_of c.args.setup.now.viewing) (lines c.args.script.now)
-            (asks _ _ g.H.KeyHash-1.hash_of (givens c.args.setup.now.how.now.rows c.args.setup.now.parts.now) (last_first c.loop-bytes.yielded) c.loop-bytes.bytes-iterator (lines c.args.script.now) c.loop-bytes.desk c.loop-bytes.backlog c.loop-bytes.number
-          c.loop-bytes.invariant.reached c.in-Some.bytes.now c.next.new.self c.in-Some.ensures.steps (c.in_err-block.ensures.worker (ap Err late))))
+    (begins_tailed c.each_text_has_an_answer.ensures g.H.KeyHash-1.hash_of (givens c.args.setup.now.how.now.rows c.args.setup.now.parts.now) (asked_of c.args.setup.now.viewing) (lines c.args.script.now) _ _
+    (reached_so_far _ _ g.H.KeyHash-1.hash_of (givens c.args.setup.now.how.now.rows c.args.setup.now.parts.now) (last_first c.loop-bytes.yielded) c.loop-bytes.bytes-iterator (lines c.args.script.now) c.loop-bytes.desk c.loop-bytes.backlog c.loop-bytes.number
+    c.loop-bytes.invariant.reached c.each_text_has_an_answer.ensures))
+    _ _ _ p.2
+    (λ late. may_want (givens c.args.setup.now.how.now.rows c.args.setup.now.parts.now) (asked_of c.args.setup.now.viewing) (lines c.args.script.now)
+    (asks _ _ g.H.KeyHash-1.hash_of (givens c.args.setup.now.how.now.rows c.args.setup.now.parts.now) (last_first c.loop-bytes.yielded) c.loop-bytes.bytes-iterator (lines c.args.script.now) c.loop-bytes.desk c.loop-bytes.backlog c.loop-bytes.number
+    c.loop-bytes.invariant.reached c.in-Some.bytes.now c.next.new.self c.in-Some.ensures.steps (c.in_err-block.ensures.worker (ap Err late))))
 
 pub attend-requires-clause-attend : goal.attend-requires-clause-attend
 attend-requires-clause-attend g c = λ κs outlives.
@@ -48,10 +48,10 @@ pub returns-in_err-attend : goal.returns-in_err-attend
 returns-in_err-attend g c =
     let p = err_from_is_err_and c.from_residual-in_err-attend.result c.from_residual-in_err-attend.ensures.1 in
     ends_unstarted g.O.Out.taken g.O.Out.faults _ _ _ _ c.from_residual-in_err-attend.result p.1
-        (begins_tailed c.each_text_has_an_answer.ensures g.H.KeyHash-1.hash_of (givens c.args.setup.now.how.now.rows c.args.setup.now.parts.now) (asked_of c.args.setup.now.viewing) (lines c.args.script.now) _ _
-          (reached_so_far _ _ g.H.KeyHash-1.hash_of (givens c.args.setup.now.how.now.rows c.args.setup.now.parts.now) (last_first c.loop-bytes.yielded) c.loop-bytes.bytes-iterator (lines c.args.script.now) c.loop-bytes.desk c.loop-bytes.backlog c.loop-bytes.number
-          c.loop-bytes.invariant.reached c.each_text_has_an_answer.ensures))
-        _ _ _ p.2 (has_want (givens c.args.setup.now.how.now.rows c.args.setup.now.parts.now) (asked_of c.args.setup.now.viewing) (lines c.args.script.now) c.in_err-attend.ensures.asked) c.in_err-attend.ensures.asked
+    (begins_tailed c.each_text_has_an_answer.ensures g.H.KeyHash-1.hash_of (givens c.args.setup.now.how.now.rows c.args.setup.now.parts.now) (asked_of c.args.setup.now.viewing) (lines c.args.script.now) _ _
+    (reached_so_far _ _ g.H.KeyHash-1.hash_of (givens c.args.setup.now.how.now.rows c.args.setup.now.parts.now) (last_first c.loop-bytes.yielded) c.loop-bytes.bytes-iterator (lines c.args.script.now) c.loop-bytes.desk c.loop-bytes.backlog c.loop-bytes.number
+    c.loop-bytes.invariant.reached c.each_text_has_an_answer.ensures))
+    _ _ _ p.2 (has_want (givens c.args.setup.now.how.now.rows c.args.setup.now.parts.now) (asked_of c.args.setup.now.viewing) (lines c.args.script.now) c.in_err-attend.ensures.asked) c.in_err-attend.ensures.asked
 
 pub loop-bytes-preserved : goal.loop-bytes-preserved
 loop-bytes-preserved g c =
@@ -72,25 +72,25 @@ returns-in_err-add g c =
     let next = told _ _ g.H.KeyHash-1.hash_of (givens c.args.setup.now.how.now.rows c.args.setup.now.parts.now) (last_first c.loop-bytes.yielded) c.loop-bytes.bytes-iterator (lines c.args.script.now) c.loop-bytes.desk c.loop-bytes.backlog c.loop-bytes.number
     c.loop-bytes.invariant.reached c.in-Some.bytes.now c.next.new.self c.execute.new.desk c.in_ok-block.block c.in-Some.ensures.steps c.in_ok-block.ensures.step in
     ends_unwritten g.O.Out.taken g.O.Out.faults _ _ _ _ c.from_residual-in_err-add.result p.1
-        (begins_tailed c.each_text_has_an_answer.ensures g.H.KeyHash-1.hash_of (givens c.args.setup.now.how.now.rows c.args.setup.now.parts.now) (asked_of c.args.setup.now.viewing) (lines c.args.script.now) _ _
-          (reached_beginning _ _ g.H.KeyHash-1.hash_of (givens c.args.setup.now.how.now.rows c.args.setup.now.parts.now) (last_first c.loop-bytes.yielded) c.loop-bytes.bytes-iterator (lines c.args.script.now) c.loop-bytes.desk c.loop-bytes.backlog c.loop-bytes.number
-          c.loop-bytes.invariant.reached c.in-Some.bytes.now c.next.new.self c.execute.new.desk c.in_ok-block.block c.in-Some.ensures.steps c.in_ok-block.ensures.step c.each_text_has_an_answer.ensures _
-          (c.in_err-add.ensures.goes_on.written _ (record { waiting = c.loop-bytes.invariant.reached.waiting; more = next.text; awaits = c.loop-bytes.invariant.reached.awaits; is_more = next.will; joined = refl })).beginning))
-        _ _ _ p.2 (λ writer. let failed = c.in_err-add.ensures.goes_on.fault (ap Err writer) in omega (arith, failed, c.loop-bytes.invariant.sound))
-        (λ late. may_want (givens c.args.setup.now.how.now.rows c.args.setup.now.parts.now) (asked_of c.args.setup.now.viewing) (lines c.args.script.now)
-            (asked_for_workers _ _ g.H.KeyHash-1.hash_of (givens c.args.setup.now.how.now.rows c.args.setup.now.parts.now) (last_first c.loop-bytes.yielded) c.loop-bytes.bytes-iterator (lines c.args.script.now) c.loop-bytes.desk c.loop-bytes.backlog c.loop-bytes.number
-          c.loop-bytes.invariant.reached c.in-Some.bytes.now c.next.new.self c.execute.new.desk c.in_ok-block.block c.in-Some.ensures.steps c.in_ok-block.ensures.step (c.in_err-add.ensures.worker (ap Err late))))
+    (begins_tailed c.each_text_has_an_answer.ensures g.H.KeyHash-1.hash_of (givens c.args.setup.now.how.now.rows c.args.setup.now.parts.now) (asked_of c.args.setup.now.viewing) (lines c.args.script.now) _ _
+    (reached_beginning _ _ g.H.KeyHash-1.hash_of (givens c.args.setup.now.how.now.rows c.args.setup.now.parts.now) (last_first c.loop-bytes.yielded) c.loop-bytes.bytes-iterator (lines c.args.script.now) c.loop-bytes.desk c.loop-bytes.backlog c.loop-bytes.number
+    c.loop-bytes.invariant.reached c.in-Some.bytes.now c.next.new.self c.execute.new.desk c.in_ok-block.block c.in-Some.ensures.steps c.in_ok-block.ensures.step c.each_text_has_an_answer.ensures _
+    (c.in_err-add.ensures.goes_on.written _ (record { waiting = c.loop-bytes.invariant.reached.waiting; more = next.text; awaits = c.loop-bytes.invariant.reached.awaits; is_more = next.will; joined = refl })).beginning))
+    _ _ _ p.2 (λ writer. let failed = c.in_err-add.ensures.goes_on.fault (ap Err writer) in omega (arith, failed, c.loop-bytes.invariant.sound))
+    (λ late. may_want (givens c.args.setup.now.how.now.rows c.args.setup.now.parts.now) (asked_of c.args.setup.now.viewing) (lines c.args.script.now)
+    (asked_for_workers _ _ g.H.KeyHash-1.hash_of (givens c.args.setup.now.how.now.rows c.args.setup.now.parts.now) (last_first c.loop-bytes.yielded) c.loop-bytes.bytes-iterator (lines c.args.script.now) c.loop-bytes.desk c.loop-bytes.backlog c.loop-bytes.number
+    c.loop-bytes.invariant.reached c.in-Some.bytes.now c.next.new.self c.execute.new.desk c.in_ok-block.block c.in-Some.ensures.steps c.in_ok-block.ensures.step (c.in_err-add.ensures.worker (ap Err late))))
 
 pub returns-in_err-finish : goal.returns-in_err-finish
 returns-in_err-finish g c =
     let p = err_from_is_err_and c.from_residual-in_err-finish.result c.from_residual-in_err-finish.ensures.1 in
     ends_unwritten g.O.Out.taken g.O.Out.faults _ _ _ _ c.from_residual-in_err-finish.result p.1
-        (begins_tailed c.each_text_has_an_answer.ensures g.H.KeyHash-1.hash_of (givens c.args.setup.now.how.now.rows c.args.setup.now.parts.now) (asked_of c.args.setup.now.viewing) (lines c.args.script.now) _ _
-          (reached_late _ _ g.H.KeyHash-1.hash_of (givens c.args.setup.now.how.now.rows c.args.setup.now.parts.now) (last_first c.loop-bytes.yielded) c.loop-bytes.bytes-iterator (lines c.args.script.now) c.loop-bytes.desk c.loop-bytes.backlog c.loop-bytes.number
-          c.loop-bytes.invariant.reached _ c.in-None.ensures.steps.0
-          (c.in_err-finish.ensures.whole.beginning c.loop-bytes.invariant.reached.waiting c.loop-bytes.invariant.reached.awaits)))
-        _ _ _ p.2 (λ writer. let failed = c.in_err-finish.ensures.whole.fault (ap Err writer) in omega (arith, failed, c.loop-bytes.invariant.sound))
-        (λ late. may_want (givens c.args.setup.now.how.now.rows c.args.setup.now.parts.now) (asked_of c.args.setup.now.viewing) (lines c.args.script.now) (c.loop-bytes.invariant.reached.asked (c.in_err-finish.ensures.worker (ap Err late))))
+    (begins_tailed c.each_text_has_an_answer.ensures g.H.KeyHash-1.hash_of (givens c.args.setup.now.how.now.rows c.args.setup.now.parts.now) (asked_of c.args.setup.now.viewing) (lines c.args.script.now) _ _
+    (reached_late _ _ g.H.KeyHash-1.hash_of (givens c.args.setup.now.how.now.rows c.args.setup.now.parts.now) (last_first c.loop-bytes.yielded) c.loop-bytes.bytes-iterator (lines c.args.script.now) c.loop-bytes.desk c.loop-bytes.backlog c.loop-bytes.number
+    c.loop-bytes.invariant.reached _ c.in-None.ensures.steps.0
+    (c.in_err-finish.ensures.whole.beginning c.loop-bytes.invariant.reached.waiting c.loop-bytes.invariant.reached.awaits)))
+    _ _ _ p.2 (λ writer. let failed = c.in_err-finish.ensures.whole.fault (ap Err writer) in omega (arith, failed, c.loop-bytes.invariant.sound))
+    (λ late. may_want (givens c.args.setup.now.how.now.rows c.args.setup.now.parts.now) (asked_of c.args.setup.now.viewing) (lines c.args.script.now) (c.loop-bytes.invariant.reached.asked (c.in_err-finish.ensures.worker (ap Err late))))
 
 pub returns : goal.returns
 returns g c =

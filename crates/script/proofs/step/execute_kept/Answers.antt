@@ -16,7 +16,7 @@ returns-in_ok-text-in-Ok-Load-clause-step g c =
     ap (λ t. deed (Some t) c.args.line.bytes.now) (sym c.schema.ensures) ∙ c.in-Ok-Load.ensures.exact
     ∙ ap (λ s. Ok (deed_of_statement c.schema.result.now s)) c.in-Ok-Load.field-0-is ∙ ap (λ t. Ok (Loads t c.in-Ok-Load.listing.now)) c.schema.ensures in
     steps_text g.H.KeyHash.hash_of given c.args.line.bytes.now c.args.line.number (Some c.args.keeper.now) (Some c.execute_load.new.keeper) c.in_ok-text-in-Ok-Load.text
-    (executes_loads g.H.KeyHash.hash_of given c.args.line.bytes.now c.args.line.number c.args.keeper.now c.execute_load.new.keeper c.in-Ok-Load.listing.now c.in_ok-text-in-Ok-Load.text.items does c.later_puts_lie_over.ensures.over c.in_ok-text-in-Ok-Load.ensures)
+    (executes_loads g.H.KeyHash.hash_of given c.args.line.bytes.now c.args.line.number c.args.keeper.now c.execute_load.new.keeper c.in-Ok-Load.listing.now c.in_ok-text-in-Ok-Load.text.items does c.later_puts_lie_over.ensures.over c.in_ok-text-in-Ok-Load.ensures.step)
 
 pub returns-in_err-text-in-Ok-Load-clause-worker : goal.returns-in_err-text-in-Ok-Load-clause-worker
 returns-in_err-text-in-Ok-Load-clause-worker g c = λ late.
@@ -38,7 +38,7 @@ returns-in-Ok-Put-clause-step g c =
     let does =
     ap (λ t. deed (Some t) c.args.line.bytes.now) (sym c.schema.ensures) ∙ c.in-Ok-Put.ensures.exact
     ∙ ap (λ s. Ok (deed_of_statement c.schema.result.now s)) c.in-Ok-Put.field-0-is in
-    steps_as_text g.H.KeyHash.hash_of given c.args.line.bytes.now c.args.line.number (Some c.args.keeper.now) (Some c.put.new.keeper) c.put.result c.text_block-in-Ok-Put.result _ c.text_block-in-Ok-Put.ensures.found c.text_block-in-Ok-Put.ensures.memory
+    steps_as_text g.H.KeyHash.hash_of given c.args.line.bytes.now c.args.line.number (Some c.args.keeper.now) (Some c.put.new.keeper) c.put.result c.text_block.result _ c.text_block.ensures.found c.text_block.ensures.memory
     (IfOk-weaker c.put.result _ _ (λ bytes puts. executes_put g.H.KeyHash.hash_of given c.args.line.bytes.now c.args.line.number c.args.keeper.now c.put.new.keeper c.in-Ok-Put.row bytes.items does puts) c.put.ensures.step)
 
 pub put-requires : goal.put-requires
@@ -77,7 +77,7 @@ returns-in-Ok-Shape-clause-step g c =
     ap (λ t. deed (Some t) c.args.line.bytes.now) (sym c.schema.ensures) ∙ c.in-Ok-Shape.ensures.exact
     ∙ ap (λ s. Ok (deed_of_statement c.schema.result.now s)) c.in-Ok-Shape.field-0-is in
     steps_as_text g.H.KeyHash.hash_of given c.args.line.bytes.now c.args.line.number (Some c.args.keeper.now) (Some c.args.keeper.now) c.shape_block.result c.text_block-in-Ok-Shape.result _ c.text_block-in-Ok-Shape.ensures.found c.text_block-in-Ok-Shape.ensures.memory
-    (IfOk-weaker c.shape_block.result _ _ (λ bytes text. executes_shape g.H.KeyHash.hash_of given c.args.line.bytes.now c.args.line.number c.args.keeper.now bytes.items does c.rows_have_the_shape_of_their_keys.ensures text) c.shape_block.ensures.block)
+    (IfOk-weaker c.shape_block.result _ _ (λ bytes text. executes_shape g.H.KeyHash.hash_of given c.args.line.bytes.now c.args.line.number c.args.keeper.now bytes.items does c.rows_have_the_shape_of_their_keys.ensures text) c.shape_block.ensures)
 
 pub returns-in-Err-clause-step : goal.returns-in-Err-clause-step
 returns-in-Err-clause-step g c =
