@@ -1,5 +1,5 @@
 //! The viewers beside a run: they are started once a table is declared, and their blocks come behind those of all lines.
-ghost use Rattle.std.specs.Prelude.{◌≡◌, ◌+◌, ◌<◌, ◌≤◌, ◌^◌, ℕ, [], List, length, IfErr, IfOk, OnOk};
+ghost use Rattle.std.specs.Prelude.{◌≡◌, ◌+◌, ◌<◌, ◌^◌, ℕ, [], List, length, IfErr, IfOk, OnOk};
 ghost use Rattle.std.specs.List.{AllByRecursion};
 ghost use Rattle.board.specs.Editions.{edition, schema as schema_of};
 ghost use Rattle.report.specs.Watching.{IsOf};

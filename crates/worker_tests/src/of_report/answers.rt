@@ -1,5 +1,4 @@
 //! The rows of a small table, grouped by workers.
-ghost use Rattle.std.specs.Prelude.{◌≤◌};
 
 use crate::gates::{Hold, Stay, Watch};
 use board::{Keeper, Snapshot};
