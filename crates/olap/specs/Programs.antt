@@ -1,5 +1,5 @@
 -- What the program does with its words, its files and its standard input.
-use Rattle.std.specs.Prelude.{◌⊎◌, ℕ, List, [], Option, Some, None}
+use Rattle.std.specs.Prelude.{◌⊎◌, ℕ, List, [], Option}
 use Rattle.clap.specs.Words.{IsAmong, Text, fault_of}
 use Rattle.clap.specs.declared.error.kind.ErrorKind.TheVariants.{DisplayHelp, DisplayVersion}
 use Rattle.script.specs.Hows.{default_hash, default_settings, hash_of_choice}

@@ -1,5 +1,5 @@
 -- Why a run ends early.
-use Rattle.std.proofs.Common.{◌≡◌, Result, Ok, Err, ℕ, List, Option, ap, refl}
+use Rattle.std.proofs.Common.{◌≡◌, Result, Err, ℕ, List, Option, ap, refl}
 use Rattle.std.specs.Prelude.{◌<◌}
 use Rattle.report.specs.declared.unwritten.Unwritten.{Unwritten}
 use Rattle.report.specs.declared.unwritten.Unwritten.TheVariants as unwritten

@@ -11,7 +11,7 @@ use Rattle.std.specs.Str.Lines.{lines, lines_of_parts, strip_carriage_return}
 use Rattle.board.specs.Editions.{Editions}
 use Rattle.cells.specs.declared.cell.Cell.{Cell}
 use Rattle.script.specs.Blocks.{Foretells, IsAsked, Steps}
-use Rattle.script.specs.Deeds.{Deed, deed}
+use Rattle.script.specs.Deeds.{deed}
 use Rattle.script.specs.Endings.{AsksForWorkers, BeginsToWrite, Delivers, HasWorkers, Writes}
 use Rattle.script.specs.Givens.{Givens, givens}
 use Rattle.script.specs.Limits.{script_limit}
@@ -19,7 +19,6 @@ use Rattle.script.specs.Output.{AreBlocks, IsBlock, deed_behind, edition, is_pub
 use Rattle.script.specs.Desks.{Publishable, IsBehind, schema_of_desk}
 use Rattle.script.specs.declared.block.Block.{Block}
 use Rattle.script.specs.declared.ended.Ended.{Ended}
-use Rattle.script.specs.declared.fault.Fault.{Fault}
 use Rattle.script.proofs.BlocksLemmas.{reversed_onto, some_blocks}
 use Rattle.script.proofs.SaysLemmas.{EachAnswered}
 use Rattle.script.proofs.StepsLemmas.{does_so}

@@ -1,4 +1,4 @@
-use Rattle.std.proofs.Common.{◌∙◌, List, rules, subst}
+use Rattle.std.proofs.Common.{◌∙◌, rules, subst}
 use mathlib.Core.List.{IsPrefix}
 use Rattle.board.specs.Editions.{History}
 use Rattle.report.proofs.WatchingLemmas.{learnt_of, sees_last}
