@@ -17,7 +17,7 @@ pub fn execute_report<H: KeyHash<Cell>>(
     text: &str,
     number: u64,
 ) -> Result<Block<H>, AllocError>
-    ensures block { IfOk result (WillReport keeper.now number text.now) }
+    ensures { IfOk result (WillReport keeper.now number text.now) }
 {
     match read_plan(alloc, text, keeper.schema()) {
         Ok(plan) => ask(alloc, keeper, plan, number),
@@ -31,7 +31,7 @@ pub fn execute_report<H: KeyHash<Cell>>(
 /// The plan of the query that the text is. The refusal is the first fault of the text, or of its query
 /// for the table; or [`Refused::OutOfMemory`].
 pub fn read_plan(alloc: Global, text: &str, schema: &Schema) -> Result<Plan, Refused>
-    ensures exact { GivesPlan schema.now text.now result }
+    ensures { GivesPlan schema.now text.now result }
 {
     let query = read(alloc, text)?;
     check(alloc, query, schema)
@@ -44,7 +44,7 @@ fn ask<H: KeyHash<Cell>>(
     plan: Plan,
     number: u64,
 ) -> Result<Block<H>, AllocError>
-    ensures block { IfOk result (WillReportPlan keeper.now number plan) }
+    ensures { IfOk result (WillReportPlan keeper.now number plan) }
 {
     let Ok(snapshot) = keeper.snapshot() else {
         return Err(AllocError);

@@ -68,7 +68,7 @@ returns-in_ok-execute_report-in-Ok-Report-clause-step g c =
     let does =
     ap (λ t. deed (Some t) c.args.line.bytes.now) (sym c.schema.ensures) ∙ c.in-Ok-Report.ensures.exact
     ∙ ap (λ s. Ok (deed_of_statement c.schema.result.now s)) c.in-Ok-Report.field-0-is ∙ ap (λ t. Ok (Reports t c.in-Ok-Report.query.now)) c.schema.ensures in
-    steps_report g.H.KeyHash.hash_of given c.args.line.bytes.now c.args.line.number c.args.keeper.now c.in-Ok-Report.query.now _ does c.in_ok-execute_report-in-Ok-Report.ensures.block
+    steps_report g.H.KeyHash.hash_of given c.args.line.bytes.now c.args.line.number c.args.keeper.now c.in-Ok-Report.query.now _ does c.in_ok-execute_report-in-Ok-Report.ensures
 
 pub returns-in-Ok-Shape-clause-step : goal.returns-in-Ok-Shape-clause-step
 returns-in-Ok-Shape-clause-step g c =
