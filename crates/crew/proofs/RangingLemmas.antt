@@ -1,7 +1,7 @@
 -- Ranges of rows: together they are all rows, and how far the folding of those of all workers has come.
 use Rattle.std.proofs.Common.{◌≡◌, ℕ, zero, suc, ◌+◌, ◌*◌, ◌-◌, ◌<◌, ◌≤◌, Bool, true, false, ltb, List, [], ◌∷◌, ◌++◌, flat_map, length, refl, sym, ap, ◌∙◌, subst, arith, min, IsPermutation}
 use Rattle.std.specs.List.{AllZip, range_with_len}
-use Rattle.std.specs.Prelude.{Option, Some, None, IfSome, slice_index_or}
+use Rattle.std.specs.Prelude.{Option, Some, IfSome, slice_index_or}
 use Rattle.std.proofs.Math.Nat.{div-add-mod}
 use Rattle.std.proofs.lemmas.Bool.{ltb-false, ltb-true}
 use Rattle.std.proofs.lemmas.List.{append-nil, length-append, map-append}
@@ -153,14 +153,6 @@ module _ {H : Type 0} (ranged : Ranged) where
         (joins (kept ranged.plan.condition (ranges_rows ranged.count rows places)) (kept ranged.plan.condition (range_rows ranged.count rows place))
         (firsts.folds rows held counted) (seconds rows held));
   }
-
-  -- where there is no folding, nothing is to be shown
-  pub none_folds : (places : List ℕ) → FoldsRanges {H = H} ranged places None
-  none_folds places = record { folds = λ rows held counted. tt }
-
-  -- no ranges went into a new folding
-  pub new_folds : (new : Folding H) → Folds ranged.plan [] new → FoldsRanges ranged [] (Some new)
-  new_folds new folds = record { folds = λ rows held counted. folds }
 
 -- ---- all workers
 

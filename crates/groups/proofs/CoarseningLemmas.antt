@@ -114,13 +114,6 @@ module _ {H : Type 0} (aggregations : List Aggregation) (columns : List ℕ) whe
         whole = ap (λ l. p ++ l) rest.whole ∙ sym (append_assoc p (joined rest.firsts) rest.part);
       }
 
-  pub regroups_none : (new : List (Group H)) → new ≡ [] → Regroups aggregations columns [] new
-  regroups_none new e = record { serves = λ parts are. subst (λ gs. Covers aggregations columns (joined parts) gs) (sym e) (none parts are) }
-    where
-      none : (parts : List (List RowValue)) → AreParts {H = H} aggregations columns [] parts → Covers {H = H} aggregations columns (joined parts) []
-      none [] are = record { parts = []; each = tt; all = IsPermutation-refl [] }
-      none (p ∷ parts) are = absurd are
-
   pub regroups_more : (groups : List (Group H)) (g : Group H) (old new : List (Group H)) →
       Regroups aggregations columns groups old → TakesGroup g.0 g.1 old new → Regroups aggregations columns (groups ++ g ∷ []) new
   regroups_more groups g old new now takes = record {
@@ -234,9 +227,6 @@ pub record Coarsening {H : Type 0} (places : List ℕ) (groups : List (Group H))
   pub regroups : (aggregations : List Aggregation) (columns : List ℕ) → Regroups aggregations (picked_columns columns places) (coarser places (take i groups)) bag
 
 module _ {H : Type 0} (places : List ℕ) (groups : List (Group H)) where
-  pub coarsening_first : (bag : List (Group H)) → bag ≡ [] → Coarsening places groups 0 bag
-  coarsening_first bag e = record { regroups = λ aggregations columns. regroups_none aggregations (picked_columns columns places) bag e }
-
   pub coarsening_all : (bag : List (Group H)) (i : ℕ) → length groups ≤ i → Coarsening places groups i bag → (aggregations : List Aggregation) (columns : List ℕ) (rows : List RowValue) →
       AreWithin (length columns) places → Covers aggregations columns rows groups → Covers aggregations (picked_columns columns places) rows bag
   coarsening_all bag i past now aggregations columns rows all covers =

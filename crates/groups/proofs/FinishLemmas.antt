@@ -112,9 +112,6 @@ module _ {H : Type 0} where
     pub same : (rows : List RowValue) → Stands hash plan rows tries → made ++ flat_map (λ set. set_rows plan set rows) left ≡ rows_over plan rows
 
   module _ (hash : List Cell → ℕ) (plan : PlanTree) (tries : List (List (List Cell × List (Acc H)))) where
-    pub finishing_first : (made : List (List Total)) → made ≡ [] → Finishing hash plan tries made plan.sets tries
-    finishing_first made e = subst (λ m. Finishing hash plan tries m plan.sets tries) (sym e) (record { stand = λ rows s. s.each; same = λ rows s. refl })
-
     module _ {made : List (List Total)} {left : List (List ℕ)} {later : List (List (List Cell × List (Acc H)))} (now : Finishing hash plan tries made left later) where
       pub finishing_more : {set : List ℕ} {t : List (List Cell × List (Acc H))} {sets : List (List ℕ)} {more : List (List (List Cell × List (Acc H)))} →
           left ≡ set ∷ sets → later ≡ t ∷ more → (new : List (List Total)) →

@@ -41,13 +41,6 @@ module _ {H : Type 0} (rows : KeptRows H) where
   gone_none [] = tt
   gone_none (o ∷ old) = (refl, gone_none old)
 
-  pub gone_length : (i : ℕ) (old new : List (SetBag H)) → GoneOn i old new → length new ≡ length old
-  gone_length i [] [] now = refl
-  gone_length i [] (n ∷ new) now = absurd now
-  gone_length i (o ∷ old) [] now = absurd now
-  gone_length zero (o ∷ old) (n ∷ new) now = ap suc (gone_length zero old new now.1)
-  gone_length (suc i) (o ∷ old) (n ∷ new) now = ap suc (gone_length i old new now.1)
-
   -- the next source is as it was
   pub gone_at : (i : ℕ) (old new : List (SetBag H)) (d : SetBag H) → GoneOn i old new → get_or new i d ≡ get_or old i d
   gone_at i [] [] d now = refl

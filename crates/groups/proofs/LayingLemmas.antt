@@ -6,7 +6,7 @@ use Rattle.std.specs.FinMap.{IsAntisymmetric}
 use Rattle.std.specs.Ordering.{is_eq, is_lt}
 use Rattle.std.specs.declared.cmp.Ordering.{Ordering}
 use Rattle.std.proofs.Common.{eqb-true, get_or, ap, sym, ◌∙◌, subst, arith}
-use Rattle.std.proofs.lemmas.List.{drop_more, length-append, length-take, take_all, take_more, take-append-drop}
+use Rattle.std.proofs.lemmas.List.{drop_more, length-append, length-take, take_more, take-append-drop}
 use Rattle.std.proofs.lemmas.List.Sorted.{length_permutation}
 use Rattle.aggs.specs.declared.acc.Acc.{Acc}
 use Rattle.cells.specs.SameKeys.{exact_tuples, same_tuples}
@@ -122,14 +122,6 @@ module _ {H : Type 0} where
     pub fits_copy : (old : List (Group H)) (t : List Cell) (a : List (Acc H)) → IsLaid hash aggregations columns (take i groups) old → CanMeet aggregations columns groups →
         t ≡ g.0 → a ≡ g.1 → IfSome (found hash old t) (λ o. AllFit o a)
     fits_copy old t a now can p q = subst (λ u. IfSome (found hash old u) (λ o. AllFit o a)) (sym p) (subst (λ b. IfSome (found hash old g.0) (λ o. AllFit o b)) (sym q) (fits_next old now can))
-
-    pub room_next : (old : List (Group H)) → IsLaid hash aggregations columns (take i groups) old → length old ≤ i + 1
-    room_next old now = omega (arith, now.short, length-take i groups)
-
-  pub laid_all : {hash : List Cell → ℕ} {aggregations : List Aggregation} {columns : List ℕ} {groups old : List (Group H)} {i : ℕ} →
-      IsLaid hash aggregations columns (take i groups) old → length groups ≤ i → IsLaid hash aggregations columns groups old
-  laid_all {hash} {aggregations} {columns} {groups} {old} {i} now h =
-      subst (λ l. IsLaid hash aggregations columns l old) (take_all i groups h) now
 
   module _ (aggregations : List Aggregation) (columns : List ℕ) where
     record IsSplit (before : List (Group H)) (g : Group H) (parts : List (List RowValue)) : Type 0 where

@@ -60,10 +60,6 @@ module _ {X : Type 0} (P : X → Type 0) where
   all_first [] ys all = tt
   all_first (x ∷ xs) ys all = (all.0, all_first xs ys all.1)
 
-  pub all_second : (xs ys : List X) → AllByRecursion P (xs ++ ys) → AllByRecursion P ys
-  all_second [] ys all = all
-  all_second (x ∷ xs) ys all = all_second xs ys all.1
-
 pub all_through : {X : Type 0} (P Q : X → Type 0) → ((x : X) → P x → Q x) → (xs : List X) → AllByRecursion P xs → AllByRecursion Q xs
 all_through P Q f [] all = tt
 all_through P Q f (x ∷ xs) all = (f x all.0, all_through P Q f xs all.1)

@@ -44,7 +44,7 @@ impl<H: KeyHash<Cell>> Model for Watcher<H> {
     ghost use Rattle.std.specs.Coded.{codes};
     ghost use Rattle.board.specs.Editions.{coded_known};
     ghost use Rattle.query.specs.Codes.{coded_predicate};
-        ghost use Rattle.report.specs.Watching.{AreShots, Watching};
+    ghost use Rattle.report.specs.Watching.{AreShots, Watching};
 
     ghost Value = { Watching };
 

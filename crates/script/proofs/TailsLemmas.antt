@@ -331,12 +331,6 @@ module _ {W T : Type 0} (taken : W → Option (List ℕ)) (faults : W → ℕ) (
     sound = sound;
   }
 
--- where no viewers are asked for, there is no tail
-pub delivers_no_tail : {W T : Type 0} (taken : W → Option (List ℕ)) (faults : W → ℕ) (w : W) (givens : Givens) (asked : Option Viewing) (before : Lines) (x : T) → asked ≡ None →
-    Delivers taken faults w w (IsTailOf givens asked before) (Ok x)
-delivers_no_tail taken faults w givens None before x is = delivers_all taken faults w w (λ bytes. bytes ≡ []) [] refl x (Appends-nil (taken w)) refl
-delivers_no_tail taken faults w givens (Some viewing) before x is = absurd cc
-
 -- where all viewers were started, each answers the query on the keeper's board
 pub all_begun : (asked : Option Viewing) (viewing : Viewing) (k : Editions) (stage : Stage) (watches : List Watch) → asked ≡ Some viewing → stage ≡ Begun → HasAttended asked (Some k) stage watches →
     AllByRecursion (IsStarted viewing k) watches × (length watches ≡ viewing.viewers)
@@ -381,10 +375,6 @@ module _ {W T : Type 0} (taken : W → Option (List ℕ)) (faults : W → ℕ) (
       (λ bytes are. viewed stands.schema (subst (λ n. AreViewers (keeper.schema k) (editions givens before) n viewing 1 viewing.viewers bytes) stands.edition
       (subst (λ n. AreViewers (keeper.schema k) (editions givens before) (keeper.edition k) viewing 1 n bytes) many are)))
       d)
-
-pub never_expected : (asked : Option Viewing) (viewing : Viewing) (k : Editions) (stage : Stage) (watches : List Watch) → asked ≡ Some viewing → stage ≡ Expected → HasAttended asked (Some k) stage watches → ⊥
-never_expected None viewing k stage watches same is has = absurd cc
-never_expected (Some other) viewing k stage watches same is has = let bad : Some k ≡ None = has.declared tt is in cc
 
 -- one viewer more was started
 pub started_more : (viewing : Viewing) (k : Editions) (watches : List Watch) (viewer : Known) (plan : PlanTree) → AllByRecursion (IsStarted viewing k) watches →

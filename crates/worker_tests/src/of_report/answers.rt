@@ -45,8 +45,7 @@ fn is_counted<G: Gate, R: Threads + Wait>(
     workers: u64,
     gate: &G,
     wanted: &str,
-) -> Result<bool, Refused>
-{
+) -> Result<bool, Refused> {
     let query = read(alloc, QUERY)?;
     let plan = check(alloc, query, snapshot.schema())?;
     let cutting = Cutting { depth, small: 0 };
