@@ -1,17 +1,15 @@
 -- Accumulators of any of the six aggregates, and their laws.
-use Rattle.std.specs.Prelude.{◌≡◌, ◌+◌, ◌<◌, ◌^◌, ◌+ℤ◌, pos, List, [], ◌∷◌, ◌++◌, length, ⊤, refl}
+use Rattle.std.specs.Prelude.{◌≡◌, ◌+◌, ◌<◌, ◌≤◌, ◌^◌, pos, List, [], ◌∷◌, ◌++◌, length, ⊤, refl}
 use Rattle.std.specs.FinSet.{len, union}
-use Rattle.std.specs.Int.RustNames.{FitsSigned}
-use Rattle.std.specs.Int.{w128}
 use Rattle.std.specs.List.Sorted.{IsPermutation}
 use Rattle.std.proofs.Common.{ap}
 use Rattle.aggs.specs.Counts.{count_any_order, count_first, count_joins, count_room, count_second, counted, rows, rows_any_order, rows_first, rows_join, rows_room, rows_second}
 use Rattle.aggs.specs.Differing.{different, different_any_order, different_finishes, different_joins, different_room, nothing_first, nothing_second}
 use Rattle.aggs.specs.Extremes.{greatest_any_order, greatest_joins, greatest_kept, greatest_unit, least_any_order, least_joins, least_kept, least_unit}
 use Rattle.aggs.specs.Reducing.{merged}
-use Rattle.aggs.specs.Room.{MayJoin}
-use Rattle.aggs.specs.Sums.{sum_any_order, sum_joins, sum_or_zero, sum_room, sum_unit, summed, sums}
-use Rattle.aggs.specs.Values.{IsNoText, count, different_count, greater, greatest, greatest_of, least, least_of, lesser, present, row_count, sum, sum_of, total_or_null}
+use Rattle.aggs.specs.Room.{cell_limit}
+use Rattle.aggs.specs.Sums.{sum_any_order, sum_finishes, sum_first, sum_joins, sum_or_null, sum_room, sum_second, summed, sums}
+use Rattle.aggs.specs.Values.{count, different_count, greater, greatest, greatest_of, least, least_of, lesser, present, row_count, sum, total_or_null}
 use Rattle.aggs.specs.declared.acc.Acc.{Acc}
 use Rattle.aggs.specs.declared.acc.Acc.TheVariants as acc
 use Rattle.aggs.specs.declared.acc.Kind.{Kind}
@@ -40,7 +38,7 @@ module _ {H : Type 0} where
   acc_of kind.CountRows xs = acc.CountRows (rows (length xs))
   acc_of kind.Count xs = acc.Count (counted (length (present xs)))
   acc_of kind.CountDistinct xs = acc.CountDistinct (different xs)
-  acc_of kind.Sum xs = acc.Sum (summed (sum_of xs))
+  acc_of kind.Sum xs = acc.Sum (summed xs)
   acc_of kind.Min xs = acc.Min (least_kept (least_of xs))
   acc_of kind.Max xs = acc.Max (greatest_kept (greatest_of xs))
 
@@ -57,7 +55,7 @@ module _ {H : Type 0} where
   acc_together (acc.CountRows a) (acc.CountRows b) = acc.CountRows (rows (a.count + b.count))
   acc_together (acc.Count a) (acc.Count b) = acc.Count (counted (a.count + b.count))
   acc_together (acc.CountDistinct a) (acc.CountDistinct b) = acc.CountDistinct (union a b)
-  acc_together (acc.Sum a) (acc.Sum b) = acc.Sum (summed (sums a.sum b.sum))
+  acc_together (acc.Sum a) (acc.Sum b) = acc.Sum (sums a b)
   acc_together (acc.Min a) (acc.Min b) = acc.Min (least_kept (merged lesser a.least b.least))
   acc_together (acc.Max a) (acc.Max b) = acc.Max (greatest_kept (merged greater a.greatest b.greatest))
   acc_together a b = a
@@ -67,20 +65,15 @@ module _ {H : Type 0} where
   AccsFit (acc.CountRows a) (acc.CountRows b) = a.count + b.count < 2 ^ 64
   AccsFit (acc.Count a) (acc.Count b) = a.count + b.count < 2 ^ 64
   AccsFit (acc.CountDistinct a) (acc.CountDistinct b) = len a + len b < 2 ^ 64
-  AccsFit (acc.Sum a) (acc.Sum b) = FitsSigned w128 (sum_or_zero a.sum +ℤ sum_or_zero b.sum)
+  AccsFit (acc.Sum a) (acc.Sum b) = a.integers + b.integers ≤ cell_limit
   AccsFit a b = ⊤
-
-  -- what is asked of a cell: for a sum, that it is no text
-  abbrev pub AccTakes : Acc H → Cell → Type 0
-  AccTakes (acc.Sum a) c = IsNoText c
-  AccTakes a c = ⊤
 
   -- the value that an accumulator gives
   abbrev pub acc_total : Acc H → Total
   acc_total (acc.CountRows a) = total.Int (pos a.count)
   acc_total (acc.Count a) = total.Int (pos a.count)
   acc_total (acc.CountDistinct a) = total.Int (pos (len a))
-  acc_total (acc.Sum a) = total_or_null total.Int a.sum
+  acc_total (acc.Sum a) = sum_or_null a.integers a.sum
   acc_total (acc.Min a) = total_or_null cell_total a.least
   acc_total (acc.Max a) = total_or_null cell_total a.greatest
 
@@ -104,7 +97,7 @@ pub acc_unit_first : {H : Type 0} (a : Acc H) → acc_together (acc_of (kind_of 
 acc_unit_first (acc.CountRows a) = ap acc.CountRows (rows_first a)
 acc_unit_first (acc.Count a) = ap acc.Count (count_first a)
 acc_unit_first (acc.CountDistinct a) = ap acc.CountDistinct (nothing_first a)
-acc_unit_first (acc.Sum a) = refl
+acc_unit_first (acc.Sum a) = ap acc.Sum (sum_first a)
 acc_unit_first (acc.Min a) = refl
 acc_unit_first (acc.Max a) = refl
 
@@ -112,7 +105,7 @@ pub acc_unit_second : {H : Type 0} (a : Acc H) → acc_together a (acc_of (kind_
 acc_unit_second (acc.CountRows a) = ap acc.CountRows (rows_second a)
 acc_unit_second (acc.Count a) = ap acc.Count (count_second a)
 acc_unit_second (acc.CountDistinct a) = ap acc.CountDistinct (nothing_second a)
-acc_unit_second (acc.Sum a) = ap acc.Sum (sum_unit a)
+acc_unit_second (acc.Sum a) = ap acc.Sum (sum_second a)
 acc_unit_second (acc.Min a) = ap acc.Min (least_unit a)
 acc_unit_second (acc.Max a) = ap acc.Max (greatest_unit a)
 
@@ -128,23 +121,14 @@ pub acc_finishes : (H : Type 0) (k : Kind) (xs : List Cell) → acc_total (acc_o
 acc_finishes H kind.CountRows xs = refl
 acc_finishes H kind.Count xs = refl
 acc_finishes H kind.CountDistinct xs = different_finishes xs
-acc_finishes H kind.Sum xs = refl
+acc_finishes H kind.Sum xs = sum_finishes xs
 acc_finishes H kind.Min xs = refl
 acc_finishes H kind.Max xs = refl
 
-pub acc_room : (H : Type 0) (k : Kind) (xs ys : List Cell) → MayJoin xs ys → AccsFit (acc_of {H = H} k xs) (acc_of k ys)
-acc_room H kind.CountRows xs ys may = rows_room xs ys may
-acc_room H kind.Count xs ys may = count_room xs ys may
-acc_room H kind.CountDistinct xs ys may = different_room xs ys may
-acc_room H kind.Sum xs ys may = sum_room xs ys may
-acc_room H kind.Min xs ys may = tt
-acc_room H kind.Max xs ys may = tt
-
--- a sum takes no text, and the others any cell
-pub acc_takes : (H : Type 0) (k : Kind) (xs : List Cell) (c : Cell) → (k ≡ kind.Sum → IsNoText c) → AccTakes (acc_of {H = H} k xs) c
-acc_takes H kind.CountRows xs c fit = tt
-acc_takes H kind.Count xs c fit = tt
-acc_takes H kind.CountDistinct xs c fit = tt
-acc_takes H kind.Sum xs c fit = fit refl
-acc_takes H kind.Min xs c fit = tt
-acc_takes H kind.Max xs c fit = tt
+pub acc_room : (H : Type 0) (k : Kind) (xs ys : List Cell) → length xs + length ys ≤ cell_limit → AccsFit (acc_of {H = H} k xs) (acc_of k ys)
+acc_room H kind.CountRows xs ys few = rows_room xs ys few
+acc_room H kind.Count xs ys few = count_room xs ys few
+acc_room H kind.CountDistinct xs ys few = different_room xs ys few
+acc_room H kind.Sum xs ys few = sum_room xs ys few
+acc_room H kind.Min xs ys few = tt
+acc_room H kind.Max xs ys few = tt

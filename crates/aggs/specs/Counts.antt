@@ -7,7 +7,7 @@ use Rattle.std.proofs.lemmas.List.Elements.{filter-append}
 use Rattle.std.proofs.lemmas.List.Filters.{length-filter_both}
 use Rattle.std.proofs.lemmas.List.Sorted.{length_permutation}
 use Rattle.aggs.specs.Bags.{decided_by_bag}
-use Rattle.aggs.specs.Room.{MayJoin}
+use Rattle.aggs.specs.Room.{cell_limit}
 use Rattle.aggs.specs.Values.{is_null, present}
 use Rattle.aggs.specs.declared.count.Count.{Count}
 use Rattle.aggs.specs.declared.count.CountRows.{CountRows}
@@ -32,8 +32,8 @@ rows_first a = ap rows (omega arith)
 pub rows_second : (a : CountRows) → rows (a.count + 0) ≡ a
 rows_second a = ap rows (omega arith)
 
-pub rows_room : (xs ys : List Cell) → MayJoin xs ys → length xs + length ys < 2 ^ 64
-rows_room xs ys may = let few = may.few in omega arith
+pub rows_room : (xs ys : List Cell) → length xs + length ys ≤ cell_limit → length xs + length ys < 2 ^ 64
+rows_room xs ys few = omega arith
 
 pub present_append : (xs ys : List Cell) → present (xs ++ ys) ≡ present xs ++ present ys
 present_append xs ys = filter-append (λ c. not (is_null c)) xs ys
@@ -61,5 +61,5 @@ not_twice false = refl
 pub number_at_most : (xs : List Cell) → length (present xs) ≤ length xs
 number_at_most xs = omega (arith, length-filter_both (λ c. not (is_null c)) is_null (λ c. not_twice (is_null c)) xs)
 
-pub count_room : (xs ys : List Cell) → MayJoin xs ys → length (present xs) + length (present ys) < 2 ^ 64
-count_room xs ys may = let few = may.few in omega (arith, number_at_most xs, number_at_most ys)
+pub count_room : (xs ys : List Cell) → length xs + length ys ≤ cell_limit → length (present xs) + length (present ys) < 2 ^ 64
+count_room xs ys few = omega (arith, number_at_most xs, number_at_most ys)

@@ -9,7 +9,7 @@ use Rattle.std.proofs.lemmas.List.Folds.{list_any-append}
 use Rattle.std.proofs.lemmas.Map.Made.{distinct_count-le}
 use Rattle.aggs.specs.Bags.{decided_by_bag}
 use Rattle.aggs.specs.Counts.{number_at_most, present_append}
-use Rattle.aggs.specs.Room.{MayJoin}
+use Rattle.aggs.specs.Room.{cell_limit}
 use Rattle.aggs.specs.Values.{different_count, present}
 use Rattle.cells.specs.CellOrder.{cell_cmp, cell_cmp-total, cell_eq}
 use Rattle.cells.specs.SameKeys.{exact_cells}
@@ -75,8 +75,8 @@ different_count_is xs = set_count (present xs)
 different_at_most : (xs : List Cell) → len (different xs) ≤ length xs
 different_at_most xs = omega (arith, different_count_is xs, distinct_count-le cell_eq (present xs), number_at_most xs)
 
-pub different_room : (xs ys : List Cell) → MayJoin xs ys → len (different xs) + len (different ys) < 2 ^ 64
-different_room xs ys may = let few = may.few in omega (arith, different_at_most xs, different_at_most ys)
+pub different_room : (xs ys : List Cell) → length xs + length ys ≤ cell_limit → len (different xs) + len (different ys) < 2 ^ 64
+different_room xs ys few = omega (arith, different_at_most xs, different_at_most ys)
 
 pub different_finishes : (xs : List Cell) → total.Int (pos (len (different xs))) ≡ different_count xs
 different_finishes xs = ap (λ n. total.Int (pos n)) (different_count_is xs)

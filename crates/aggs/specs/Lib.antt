@@ -7,4 +7,5 @@ pub mod Picks
 pub mod Reducing
 pub mod Room
 pub mod Sums
+pub mod Totals
 pub mod Values

@@ -1,37 +1,37 @@
 -- The laws of SUM.
-use Rattle.std.specs.Prelude.{◌≡◌, ℕ, suc, ◌+◌, ◌*◌, ◌≤◌, ◌^◌, ℤ, pos, negsuc, ◌+ℤ◌, List, [], ◌∷◌, ◌++◌, length, Option, Some, None, refl}
-use Rattle.std.specs.Int.RustNames.{FitsSigned, unsigned_abs}
-use Rattle.std.specs.Int.{w128}
+use Rattle.std.specs.Prelude.{◌≡◌, ℕ, zero, suc, ◌+◌, ◌≤◌, ℤ, pos, ◌+ℤ◌, List, [], ◌∷◌, ◌++◌, length, Some, refl}
 use Rattle.std.specs.List.{reduce}
 use Rattle.std.specs.List.Sorted.{IsPermutation}
-use Rattle.std.proofs.Common.{ap, sym, subst, ◌∙◌, arith}
-use Rattle.std.proofs.lemmas.Int.{fits_signed_from_abs, ints}
-use Rattle.aggs.specs.Reducing.{merged, merged_none, picked_any_order, picked_joins, reduce_more}
-use Rattle.aggs.specs.Room.{MayJoin}
-use Rattle.cells.specs.Fitting.{AreStored}
-use Rattle.aggs.specs.Values.{integers, sum_of}
-use Rattle.aggs.specs.declared.sum.Sum.{Sum}
+use Rattle.std.proofs.Common.{ap, ap₂, sym, ◌∙◌, arith}
+use Rattle.std.proofs.lemmas.Int.{ints}
+use Rattle.std.proofs.lemmas.List.{length-append}
+use Rattle.aggs.specs.Bags.{decided_by_bag}
+use Rattle.aggs.specs.Reducing.{merged, reduce_more}
+use Rattle.aggs.specs.Room.{cell_limit}
+use Rattle.aggs.specs.Totals.{Summed}
+use Rattle.aggs.specs.Values.{integers, sum, sum_of, total_or_null}
 use Rattle.cells.specs.declared.cell.Cell.{Cell}
 use Rattle.cells.specs.declared.cell.Cell.TheVariants.{Null, Int, Text}
+use Rattle.cells.specs.declared.total.Total.{Total}
+use Rattle.cells.specs.declared.total.Total.TheVariants as total
 
--- the sum of two sums that may be there
-abbrev pub sums : Option ℤ → Option ℤ → Option ℤ
-sums = merged (λ m n. m +ℤ n)
+-- the integers added up, 0 where there is none
+abbrev pub added : List ℤ → ℤ
+added [] = pos 0
+added (n ∷ ns) = n +ℤ added ns
 
--- a sum that may be there as a number
-abbrev pub sum_or_zero : Option ℤ → ℤ
-sum_or_zero None = pos 0
-sum_or_zero (Some n) = n
+-- the accumulator of a list
+abbrev pub summed : List Cell → Summed
+summed xs = record { sum = added (integers xs); integers = length (integers xs) }
 
--- the accumulator of a sum
-abbrev pub summed : Option ℤ → Sum
-summed s = record { sum = s }
+-- two of them put together
+abbrev pub sums : Summed → Summed → Summed
+sums a b = record { sum = a.sum +ℤ b.sum; integers = a.integers + b.integers }
 
-add_assoc : (a b c : ℤ) → (a +ℤ b) +ℤ c ≡ a +ℤ (b +ℤ c)
-add_assoc a b c = omega (arith, ints)
-
-add_turns : (a b : ℤ) → a +ℤ b ≡ b +ℤ a
-add_turns a b = omega (arith, ints)
+-- the sum of so many integers: of none there is none
+abbrev pub sum_or_null : ℕ → ℤ → Total
+sum_or_null zero n = total.Null
+sum_or_null (suc count) n = total.Int n
 
 integers_append : (xs ys : List Cell) → integers (xs ++ ys) ≡ integers xs ++ integers ys
 integers_append [] ys = refl
@@ -39,41 +39,48 @@ integers_append (Null ∷ xs) ys = integers_append xs ys
 integers_append (Int n ∷ xs) ys = ap (λ ns. n ∷ ns) (integers_append xs ys)
 integers_append (Text t ∷ xs) ys = integers_append xs ys
 
-pub sum_joins : (xs ys : List Cell) → summed (sum_of (xs ++ ys)) ≡ summed (sums (sum_of xs) (sum_of ys))
-sum_joins xs ys = ap summed (picked_joins (λ m n. m +ℤ n) add_assoc add_turns integers integers_append xs ys)
+added_append : (ms ns : List ℤ) → added (ms ++ ns) ≡ added ms +ℤ added ns
+added_append [] ns = omega (arith, ints)
+added_append (m ∷ ms) ns = omega (arith, ints, added_append ms ns)
 
-pub sum_any_order : (xs ys : List Cell) → IsPermutation xs ys → summed (sum_of xs) ≡ summed (sum_of ys)
-sum_any_order xs ys p = ap summed (picked_any_order (λ m n. m +ℤ n) add_assoc add_turns integers integers_append xs ys p)
+pub sum_joins : (xs ys : List Cell) → summed (xs ++ ys) ≡ sums (summed xs) (summed ys)
+sum_joins xs ys = ap (λ ns. record { sum = added ns; integers = length ns }) (integers_append xs ys)
+    ∙ ap₂ (λ (n : ℤ) (count : ℕ). record { sum = n; integers = count }) (added_append (integers xs) (integers ys)) (length-append (integers xs) (integers ys))
 
-pub sum_unit : (a : Sum) → summed (sums a.sum None) ≡ a
-sum_unit a = ap summed (merged_none (λ m n. m +ℤ n) a.sum)
+pub sums_turn : (a b : Summed) → sums a b ≡ sums b a
+sums_turn a b = ap₂ (λ (n : ℤ) (count : ℕ). record { sum = n; integers = count }) (omega (arith, ints)) (omega arith)
 
-abs_add : (a b : ℤ) → unsigned_abs (a +ℤ b) ≤ unsigned_abs a + unsigned_abs b
-abs_add (pos a) (pos b) = omega (arith, ints)
-abs_add (pos a) (negsuc b) = omega (arith, ints)
-abs_add (negsuc a) (pos b) = omega (arith, ints)
-abs_add (negsuc a) (negsuc b) = omega (arith, ints)
+pub sum_any_order : (xs ys : List Cell) → IsPermutation xs ys → summed xs ≡ summed ys
+sum_any_order = decided_by_bag summed sums sum_joins (λ us vs. sum_joins us vs ∙ sums_turn (summed us) (summed vs) ∙ sym (sum_joins vs us))
 
-more : (n : ℤ) (s : Option ℤ) → sum_or_zero (sums (Some n) s) ≡ n +ℤ sum_or_zero s
-more n None = omega (arith, ints)
-more n (Some m) = refl
+pub sum_first : (a : Summed) → sums (summed []) a ≡ a
+sum_first a = ap₂ (λ (n : ℤ) (count : ℕ). record { sum = n; integers = count }) (omega (arith, ints)) (omega arith)
 
-first_added : (n : ℤ) (ns : List ℤ) → sum_or_zero (reduce (λ a b. a +ℤ b) (n ∷ ns)) ≡ n +ℤ sum_or_zero (reduce (λ a b. a +ℤ b) ns)
-first_added n ns = ap sum_or_zero (reduce_more (λ a b. a +ℤ b) add_assoc add_turns n ns) ∙ more n (reduce (λ a b. a +ℤ b) ns)
+pub sum_second : (a : Summed) → sums a (summed []) ≡ a
+sum_second a = sums_turn a (summed []) ∙ sum_first a
 
-one_more : (n rest : ℤ) (count : ℕ) → unsigned_abs n ≤ 2 ^ 63 → unsigned_abs rest ≤ count * 2 ^ 63 →
-    unsigned_abs (n +ℤ rest) ≤ suc count * 2 ^ 63
-one_more n rest count small most = omega (arith, abs_add n rest)
+add_assoc : (a b c : ℤ) → (a +ℤ b) +ℤ c ≡ a +ℤ (b +ℤ c)
+add_assoc a b c = omega (arith, ints)
 
--- a sum of so many integers of 64 bits
-up_to : (xs : List Cell) → AreStored xs → unsigned_abs (sum_or_zero (sum_of xs)) ≤ length xs * 2 ^ 63
-up_to [] stored = omega arith
-up_to (Null ∷ xs) stored = omega (arith, up_to xs stored.1)
-up_to (Int n ∷ xs) stored =
-    subst (λ z. unsigned_abs z ≤ suc (length xs) * 2 ^ 63) (sym (first_added n (integers xs)))
-    (one_more n (sum_or_zero (sum_of xs)) (length xs) stored.0 (up_to xs stored.1))
-up_to (Text t ∷ xs) stored = omega (arith, up_to xs stored.1)
+add_turns : (a b : ℤ) → a +ℤ b ≡ b +ℤ a
+add_turns a b = omega (arith, ints)
 
-pub sum_room : (xs ys : List Cell) → MayJoin xs ys → FitsSigned w128 (sum_or_zero (sum_of xs) +ℤ sum_or_zero (sum_of ys))
-sum_room xs ys may = let few = may.few in fits_signed_from_abs w128 _
-    (omega (arith, abs_add (sum_or_zero (sum_of xs)) (sum_or_zero (sum_of ys)), up_to xs may.first, up_to ys may.second))
+reduced : (n : ℤ) (ns : List ℤ) → reduce (λ a b. a +ℤ b) (n ∷ ns) ≡ Some (added (n ∷ ns))
+reduced n [] = ap Some (omega (arith, ints))
+reduced n (m ∷ ns) = reduce_more (λ a b. a +ℤ b) add_assoc add_turns n (m ∷ ns) ∙ ap (merged (λ a b. a +ℤ b) (Some n)) (reduced m ns)
+
+value : (ns : List ℤ) → sum_or_null (length ns) (added ns) ≡ total_or_null total.Int (reduce (λ a b. a +ℤ b) ns)
+value [] = refl
+value (n ∷ ns) = ap (total_or_null total.Int) (sym (reduced n ns))
+
+pub sum_finishes : (xs : List Cell) → sum_or_null (summed xs).integers (summed xs).sum ≡ sum xs
+sum_finishes xs = value (integers xs)
+
+integers_at_most : (xs : List Cell) → length (integers xs) ≤ length xs
+integers_at_most [] = omega arith
+integers_at_most (Null ∷ xs) = omega (arith, integers_at_most xs)
+integers_at_most (Int n ∷ xs) = omega (arith, integers_at_most xs)
+integers_at_most (Text t ∷ xs) = omega (arith, integers_at_most xs)
+
+pub sum_room : (xs ys : List Cell) → length xs + length ys ≤ cell_limit → length (integers xs) + length (integers ys) ≤ cell_limit
+sum_room xs ys few = omega (arith, integers_at_most xs, integers_at_most ys)

@@ -1,5 +1,5 @@
 -- The values of aggregates over lists of cells (ISO/IEC 9075-2:1999, 6.16 <set function specification>).
-use Rattle.std.specs.Prelude.{ℤ, pos, ◌+ℤ◌, Bool, true, false, not, List, [], ◌∷◌, length, filter, Option, Some, None, if◌then◌else◌, ⊤}
+use Rattle.std.specs.Prelude.{ℤ, pos, ◌+ℤ◌, Bool, true, false, not, List, [], ◌∷◌, length, filter, Option, Some, None, if◌then◌else◌}
 use Rattle.std.specs.List.{reduce}
 use Rattle.std.specs.Ordering.{is_lt}
 use Rattle.std.specs.Set.{distinct_count}
@@ -70,9 +70,3 @@ greatest_of cells = reduce greater (present cells)
 
 abbrev pub greatest : List Cell → Total
 greatest cells = total_or_null cell_total (greatest_of cells)
-
--- what SUM may be asked of: no texts
-abbrev pub IsNoText : Cell → Type 0
-IsNoText Null = ⊤
-IsNoText (Int n) = ⊤
-IsNoText (Text t) = ⊥

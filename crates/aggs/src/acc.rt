@@ -1,6 +1,6 @@
 //! An accumulator of any of the aggregates.
 ghost use Rattle.std.specs.Prelude.{◌≡◌, ◌≢◌, [], ◌∷◌, IfOk, OnErr};
-ghost use Rattle.aggs.specs.Accs.{AccTakes, AccsFit, acc_of, acc_together, acc_total, kind_of};
+ghost use Rattle.aggs.specs.Accs.{AccsFit, acc_of, acc_together, acc_total, kind_of};
 
 use crate::aggregate::Aggregate;
 use crate::count::{Count, CountRows};
@@ -71,11 +71,9 @@ impl<H: KeyHash<Cell>> Acc<H> {
     }
 
     /// Makes it the accumulator of its list and the cell behind it. It takes memory only where the
-    /// cell or a part of it is kept. For a sum the cell is no text. After a refusal, which is want of
-    /// memory, it is as it was.
+    /// cell or a part of it is kept. After a refusal, which is want of memory, it is as it was.
     pub fn step(&mut self, alloc: Global, cell: &Cell) -> Result<(), AllocError>
-        requires kind { AccTakes self.old cell.now }
-        requires room { AccsFit self.old (acc_of (kind_of self.old) (cell.now ∷ [])) }
+        requires { AccsFit self.old (acc_of (kind_of self.old) (cell.now ∷ [])) }
         ensures stepped { IfOk result (λ _. self.new ≡ acc_together self.old (acc_of (kind_of self.old) (cell.now ∷ []))) }
         ensures unchanged { OnErr result (self.new ≡ self.old) }
         ensures needed { OnErr result (acc_together self.old (acc_of (kind_of self.old) (cell.now ∷ [])) ≢ self.old) }
@@ -90,10 +88,10 @@ impl<H: KeyHash<Cell>> Acc<H> {
         }
     }
 
-    /// The accumulator of both lists put together. Both are of one aggregate.
+    /// The accumulator of both lists put together. An accumulator of another aggregate adds nothing to this
+    /// one.
     pub fn join(&self, alloc: Global, other: &Acc<H>) -> Result<Acc<H>, AllocError>
-        requires fits { AccsFit self.now other.now }
-        requires one { kind_of self.now ≡ kind_of other.now }
+        requires { AccsFit self.now other.now }
         ensures { IfOk result (λ both. both ≡ acc_together self.now other.now) }
     {
         match (self, other) {
@@ -107,7 +105,7 @@ impl<H: KeyHash<Cell>> Acc<H> {
             (Acc::Sum(first), Acc::Sum(second)) => Ok(Acc::Sum(first.join(alloc, second)?)),
             (Acc::Min(first), Acc::Min(second)) => Ok(Acc::Min(first.join(alloc, second)?)),
             (Acc::Max(first), Acc::Max(second)) => Ok(Acc::Max(first.join(alloc, second)?)),
-            _ => unreachable!(),
+            _ => self.clone(),
         }
     }
 

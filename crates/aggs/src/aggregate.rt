@@ -1,7 +1,7 @@
 //! What an aggregate is.
-ghost use Rattle.std.specs.Prelude.{◌≡◌, ◌≢◌, List, [], ◌∷◌, ◌++◌, IfOk, OnErr};
+ghost use Rattle.std.specs.Prelude.{◌≡◌, ◌≢◌, ◌+◌, ◌≤◌, List, [], ◌∷◌, ◌++◌, length, IfOk, OnErr};
 ghost use Rattle.std.specs.List.Sorted.{IsPermutation};
-ghost use Rattle.aggs.specs.Room.{MayJoin};
+ghost use Rattle.aggs.specs.Room.{cell_limit};
 ghost use Rattle.cells.specs.declared.cell.Cell.{Cell};
 ghost use Rattle.cells.specs.declared.total.Total.{Total};
 
@@ -26,9 +26,6 @@ pub trait Aggregate {
     /// What is asked of two accumulators that are put together. The law `room` gives it.
     ghost fits: { Self → Self → Type 0 };
 
-    /// What is asked of a cell.
-    ghost may_take: { Cell → Type 0 };
-
     /// The value of the aggregate over a list (ISO/IEC 9075-2:1999, 6.16).
     ghost value: { List Cell → Total };
 
@@ -39,8 +36,7 @@ pub trait Aggregate {
     /// Makes it the accumulator of its list and the cell behind it. It takes memory only where the
     /// cell or a part of it is kept.
     fn step(&mut self, alloc: Global, cell: &Cell) -> Result<(), AllocError>
-        requires kind { may_take cell.now }
-        requires room { fits self.old (of (cell.now ∷ [])) }
+        requires { fits self.old (of (cell.now ∷ [])) }
         ensures stepped { IfOk result (λ _. self.new ≡ together self.old (of (cell.now ∷ []))) }
         ensures unchanged { OnErr result (self.new ≡ self.old) }
 
@@ -66,5 +62,5 @@ pub trait Aggregate {
 
     ghost finishes: { (xs : List Cell) → total (of xs) ≡ value xs };
 
-    ghost room: { (xs ys : List Cell) → MayJoin xs ys → fits (of xs) (of ys) };
+    ghost room: { (xs ys : List Cell) → length xs + length ys ≤ cell_limit → fits (of xs) (of ys) };
 }

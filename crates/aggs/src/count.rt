@@ -1,5 +1,5 @@
 //! COUNT(*) and COUNT of a column.
-ghost use Rattle.std.specs.Prelude.{◌≡◌, ◌+◌, ◌<◌, ◌^◌, ⊤, length, pos, refl};
+ghost use Rattle.std.specs.Prelude.{◌≡◌, ◌+◌, ◌<◌, ◌^◌, length, pos, refl};
 ghost use Rattle.aggs.specs.Counts;
 ghost use Rattle.aggs.specs.Values.{count, present, row_count};
 ghost use Rattle.cells.specs.declared.total.Total.TheVariants as total;
@@ -28,8 +28,6 @@ impl Aggregate for CountRows {
     ghost total = { λ a. total.Int (pos a.count) };
 
     ghost fits = { λ a b. a.count + b.count < 2 ^ 64 };
-
-    ghost may_take = { λ _. ⊤ };
 
     ghost value = { row_count };
 
@@ -73,8 +71,6 @@ impl Aggregate for Count {
     ghost total = { λ a. total.Int (pos a.count) };
 
     ghost fits = { λ a b. a.count + b.count < 2 ^ 64 };
-
-    ghost may_take = { λ _. ⊤ };
 
     ghost value = { count };
 

@@ -1,5 +1,5 @@
 //! COUNT of a column's different cells.
-ghost use Rattle.std.specs.Prelude.{◌≡◌, ◌+◌, ◌<◌, ◌^◌, List, ⊤, IfOk, pos};
+ghost use Rattle.std.specs.Prelude.{◌≡◌, ◌+◌, ◌<◌, ◌^◌, List, IfOk, pos};
 ghost use Rattle.std.specs.FinSet.{contains, from_list, insert, len, union};
 ghost use Rattle.std.specs.Map.{keys_of};
 ghost use Rattle.aggs.specs.Differing as differing;
@@ -128,8 +128,6 @@ impl<H: KeyHash<Cell>> Aggregate for CountDistinct<H> {
     ghost total = { λ a. total.Int (pos (len a)) };
 
     ghost fits = { λ a b. len a + len b < 2 ^ 64 };
-
-    ghost may_take = { λ _. ⊤ };
 
     ghost value = { different_count };
 

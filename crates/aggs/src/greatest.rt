@@ -47,8 +47,6 @@ impl Aggregate for Max {
 
     ghost fits = { λ a b. ⊤ };
 
-    ghost may_take = { λ _. ⊤ };
-
     ghost value = { greatest };
 
     fn empty() -> Max {

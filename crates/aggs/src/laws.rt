@@ -1,12 +1,11 @@
 //! The laws of accumulators of any kind, and worked examples.
-ghost use Rattle.std.specs.Prelude.{◌≡◌, List, [], ◌∷◌, ◌++◌, codes, negsuc, pos};
+ghost use Rattle.std.specs.Prelude.{◌≡◌, ◌+◌, ◌≤◌, List, [], ◌∷◌, ◌++◌, codes, length, negsuc, pos};
 ghost use Rattle.std.specs.List.Sorted.{IsPermutation};
-ghost use Rattle.aggs.specs.Accs.{AccTakes, AccsFit, acc_of, acc_together, acc_total, kind_of, value_of, values_over};
-ghost use Rattle.aggs.specs.Room.{MayJoin};
-ghost use Rattle.aggs.specs.Values.{IsNoText, greatest, least, sum};
+ghost use Rattle.aggs.specs.Accs.{AccsFit, acc_of, acc_together, acc_total, kind_of, value_of, values_over};
+ghost use Rattle.aggs.specs.Room.{cell_limit};
+ghost use Rattle.aggs.specs.Values.{greatest, least, sum};
 ghost use Rattle.aggs.specs.declared.acc.Acc.{Acc};
 ghost use Rattle.aggs.specs.declared.acc.Kind.{Kind};
-ghost use Rattle.aggs.specs.declared.acc.Kind.TheVariants as kind;
 ghost use Rattle.cells.specs.declared.cell.Cell.{Cell};
 ghost use Rattle.cells.specs.declared.cell.Cell.TheVariants as cell;
 ghost use Rattle.cells.specs.declared.total.Total.TheVariants as total;
@@ -24,8 +23,7 @@ pub fn accumulators_keep_the_laws<H: KeyHash<Cell>>()
     ensures unit_second { (a : Acc H) → acc_together a (acc_of (kind_of a) []) ≡ a }
     ensures any_order { (k : Kind) (xs ys : List Cell) → IsPermutation xs ys → acc_of {H = H} k xs ≡ acc_of k ys }
     ensures finishes { (k : Kind) (xs : List Cell) → acc_total (acc_of {H = H} k xs) ≡ value_of k xs }
-    ensures room { (k : Kind) (xs ys : List Cell) → MayJoin xs ys → AccsFit (acc_of {H = H} k xs) (acc_of k ys) }
-    ensures takes { (k : Kind) (xs : List Cell) (c : Cell) → (k ≡ kind.Sum → IsNoText c) → AccTakes (acc_of {H = H} k xs) c }
+    ensures room { (k : Kind) (xs ys : List Cell) → length xs + length ys ≤ cell_limit → AccsFit (acc_of {H = H} k xs) (acc_of k ys) }
 {}
 
 /// Examples, computed by the definitions: COUNT(*), COUNT, COUNT DISTINCT, SUM, MIN and MAX over

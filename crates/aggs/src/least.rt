@@ -47,8 +47,6 @@ impl Aggregate for Min {
 
     ghost fits = { λ a b. ⊤ };
 
-    ghost may_take = { λ _. ⊤ };
-
     ghost value = { least };
 
     fn empty() -> Min {

@@ -1,18 +1,15 @@
 -- The columns of an edition's rows.
 use Rattle.std.specs.Prelude.{◌≡◌, List, length}
 use Rattle.std.specs.FinMap.{len}
-use Rattle.std.specs.List.{AllByRecursion}
 use Rattle.std.specs.List.Sorted.{IsPermutation}
-use Rattle.cells.specs.Fitting.{IsRowOf}
-use Rattle.cells.specs.Tables.{AreRowsOf, Rows, table}
+use Rattle.cells.specs.Tables.{Rows, table}
 use Rattle.cells.specs.Updates.{AreLeft}
-use Rattle.cells.specs.Values.{RowValue, Table}
+use Rattle.cells.specs.Values.{RowValue}
 use Rattle.columns.specs.Columns.{ColumnsValue, Hold}
 
 -- the list has each of the rows once, in some order
 pub record IsListOf (rows : Rows) (list : List RowValue) : Type 0 where
   pub each : (rs : List RowValue) → AreLeft rs → rows ≡ table rs → IsPermutation list rs
-  pub fit : (t : Table) → AreRowsOf t rows → AllByRecursion (IsRowOf t) list
   pub count : length list ≡ len rows
 
 -- the columns hold the rows of an edition, in some order

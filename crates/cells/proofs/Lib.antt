@@ -13,7 +13,6 @@ pub mod QuotesLemmas
 pub mod ReadingLemmas
 pub mod RecordsLemmas
 pub mod RunsLemmas
-pub mod StoredLemmas
 pub mod TokensLemmas
 pub mod UpdatesLemmas
 pub mod WordsLemmas

@@ -1,6 +1,6 @@
 -- The tokens and the schema that a text spells: what is computed is what the relations say.
 use Rattle.std.proofs.Common.{◌≡◌, ℕ, zero, suc, ◌≤◌, Bool, true, false, List, [], ◌∷◌, ◌++◌, length, length-append, map, Option, Some, None, Result, Ok, Err, ◌⊎◌, inl, inr, refl, sym, ap, ◌∙◌, subst, arith}
-use Rattle.std.specs.Prelude.{bytes_eq, codes, count_by, nat_le, not, ◌&&◌, ◌==◌, option_map, pos, position, IfOk, IfErr}
+use Rattle.std.specs.Prelude.{bytes_eq, count_by, nat_le, not, ◌&&◌, ◌==◌, option_map, position, IfOk, IfErr}
 use Rattle.std.specs.List.{IsDistinct}
 use Rattle.std.proofs.lemmas.Bool.{eq-eqb, eqb-true, le-leb, leb-true}
 use Rattle.std.proofs.lemmas.Cmp.{nat_list_eq_equiv}
@@ -11,15 +11,14 @@ use Rattle.cells.specs.declared.refused.Refused.{Refused}
 use Rattle.cells.specs.declared.refused.Refused.TheVariants.{BadSchema, OutOfMemory}
 use Rattle.cells.specs.declared.schema.Column.{Column}
 use Rattle.cells.specs.declared.schema.ColumnDefinition.{ColumnDefinition}
-use Rattle.cells.specs.declared.schema.ColumnType.TheVariants.{Int}
 use Rattle.cells.specs.declared.token.Mark.TheVariants.{Comma, LeftParen, RightParen}
 use Rattle.cells.specs.declared.token.Token.{Token}
 use Rattle.cells.specs.declared.token.TokenFault.TheVariants.{Bad, Memory}
-use Rattle.cells.specs.declared.token.Token.TheVariants.{Word, Number, Mark}
+use Rattle.cells.specs.declared.token.Token.TheVariants.{Word, Mark}
 use Rattle.cells.specs.Limits.{column_limit}
 use Rattle.cells.specs.Reading.{are_different, defined, definitions_within, may_define, schema_of, table_of, tokens_of, tokens_within, with_others}
 use Rattle.cells.specs.Refusals.{Answers, AnswersBy}
-use Rattle.cells.specs.Scanning.{token_at, word_at, number_at, mark_at}
+use Rattle.cells.specs.Scanning.{token_at}
 use Rattle.cells.specs.SchemaReading.{SpellsColumns, definition_at, key_place}
 use Rattle.cells.specs.Schemas.{IsTable, SpellsSchema, TextSpellsSchema, columns_tokens, is_reserved}
 use Rattle.cells.specs.Spelling.{Spells, SpellsRest, is_blank, without_blanks}
@@ -30,14 +29,6 @@ use Rattle.cells.proofs.RunsLemmas.{past_shorter}
 use Rattle.cells.proofs.TokensLemmas.{spells_nothing, token_begins, token_read, token_shorter}
 
 -- ---- they compute
-
-reads_a_word_and_a_number : tokens_of (codes "a 1") ≡ Some (Word (codes "A") ∷ Number (pos 1) ∷ [])
-unfolding token_at word_at number_at
-reads_a_word_and_a_number = refl
-
-reads_a_schema : schema_of (codes "T (K INT KEY)") ≡ Some (record { name = codes "T"; columns = record { name = codes "K"; kind = Int } ∷ []; key = 0 })
-unfolding token_at word_at mark_at definition_at
-reads_a_schema = refl
 
 -- ---- tokens
 

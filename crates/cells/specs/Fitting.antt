@@ -1,7 +1,7 @@
 -- Cells that fit their columns, and rows that fit a table.
-use Rattle.std.specs.Prelude.{◌≡◌, ◌≢◌, ◌≤◌, ℤ, List, [], ◌∷◌, Some, ⊤}
+use Rattle.std.specs.Prelude.{◌≡◌, ◌≢◌, ◌≤◌, List, [], ◌∷◌, Some, ⊤}
 use Rattle.std.specs.Int.RustNames.{unsigned_abs}
-use Rattle.std.specs.List.{AllByRecursion, slice_get}
+use Rattle.std.specs.List.{slice_get}
 use Rattle.cells.specs.Limits.{integer_limit}
 use Rattle.cells.specs.Values.{RowValue, Table}
 use Rattle.cells.specs.declared.cell.Cell.{Cell}
@@ -15,9 +15,6 @@ abbrev pub IsStored : Cell → Type 0
 IsStored cell.Null = ⊤
 IsStored (cell.Int n) = unsigned_abs n ≤ integer_limit
 IsStored (cell.Text t) = ⊤
-
-abbrev pub AreStored : List Cell → Type 0
-AreStored cells = AllByRecursion IsStored cells
 
 -- the cell may stand in a column of the type: NULL stands in any, and an integer has 64 bits
 abbrev pub IsOfType : Cell → ColumnType → Type 0
@@ -39,15 +36,3 @@ pub record IsRowOf (table : Table) (row : RowValue) : Type 0 where
   pub cells : AreOfColumns row.cells table.columns
   pub key : slice_get row.cells table.key ≡ Some row.key
   pub full : row.key ≢ cell.Null
-
-integer_is_stored : (n : ℤ) (kind : ColumnType) → IsOfType (cell.Int n) kind → IsStored (cell.Int n)
-integer_is_stored n column.Int fits = fits
-integer_is_stored n column.Text fits = absurd fits
-
--- the integers of cells that stand in columns have 64 bits
-pub cells_are_stored : (cells : List Cell) (columns : List Column) → AreOfColumns cells columns → AreStored cells
-cells_are_stored [] columns fits = tt
-cells_are_stored (x ∷ cells) [] fits = absurd fits
-cells_are_stored (cell.Null ∷ cells) (c ∷ columns) fits = (tt, cells_are_stored cells columns fits.1)
-cells_are_stored (cell.Int n ∷ cells) (c ∷ columns) fits = (integer_is_stored n c.kind fits.0, cells_are_stored cells columns fits.1)
-cells_are_stored (cell.Text t ∷ cells) (c ∷ columns) fits = (tt, cells_are_stored cells columns fits.1)

@@ -1,7 +1,7 @@
 -- Codes, and the cells that they stand for.
 use Rattle.std.specs.Prelude.{◌≡◌, ℕ, zero, suc, ◌+◌, ◌<◌, List, [], ◌∷◌, ◌++◌, length, map, take, refl}
 use Rattle.std.proofs.Common.{get_or, ap, ap₂, sym, ◌∙◌, subst, arith}
-use Rattle.std.proofs.lemmas.List.{append_assoc, append-nil, length-append, length-map, map-append, take_more}
+use Rattle.std.proofs.lemmas.List.{append_assoc, length-append, length-map, map-append, take_more}
 use Rattle.cells.specs.declared.cell.Cell.{Cell}
 use Rattle.cells.specs.declared.cell.Cell.TheVariants.{Null}
 use Rattle.columns.specs.Coding.{Puts, Recode}
@@ -32,8 +32,6 @@ pub decoded_both : (cells : List Cell) (xs ys : List ℕ) → decoded cells (xs 
 decoded_both cells xs ys = map-append (λ code. get_or cells code Null) xs ys
 
 -- ---- codes of cells
-pub recode_none : (column : ColumnValue) → Recode [] column column []
-recode_none column = record { more = []; grown = sym (append-nil column.cells); same = refl; within = tt; stand = refl }
 
 pub recode_more : (xs : List Cell) (x : Cell) (old mid new : ColumnValue) (codes : List ℕ) (code : ℕ) → Recode xs old mid codes → Recode (x ∷ []) mid new (code ∷ []) →
     Recode (xs ++ x ∷ []) old new (codes ++ code ∷ [])
@@ -58,27 +56,6 @@ puts_coded cells old mid new codes are one same added = record {
 }
 
 -- ---- one cell
-pub recode_found : (cell : Cell) (column : ColumnValue) (code : ℕ) → code < length column.cells → get_or column.cells code Null ≡ cell → Recode (cell ∷ []) column column (code ∷ [])
-recode_found cell column code within stands = record {
-  more = [];
-  grown = sym (append-nil column.cells);
-  same = refl;
-  within = (within, tt);
-  stand = ap (λ (c : Cell). c ∷ []) stands;
-}
-
-last_cell : (cells : List Cell) (cell : Cell) → get_or (cells ++ cell ∷ []) (length cells) Null ≡ cell
-last_cell [] cell = refl
-last_cell (c ∷ cells) cell = last_cell cells cell
-
-pub recode_added : (cell : Cell) (old new : ColumnValue) (code : ℕ) → code ≡ length old.cells → new.cells ≡ old.cells ++ cell ∷ [] → new.by_row ≡ old.by_row → Recode (cell ∷ []) old new (code ∷ [])
-recode_added cell old new code is grown same = record {
-  more = cell ∷ [];
-  grown = grown;
-  same = same;
-  within = (omega (arith, is, ap (λ l. length l) grown, length-append old.cells (cell ∷ [])), tt);
-  stand = ap (λ (c : Cell). c ∷ []) (ap₂ (λ (l : List Cell) (k : ℕ). get_or l k Null) grown is ∙ last_cell old.cells cell);
-}
 
 pub recode_next : (cells : List Cell) (i : ℕ) (cell : Cell) (old mid new : ColumnValue) (codes added : List ℕ) (code : ℕ) → i < length cells → cell ≡ get_or cells i cell →
     Recode (take i cells) old mid codes → Recode (cell ∷ []) mid new (code ∷ []) → added ≡ codes ++ code ∷ [] → Recode (take (i + 1) cells) old new added
@@ -95,15 +72,6 @@ at_decoded cells (c ∷ codes) (suc i) h = at_decoded cells codes i (omega (arit
 abbrev pub recoded_by : List ℕ → List ℕ → List ℕ
 recoded_by recoded codes = map (λ code. get_or recoded code 0) codes
 
-pub recoded_within : (cells others : List Cell) (recoded : List ℕ) (code : ℕ) → code < length others → decoded cells recoded ≡ others → AreCodes cells recoded →
-    get_or recoded code 0 < length cells
-recoded_within cells others recoded code h stand are = below recoded code (omega (arith, h, ap (λ l. length l) stand, length-map recoded (λ c. get_or cells c Null))) are
-  where
-    below : (codes : List ℕ) (i : ℕ) → i < length codes → AreCodes cells codes → get_or codes i 0 < length cells
-    below [] i h are = absurd (omega (arith, h))
-    below (c ∷ codes) zero h are = are.0
-    below (c ∷ codes) (suc i) h are = below codes i (omega (arith, h)) are.1
-
 recoded_stand : (cells others : List Cell) (recoded codes : List ℕ) → decoded cells recoded ≡ others → AreCodes others codes →
     decoded cells (recoded_by recoded codes) ≡ decoded others codes
 recoded_stand cells others recoded [] stand are = refl
@@ -116,18 +84,6 @@ recoded_stand cells others recoded (c ∷ codes) stand are =
 pub record PutCodes (mid : ColumnValue) (recoded codes : List ℕ) (now : ColumnValue) : Type 0 where
   pub cells : now.cells ≡ mid.cells
   pub behind : now.by_row ≡ mid.by_row ++ recoded_by recoded codes
-
-pub put_none : (mid : ColumnValue) (recoded : List ℕ) → PutCodes mid recoded [] mid
-put_none mid recoded = record { cells = refl; behind = sym (append-nil mid.by_row) }
-
-pub put_more : (mid now new : ColumnValue) (recoded codes : List ℕ) (i code read : ℕ) → i < length codes → code ≡ get_or codes i code → read ≡ get_or recoded code 0 →
-    PutCodes mid recoded (take i codes) now → new.cells ≡ now.cells → new.by_row ≡ now.by_row ++ read ∷ [] → PutCodes mid recoded (take (i + 1) codes) new
-put_more mid now new recoded codes i code read h is reads put same added = record {
-  cells = same ∙ put.cells;
-  behind = added ∙ ap₂ (λ (a : List ℕ) (r : ℕ). a ++ r ∷ []) put.behind reads ∙ append_assoc mid.by_row (recoded_by recoded (take i codes)) _ ∙
-      ap (λ l. mid.by_row ++ l) (sym (map-append (λ code. get_or recoded code 0) (take i codes) (code ∷ [])) ∙
-      ap (recoded_by recoded) (ap (λ (d : ℕ). take i codes ++ d ∷ []) is ∙ sym (take_more codes i code h)));
-}
 
 pub puts_all : (old mid new other : ColumnValue) (recoded : List ℕ) → AreCodes old.cells old.by_row → AreCodes other.cells other.by_row → Recode other.cells old mid recoded →
     PutCodes mid recoded other.by_row new → Puts (cells_of other) old new

@@ -7,7 +7,7 @@ use Rattle.cells.specs.declared.cell.Cell.{Cell}
 use Rattle.cells.specs.declared.cell.Cell.TheVariants.{Null}
 use Rattle.columns.specs.Coding.{Puts, PutsAny, PutsAt, TakesRow}
 use Rattle.columns.specs.Columns.{ColumnValue, ColumnsValue, Hold, HoldFrom, cells_at, cells_of, rows_of}
-use Rattle.trie.specs.Walks.{MayTakeAll, TakesAll}
+use Rattle.trie.specs.Walks.{TakesAll}
 
 -- ---- no rows
 pub hold_none : (place : ℕ) (columns : ColumnsValue) (column : ColumnValue) → cells_of column ≡ [] → HoldFrom place [] columns → HoldFrom place [] (columns ++ Some column ∷ [])
@@ -68,8 +68,6 @@ module _ (more : ℕ → List Cell) where
   gone_all rows both is i old new h gone held = record { each = gone_held rows both is i 0 old new h gone held.each }
 
 -- ---- the rows of a piece
-pub may_take : (columns : ColumnsValue) (entries : List (Cell × RowValue)) → MayTakeAll {S = ColumnsValue} (λ columns key row. ⊤) (λ old key row new. TakesRow row old new) columns entries
-may_take columns entries = record { asked = λ before after e mid split takes. tt }
 
 pub taken_all : (old new : ColumnsValue) (entries : List (Cell × RowValue)) → TakesAll (λ old key row new. TakesRow row old new) old entries new → (rows : List RowValue) → Hold rows old →
     Hold (rows ++ rows_of entries) new

@@ -8,29 +8,29 @@ use Rattle.crew.specs.Works.{AllNumbered, AreBack, IsBack, given_of, seat_of}
 use Rattle.crew.specs.declared.worker.Worked.{Worked}
 use Rattle.crew.proofs.ListsLemmas.{added}
 
-module _ {Given : Type 0} (deal : DealValue) (gives : List ℕ → Given → Type 0) where
+module _ {Made : Type 0} (deal : DealValue) (makes : List ℕ → Made → Type 0) where
   -- the first seats of the deal, in the order of their numbers, and what was given at each
-  pub record Reached (seats : List SeatValue) (given : List (Result Given Refused)) : Type 0 where
-    pub all : List (Worked Given)
+  pub record Reached (seats : List SeatValue) (given : List (Result Made Refused)) : Type 0 where
+    pub all : List (Worked Made)
     pub seats_are : seats ≡ map seat_of all
     pub given_are : given ≡ map given_of all
-    pub each : AllNumbered (IsBack deal gives) 0 all
+    pub each : AllNumbered (IsBack deal makes) 0 all
 
-  pub reached_none : (seats : List SeatValue) (given : List (Result Given Refused)) → seats ≡ [] → given ≡ [] → Reached seats given
+  pub reached_none : (seats : List SeatValue) (given : List (Result Made Refused)) → seats ≡ [] → given ≡ [] → Reached seats given
   reached_none seats given no_seats no_given = record { all = []; seats_are = no_seats; given_are = no_given; each = tt }
 
-  pub reached_more : (seats new_seats : List SeatValue) (given new_given : List (Result Given Refused)) (back : Worked Given) → new_seats ≡ seats ++ back.seat ∷ [] → new_given ≡ given ++ back.given ∷ []
-      → Reached seats given → IsBack deal gives (length seats) back → Reached new_seats new_given
+  pub reached_more : (seats new_seats : List SeatValue) (given new_given : List (Result Made Refused)) (back : Worked Made) → new_seats ≡ seats ++ back.seat ∷ [] → new_given ≡ given ++ back.given ∷ []
+      → Reached seats given → IsBack deal makes (length seats) back → Reached new_seats new_given
   reached_more seats new_seats given new_given back more_seats more_given old is =
       let long : length seats ≡ length old.all = ap length old.seats_are ∙ length-map old.all seat_of in
       record {
         all = old.all ++ back ∷ [];
         seats_are = more_seats ∙ (ap (λ l. l ++ back.seat ∷ []) old.seats_are ∙ sym (map_push seat_of old.all back));
         given_are = more_given ∙ (ap (λ l. l ++ back.given ∷ []) old.given_are ∙ sym (map_push given_of old.all back));
-        each = added (IsBack deal gives) old.all (old.all ++ back ∷ []) back refl old.each (subst (λ n. IsBack deal gives n back) long is);
+        each = added (IsBack deal makes) old.all (old.all ++ back ∷ []) back refl old.each (subst (λ n. IsBack deal makes n back) long is);
       }
 
-  pub reached_all : (seats : List SeatValue) (given : List (Result Given Refused)) → Reached seats given → length seats ≡ deal.seats → AreBack deal gives seats given
+  pub reached_all : (seats : List SeatValue) (given : List (Result Made Refused)) → Reached seats given → length seats ≡ deal.seats → AreBack deal makes seats given
   reached_all seats given reached whole =
       let long = length-map reached.all seat_of in
       record { all = reached.all; seats_are = reached.seats_are; given_are = reached.given_are; many = omega (arith, whole, ap length reached.seats_are, long); each = reached.each }

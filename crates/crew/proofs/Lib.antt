@@ -1,5 +1,6 @@
 pub mod BackLemmas
 pub mod CrossingLemmas
+pub mod FoldingsLemmas
 pub mod GatheringLemmas
 pub mod HistoryLemmas
 pub mod JoiningLemmas

@@ -1,31 +1,30 @@
 -- Ranges of rows: together they are all rows, and how far the folding of those of all workers has come.
 use Rattle.std.proofs.Common.{◌≡◌, ℕ, zero, suc, ◌+◌, ◌*◌, ◌-◌, ◌<◌, ◌≤◌, Bool, true, false, ltb, List, [], ◌∷◌, ◌++◌, flat_map, length, refl, sym, ap, ◌∙◌, subst, arith, min, IsPermutation}
 use Rattle.std.specs.List.{AllZip, range_with_len}
-use Rattle.std.specs.Prelude.{Option, Some, None, IfSome, slice_index_or}
+use Rattle.std.specs.Prelude.{Option, Some, IfSome, slice_index_or}
 use Rattle.std.proofs.Math.Nat.{div-add-mod}
 use Rattle.std.proofs.lemmas.Bool.{ltb-false, ltb-true}
-use Rattle.std.proofs.lemmas.List.{append-nil, map-append}
+use Rattle.std.proofs.lemmas.List.{append-nil, length-append, map-append}
 use Rattle.std.proofs.lemmas.List.Concat.{flat_map-append}
 use Rattle.std.proofs.lemmas.List.FromFn.{fill_by_all}
-use Rattle.std.proofs.lemmas.List.Sorted.{IsPermutation-sym}
+use Rattle.std.proofs.lemmas.List.Sorted.{length_permutation}
 use Rattle.aggs.specs.declared.acc.Acc.{Acc}
 use Rattle.cells.specs.Values.{RowValue}
 use Rattle.cells.specs.declared.cell.Cell.{Cell}
-use Rattle.columns.specs.Columns.{Hold}
-use Rattle.crew.specs.Ranging.{FoldsRanges, MayGatherRows, MayShareRows, Ranged, range_count, range_limit, range_rows, ranges_rows}
+use Rattle.columns.specs.Columns.{ColumnsValue, Hold}
+use Rattle.crew.specs.Ranging.{FoldsRanges, MayGatherRows, Ranged, range_count, range_limit, range_rows, ranges_rows}
 use Rattle.crew.specs.Shares.{AreShared}
-use Rattle.crew.specs.Tasks.{MayTake}
+use Rattle.crew.specs.Tasks.{IsShare, MayTake}
 use Rattle.groups.specs.Folds.{Folds, MayEnd, MayJoin}
 use Rattle.groups.specs.Groups.{keeps, kept}
-use Rattle.groups.specs.Laws.{kept_join}
-use Rattle.groups.specs.Meeting.{may_fold_first}
+use Rattle.groups.specs.Keeping.{HaveRange}
+use Rattle.groups.specs.Laws.{kept_join, kept_short}
 use Rattle.groups.specs.Numbered.{no_row, picked_rows}
-use Rattle.groups.specs.Partials.{MayFold, Stands}
-use Rattle.groups.specs.Ranges.{MayFoldRange}
+use Rattle.groups.specs.Partials.{Stands}
 use Rattle.groups.specs.declared.folding.Folding.{Folding}
 use Rattle.query.specs.Plans.{PlanTree}
+use Rattle.crew.proofs.FoldingsLemmas.{Kept, joined_more, may_end, may_join, stands_all}
 use Rattle.crew.proofs.JoiningLemmas as joining
-use Rattle.crew.proofs.PlacesLemmas.{permutation_filter}
 
 -- ---- ranges
 
@@ -96,34 +95,22 @@ ranges_whole count rows counted =
     ∙ ap (λ n. picked_rows rows (range_with_len 0 n)) all
     ∙ sym (fill_by_all (λ i. slice_index_or rows i no_row) rows count no_row counted (λ i below. refl))
 
--- ---- what may be folded
+-- ---- shares of the ranges
 
-module _ (ranged : Ranged) (fold : (plan : PlanTree) (xs ys : List RowValue) → IsPermutation xs ys → MayFold plan xs → MayFold plan ys) where
-  -- what permuted is rows that may be folded may be folded up to some place
-  first_may_fold : (xs ys rows : List RowValue) → IsPermutation (xs ++ ys) rows → MayFold ranged.plan rows → MayFold ranged.plan xs
-  first_may_fold xs ys rows moved may = may_fold_first ranged.plan xs ys (fold ranged.plan rows (xs ++ ys) (IsPermutation-sym (xs ++ ys) rows moved) may)
+-- the rows of a share of the ranges are no more than all
+ranges_short : (count : ℕ) (rows : List RowValue) → length rows ≡ count → (places : List ℕ) → IsShare (range_count count) places → length (ranges_rows count rows places) ≤ count
+ranges_short count rows counted places share =
+    let cut = joining.share_of (range_rows count rows) rows (range_count count) (ranges_whole count rows counted) places share in
+    omega (arith, counted, length_permutation _ _ cut.whole, length-append (ranges_rows count rows places) cut.left)
 
-  pub may_share_rows : MayGatherRows ranged.plan ranged.columns ranged.count → MayShareRows ranged
-  may_share_rows it = record {
-    rows = it.rows;
-    held = it.held;
-    counted = it.counted;
-    few = it.few;
-    may = it.may;
-    share = λ places share.
-        let cut = joining.share_of (range_rows ranged.count it.rows) it.rows (range_count ranged.count) (ranges_whole ranged.count it.rows it.counted) places share in
-        first_may_fold (ranges_rows ranged.count it.rows places) cut.left it.rows cut.whole it.may;
-  }
-
--- the range at a place is a share of its own
-pub may_fold_range : (ranged : Ranged) (it : MayShareRows ranged) (place : ℕ) → place < range_count ranged.count →
-    MayFoldRange ranged.plan ranged.columns (place * range_limit) (min (ranged.count - place * range_limit) range_limit)
-may_fold_range ranged it place below = record {
+-- the columns hold the range at a place
+pub have_range : (columns : ColumnsValue) (count : ℕ) (it : MayGatherRows columns count) (place : ℕ) → place < range_count count →
+    HaveRange columns (place * range_limit) (min (count - place * range_limit) range_limit)
+have_range columns count it place below = record {
   rows = it.rows;
   held = it.held;
-  within = omega (arith, it.counted, range_bounds ranged.count);
-  few = omega (arith, it.few, range_bounds ranged.count);
-  may = subst (MayFold ranged.plan) (append-nil (range_rows ranged.count it.rows place)) (it.share (place ∷ []) (record { rising = (tt, tt); below = (below, tt) }));
+  within = omega (arith, it.counted, range_bounds count);
+  few = omega (arith, it.few, range_bounds count);
 }
 
 -- ---- one worker
@@ -134,25 +121,29 @@ ranges_next count rows places place =
     flat_map-append (range_rows count rows) places (place ∷ []) ∙ ap (λ rest. ranges_rows count rows places ++ rest) (append-nil (range_rows count rows place))
 
 module _ {H : Type 0} (ranged : Ranged) where
-  -- a folding of these rows, of those for which WHERE is true
-  abbrev FoldsKept : List RowValue → Folding H → Type 0
-  FoldsKept rows folding = Folds ranged.plan (kept ranged.plan.condition rows) folding
-
   -- what went in so far may be joined with a range
-  pub range_meets : (before range : Folding H) (place : ℕ) (it : MayShareRows ranged) → MayTake (FoldsRanges ranged) (range_count ranged.count) (Some before) place →
-      FoldsKept (range_rows ranged.count it.rows place) range → MayJoin before range
+  pub range_meets : (before range : Folding H) (place : ℕ) (it : MayGatherRows ranged.columns ranged.count) → MayTake (FoldsRanges ranged) (range_count ranged.count) (Some before) place →
+      Kept ranged.plan (range_rows ranged.count it.rows place) range → MayJoin before range
   range_meets before range place it may_take folds = record {
     plan = ranged.plan;
-    rows = ranges_rows ranged.count it.rows may_take.places;
-    more = range_rows ranged.count it.rows place;
+    rows = kept ranged.plan.condition (ranges_rows ranged.count it.rows may_take.places);
+    more = kept ranged.plan.condition (range_rows ranged.count it.rows place);
     firsts = may_take.made_of.folds it.rows it.held it.counted;
     seconds = folds;
-    may = subst (MayFold ranged.plan) (ranges_next ranged.count it.rows may_take.places place) (it.share (may_take.places ++ place ∷ []) may_take.share);
+    few = omega (
+      arith,
+      it.few,
+      kept_short (keeps ranged.plan.condition) (ranges_rows ranged.count it.rows may_take.places),
+      kept_short (keeps ranged.plan.condition) (range_rows ranged.count it.rows place),
+      ranges_short ranged.count it.rows it.counted (may_take.places ++ place ∷ []) may_take.share,
+      ap (λ l. length l) (ranges_next ranged.count it.rows may_take.places place),
+      length-append (ranges_rows ranged.count it.rows may_take.places) (range_rows ranged.count it.rows place),
+    );
   }
 
   -- and then its rows went in, too
   pub took_range : (before range new : Folding H) (places : List ℕ) (place : ℕ) → FoldsRanges ranged places (Some before) →
-      ((rows : List RowValue) → Hold rows ranged.columns → FoldsKept (range_rows ranged.count rows place) range) →
+      ((rows : List RowValue) → Hold rows ranged.columns → Kept ranged.plan (range_rows ranged.count rows place) range) →
       ((xs ys : List RowValue) → Folds ranged.plan xs before → Folds ranged.plan ys range → Folds ranged.plan (xs ++ ys) new) →
       FoldsRanges ranged (places ++ place ∷ []) (Some new)
   took_range before range new places place firsts seconds joins = record {
@@ -163,14 +154,6 @@ module _ {H : Type 0} (ranged : Ranged) where
         (firsts.folds rows held counted) (seconds rows held));
   }
 
-  -- where there is no folding, nothing is to be shown
-  pub none_folds : (places : List ℕ) → FoldsRanges {H = H} ranged places None
-  none_folds places = record { folds = λ rows held counted. tt }
-
-  -- no ranges went into a new folding
-  pub new_folds : (new : Folding H) → Folds ranged.plan [] new → FoldsRanges ranged [] (Some new)
-  new_folds new folds = record { folds = λ rows held counted. folds }
-
 -- ---- all workers
 
 all_weaker : {A : Type 0} (P Q : List ℕ → A → Type 0) → ((places : List ℕ) (one : A) → P places one → Q places one) → (shares : List (List ℕ)) (ones : List A) → AllZip P shares ones → AllZip Q shares ones
@@ -180,14 +163,14 @@ all_weaker P Q weaker (places ∷ shares) [] all = absurd all
 all_weaker P Q weaker (places ∷ shares) (one ∷ ones) all = (weaker places one all.0, all_weaker P Q weaker shares ones all.1)
 
 module _ {H : Type 0} (ranged : Ranged) where
-  abbrev Kept : List RowValue → Folding H → Type 0
-  Kept rows folding = Folds ranged.plan (kept ranged.plan.condition rows) folding
+  abbrev In : List RowValue → Folding H → Type 0
+  In = Kept ranged.plan
 
   abbrev KeptIn : List RowValue → Option (Folding H) → Type 0
-  KeptIn rows made = IfSome made (Kept rows)
+  KeptIn rows made = IfSome made (In rows)
 
   abbrev ReachedOf : List RowValue → List (Option (Folding H)) → Folding H → Type 0
-  ReachedOf rows left all = joining.Reached (range_rows ranged.count rows) rows KeptIn Kept left all
+  ReachedOf rows left all = joining.Reached (range_rows ranged.count rows) rows KeptIn In left all
 
   -- whatever rows the columns hold, some of them went in, and these and those of the shares left are all
   pub record RangesReached (left : List (Option (Folding H))) (all : Folding H) : Type 0 where
@@ -196,7 +179,7 @@ module _ {H : Type 0} (ranged : Ranged) where
   pub ranges_none : (foldings : List (Option (Folding H))) (all : Folding H) → AreShared (FoldsRanges ranged) (range_count ranged.count) foldings → Folds ranged.plan [] all → RangesReached foldings all
   ranges_none foldings all shared folds = record {
     reached = λ rows held counted.
-        joining.reached_none (range_rows ranged.count rows) rows KeptIn Kept (range_count ranged.count) (ranges_whole ranged.count rows counted) foldings all
+        joining.reached_none (range_rows ranged.count rows) rows KeptIn In (range_count ranged.count) (ranges_whole ranged.count rows counted) foldings all
         (record {
           shares = shared.shares;
           are_shares = shared.are_shares;
@@ -208,8 +191,8 @@ module _ {H : Type 0} (ranged : Ranged) where
   }
 
   next_of : (rows : List RowValue) (other all : Folding H) (left : List (Option (Folding H))) → ReachedOf rows (Some other ∷ left) all →
-      joining.IsNext (range_rows ranged.count rows) rows KeptIn Kept (Some other) left all
-  next_of rows other all left = joining.next (range_rows ranged.count rows) rows KeptIn Kept (Some other) left all
+      joining.IsNext (range_rows ranged.count rows) rows KeptIn In (Some other) left all
+  next_of rows other all left = joining.next (range_rows ranged.count rows) rows KeptIn In (Some other) left all
 
   -- the next one is taken
   pub ranges_taken : (one : Option (Folding H)) (other all : Folding H) (before left : List (Option (Folding H))) → before ≡ one ∷ left → one ≡ Some other → RangesReached before all →
@@ -217,18 +200,10 @@ module _ {H : Type 0} (ranged : Ranged) where
   ranges_taken one other all before left is some reached = subst (λ o. RangesReached (o ∷ left) all) some (subst (λ l. RangesReached l all) is reached)
 
   -- it may be joined
-  pub ranges_meet : (other all : Folding H) (left : List (Option (Folding H))) → ((plan : PlanTree) (xs ys : List RowValue) → IsPermutation xs ys → MayFold plan xs → MayFold plan ys) →
-      MayShareRows ranged → RangesReached (Some other ∷ left) all → MayJoin all other
-  ranges_meet other all left fold may reached =
+  pub ranges_meet : (other all : Folding H) (left : List (Option (Folding H))) (may : MayGatherRows ranged.columns ranged.count) → RangesReached (Some other ∷ left) all → MayJoin all other
+  ranges_meet other all left may reached =
       let it = next_of may.rows other all left (reached.reached may.rows may.held may.counted) in
-      record {
-        plan = ranged.plan;
-        rows = it.done;
-        more = it.rows;
-        firsts = it.first;
-        seconds = it.second;
-        may = first_may_fold ranged fold (it.done ++ it.rows) (flat_map (flat_map (range_rows ranged.count may.rows)) it.shares) may.rows it.whole may.may;
-      }
+      may_join ranged.plan (range_rows ranged.count may.rows) may.rows KeptIn (omega (arith, may.counted, may.few)) (Some other) left all other it it.second
 
   -- and the rows of its share went in, too
   pub ranges_more : (other all new : Folding H) (left : List (Option (Folding H))) → RangesReached (Some other ∷ left) all →
@@ -236,26 +211,17 @@ module _ {H : Type 0} (ranged : Ranged) where
   ranges_more other all new left reached joins = record {
     reached = λ rows held counted.
         let it = next_of rows other all left (reached.reached rows held counted) in
-        joining.reached_more (range_rows ranged.count rows) rows KeptIn Kept (Some other) left all new it
-        (subst (λ l. Folds ranged.plan l new) (sym (kept_join ranged.plan.condition it.done it.rows))
-        (joins (kept ranged.plan.condition it.done) (kept ranged.plan.condition it.rows) it.first it.second));
+        joined_more ranged.plan (range_rows ranged.count rows) rows KeptIn (Some other) left all other new it it.second joins;
   }
 
   all_of_rows : (rows : List RowValue) (all : Folding H) → Hold rows ranged.columns → length rows ≡ ranged.count → RangesReached [] all →
-      joining.HasAll (range_rows ranged.count rows) rows KeptIn Kept all
-  all_of_rows rows all held counted reached = joining.reached_all (range_rows ranged.count rows) rows KeptIn Kept all (reached.reached rows held counted)
+      joining.HasAll (range_rows ranged.count rows) rows KeptIn In all
+  all_of_rows rows all held counted reached = joining.reached_all (range_rows ranged.count rows) rows KeptIn In all (reached.reached rows held counted)
 
   -- in the end it may become the partial result
-  pub ranges_may_end : (all : Folding H) → ((plan : PlanTree) (xs ys : List RowValue) → IsPermutation xs ys → MayFold plan xs → MayFold plan ys) →
-      MayShareRows ranged → RangesReached [] all → MayEnd all
-  ranges_may_end all fold may reached =
-      let it = all_of_rows may.rows all may.held may.counted reached in
-      record {
-        plan = ranged.plan;
-        taken = it.done;
-        folds = it.holds;
-        may = fold ranged.plan may.rows it.done (IsPermutation-sym it.done may.rows it.moved) may.may;
-      }
+  pub ranges_may_end : (all : Folding H) (may : MayGatherRows ranged.columns ranged.count) → RangesReached [] all → MayEnd all
+  ranges_may_end all may reached =
+      may_end ranged.plan (range_rows ranged.count may.rows) may.rows KeptIn (omega (arith, may.counted, may.few)) all (all_of_rows may.rows all may.held may.counted reached)
 
   -- which stands for all rows, as they come
   pub ranges_stand : (hash : List Cell → ℕ) (all : Folding H) (partial : List (List (List Cell × List (Acc H)))) →
@@ -264,5 +230,4 @@ module _ {H : Type 0} (ranged : Ranged) where
       (rows : List RowValue) → Hold rows ranged.columns → length rows ≡ ranged.count → Stands hash ranged.plan (kept ranged.plan.condition rows) partial
   ranges_stand hash all partial order reached stands rows held counted =
       let it = all_of_rows rows all held counted reached in
-      order ranged.plan (kept ranged.plan.condition it.done) (kept ranged.plan.condition rows) partial
-      (permutation_filter (keeps ranged.plan.condition) it.done rows it.moved) (stands (kept ranged.plan.condition it.done) it.holds)
+      stands_all ranged.plan (range_rows ranged.count rows) rows KeptIn hash all partial order it (stands (kept ranged.plan.condition it.done) it.holds)

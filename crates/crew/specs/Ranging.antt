@@ -4,10 +4,8 @@ use Rattle.std.specs.Int.{div_ceil}
 use Rattle.std.specs.List.{flat_map}
 use Rattle.cells.specs.Values.{RowValue}
 use Rattle.columns.specs.Columns.{ColumnsValue, Hold}
-use Rattle.crew.specs.Tasks.{IsShare}
 use Rattle.groups.specs.Folds.{Folds}
 use Rattle.groups.specs.Groups.{kept}
-use Rattle.groups.specs.Partials.{MayFold}
 use Rattle.groups.specs.Ranges.{rows_from}
 use Rattle.groups.specs.declared.folding.Folding.{Folding}
 use Rattle.query.specs.Plans.{PlanTree}
@@ -34,22 +32,12 @@ pub record Ranged : Type 0 where
   pub columns : ColumnsValue
   pub count : ℕ
 
--- the columns hold so many rows, which may be folded
-pub record MayGatherRows (plan : PlanTree) (columns : ColumnsValue) (count : ℕ) : Type 0 where
+-- the columns hold so many rows, which are few enough
+pub record MayGatherRows (columns : ColumnsValue) (count : ℕ) : Type 0 where
   pub rows : List RowValue
   pub held : Hold rows columns
   pub counted : length rows ≡ count
   pub few : count ≤ 2 ^ 32
-  pub may : MayFold plan rows
-
--- the same, and the rows of each share of their ranges may be folded
-pub record MayShareRows (ranged : Ranged) : Type 0 where
-  pub rows : List RowValue
-  pub held : Hold rows ranged.columns
-  pub counted : length rows ≡ ranged.count
-  pub few : ranged.count ≤ 2 ^ 32
-  pub may : MayFold ranged.plan rows
-  pub share : (places : List ℕ) → IsShare (range_count ranged.count) places → MayFold ranged.plan (ranges_rows ranged.count rows places)
 
 -- whatever rows the columns hold, if there is a folding, those of them for which WHERE is true went into it from the ranges
 -- at these places

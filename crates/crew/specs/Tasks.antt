@@ -1,4 +1,4 @@
--- Tasks: what is made of places, and given for them.
+-- Tasks: what is made of places.
 use Rattle.std.specs.Prelude.{◌<◌, ℕ, List, [], ◌∷◌, ◌++◌}
 use Rattle.std.specs.List.{AllByRecursion}
 use Rattle.crew.specs.Draws.{PlacesRise}
@@ -7,12 +7,6 @@ use Rattle.crew.specs.Draws.{PlacesRise}
 pub record IsShare (count : ℕ) (places : List ℕ) : Type 0 where
   pub rising : PlacesRise places
   pub below : AllByRecursion (λ place. place < count) places
-
--- it was made of a share
-pub record IsMade {Made : Type 0} (makes : List ℕ → Made → Type 0) (count : ℕ) (made : Made) : Type 0 where
-  pub places : List ℕ
-  pub made_of : makes places made
-  pub share : IsShare count places
 
 -- it was made of some places, which are a share with this place behind them
 pub record MayTake {Made : Type 0} (makes : List ℕ → Made → Type 0) (count : ℕ) (made : Made) (place : ℕ) : Type 0 where

@@ -1,13 +1,13 @@
 //! The partial result of the pieces of a table, which workers gather.
 ghost use Rattle.std.specs.Prelude.{◌≡◌, ◌<◌, ◌≤◌, ◌⊎◌, ℕ, List, [], length, min, slice_index_or, vec_len, IfErr, IfOk};
+ghost use Rattle.aggs.specs.Room.{cell_limit};
 ghost use Rattle.cells.specs.declared.refused.Refused.TheVariants as Refused;
-ghost use Rattle.crew.specs.Gathering.{kept_at, kept_in, rows_at, rows_in};
-ghost use Rattle.crew.specs.Limits.{piece_limit, seat_limit};
+ghost use Rattle.crew.specs.Gathering.{kept_at, kept_in, rows_in};
+ghost use Rattle.crew.specs.Limits.{piece_limit, workers_of};
 ghost use Rattle.crew.specs.Shares.{AreShared};
-ghost use Rattle.crew.specs.Tasks.{IsShare};
 ghost use Rattle.groups.specs.Folds.{Folds};
 ghost use Rattle.groups.specs.Groups.{kept};
-ghost use Rattle.groups.specs.Partials.{MayFold, Stands};
+ghost use Rattle.groups.specs.Partials.{Stands};
 
 use crate::gate::Gate;
 use crate::sharing::share_out;
@@ -22,10 +22,10 @@ use std::thread::Threads;
 use trie::Piece;
 
 /// The partial result of the rows of all pieces, of which there are at most [`MAX_PIECES`](crate::MAX_PIECES), for
-/// which the plan's WHERE is true. The pieces' rows are of the table that the plan was checked for. As many workers as
-/// the smaller of `workers`, which is 1 to [`MAX_SEATS`](crate::MAX_SEATS), and the number of pieces draw pieces until
-/// none are left, each in a thread of its own; which worker takes which piece has no effect. The gate is told of each
-/// piece that a worker takes, before and after, also where memory was refused.
+/// which the plan's WHERE is true. The pieces have at most 4,294,967,296 rows. As many workers as the smaller of `workers`,
+/// taken as 1 at least and [`MAX_SEATS`](crate::MAX_SEATS) at most, and the number of pieces draw pieces until none are
+/// left, each in a thread of its own; which worker takes which piece has no effect. The gate is told of each piece that a
+/// worker takes, before and after, also where memory was refused.
 ///
 /// [`Refused::NoWorker`] where a thread could not be started; otherwise [`Refused::OutOfMemory`] where there was no
 /// memory, here or for a worker. All threads that were started are joined before this returns, however it ends.
@@ -37,9 +37,8 @@ pub fn gather<H: KeyHash<Cell> + KeyHash<Tuple> + Send + Sync, G: Gate, R: Threa
     workers: u64,
     gate: &G,
 ) -> Result<Partial<H>, Refused>
-    requires rows { MayFold plan.now (rows_in pieces.now) }
+    requires rows { length (rows_in pieces.now) ≤ cell_limit }
     requires pieces { length pieces.now ≤ piece_limit }
-    requires workers { (1 ≤ workers) × (workers ≤ seat_limit) }
     ensures stands { IfOk result (λ partial. Stands H.KeyHash-2.hash_of plan.now (kept plan.now.condition (rows_in pieces.now)) partial) }
     ensures refused { IfErr result (λ e. (e ≡ Refused.NoWorker) ⊎ (e ≡ Refused.OutOfMemory)) }
 {
@@ -57,9 +56,8 @@ fn foldings_of<'a, H: KeyHash<Cell> + KeyHash<Tuple> + Send + Sync, G: Gate, R: 
     workers: u64,
 ) -> Result<Vec<Folding<'a, H>>, Refused>
     requires pieces { length gathering.now.pieces ≤ piece_limit }
-    requires workers { (1 ≤ workers) × (workers ≤ seat_limit) }
     ensures shared { IfOk result (λ v. AreShared (λ places. Folds gathering.now.plan (kept_at gathering.now places)) (length gathering.now.pieces) v.items) }
-    ensures workers { IfOk result (λ v. vec_len v ≡ min workers (length gathering.now.pieces)) }
+    ensures workers { IfOk result (λ v. vec_len v ≡ min (workers_of workers) (length gathering.now.pieces)) }
     ensures refused { IfErr result (λ e. (e ≡ Refused.NoWorker) ⊎ (e ≡ Refused.OutOfMemory)) }
 {
     share_out(rt, alloc, gathering.pieces.len() as u64, workers, gathering)
@@ -75,9 +73,10 @@ struct Gathering<'a, H: KeyHash<Cell>, G> {
 
 impl<'a, H: KeyHash<Cell>, G> Model for Gathering<'a, H, G> {
     ghost use Rattle.std.specs.Coded.{codes};
+    ghost use Rattle.std.specs.Prelude.{◌≤◌, length};
+    ghost use Rattle.aggs.specs.Room.{cell_limit};
     ghost use Rattle.cells.specs.Codes.{coded_cell, coded_row};
     ghost use Rattle.crew.specs.Gathering.{Planned, rows_in};
-    ghost use Rattle.groups.specs.Partials.{MayFold};
     ghost use Rattle.query.specs.Codes.{coded_predicate};
 
     ghost Value = { Planned };
@@ -86,16 +85,14 @@ impl<'a, H: KeyHash<Cell>, G> Model for Gathering<'a, H, G> {
 
     ghost view = { λ g. record { plan = g.plan.now; pieces = g.pieces.now } };
 
-    ghost invariant = { λ g. MayFold g.plan.now (rows_in g.pieces.now) };
+    ghost invariant = { λ g. length (rows_in g.pieces.now) ≤ cell_limit };
 }
 
 impl<'a, H: KeyHash<Cell> + KeyHash<Tuple>, G> Gathering<'a, H, G> {
-    /// It does nothing: that the rows of all pieces may be folded is known of each value, and so may those of a share.
-    fn rows_may_fold(&self)
-        ensures all { MayFold self.now.plan (rows_in self.now.pieces) }
-        ensures share { (places : List ℕ) → IsShare (length self.now.pieces) places → MayFold self.now.plan (rows_at self.now.pieces places) }
+    /// It does nothing: that the rows of all pieces are few enough is known of each value.
+    fn rows_are_few(&self)
+        ensures { length (rows_in self.now.pieces) ≤ cell_limit }
     {
-        any_order::<H>();
         let _ = &self.plan;
     }
 
@@ -113,32 +110,23 @@ impl<'a, H: KeyHash<Cell> + KeyHash<Tuple> + Send + Sync, G: Gate> Task for Gath
     ghost use Rattle.std.specs.Prelude.{length};
     ghost use Rattle.crew.specs.Gathering.{kept_at};
     ghost use Rattle.groups.specs.Folds.{Folds};
-    ghost use Rattle.groups.specs.Partials.{Stands};
 
     type Made = Folding<'a, H>;
-
-    type Given = Folding<'a, H>;
 
     ghost count = { λ g. length g.pieces };
 
     ghost makes = { λ g places made. Folds g.plan (kept_at g places) made };
-
-    ghost gives = { λ g places given. Folds g.plan (kept_at g places) given };
 
     fn begin(&self, alloc: Global) -> Result<Folding<'a, H>, AllocError> {
         Folding::new(alloc, self.plan)
     }
 
     fn take(&self, alloc: Global, made: &mut Folding<'a, H>, place: u64) -> Result<(), AllocError> {
-        self.rows_may_fold();
+        self.rows_are_few();
         self.gate.entered(place);
         let taken = made.take(alloc, self.piece(place));
         self.gate.left(place);
         taken
-    }
-
-    fn end(&self, _alloc: Global, made: Folding<'a, H>) -> Result<Folding<'a, H>, AllocError> {
-        Ok(made)
     }
 }
 
@@ -154,7 +142,7 @@ fn joined<'a, H: KeyHash<Cell> + KeyHash<Tuple>, G>(
 {
     // These do nothing: they are the laws by which shares may be joined, and are all rows in the end.
     any_order::<H>();
-    gathering.rows_may_fold();
+    gathering.rows_are_few();
     let mut all = Folding::new(alloc, gathering.plan)?;
     for folding in foldings {
         all = all.join(alloc, folding)?;

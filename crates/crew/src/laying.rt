@@ -4,7 +4,7 @@ ghost use Rattle.cells.specs.declared.refused.Refused.TheVariants as Refused;
 ghost use Rattle.columns.specs.Columns.{Hold};
 ghost use Rattle.crew.specs.Gathering.{rows_at, rows_in};
 ghost use Rattle.crew.specs.Laying.{HoldAll};
-ghost use Rattle.crew.specs.Limits.{piece_limit, seat_limit};
+ghost use Rattle.crew.specs.Limits.{piece_limit, workers_of};
 ghost use Rattle.crew.specs.Shares.{AreShared};
 
 use crate::sharing::share_out;
@@ -17,9 +17,10 @@ use std::thread::Threads;
 use trie::Piece;
 
 /// The columns of the rows of all pieces, of which there are at most [`MAX_PIECES`](crate::MAX_PIECES), for a table of so
-/// many places, of which that of the key has no column. As many workers as the smaller of `workers`, which is 1 to [`MAX_SEATS`](crate::MAX_SEATS), and the number of
-/// pieces draw pieces until none are left, each in a thread of its own. The rows stand in the order in which the workers drew
-/// their pieces, which another run may change. The columns own copies of the cells.
+/// many places, of which that of the key has no column. As many workers as the smaller of `workers`, taken as 1 at least
+/// and [`MAX_SEATS`](crate::MAX_SEATS) at most, and the number of pieces draw pieces until none are left, each in a thread
+/// of its own. The rows stand in the order in which the workers drew their pieces, which another run may change. The
+/// columns own copies of the cells.
 ///
 /// [`Refused::NoWorker`] where a thread could not be started; otherwise [`Refused::OutOfMemory`] where there was no
 /// memory, here or for a worker. All threads that were started are joined before this returns, however it ends.
@@ -32,7 +33,6 @@ pub fn columns_of<H: KeyHash<Cell> + KeyHash<Tuple> + Send + Sync, R: Threads + 
     workers: u64,
 ) -> Result<Columns<H>, Refused>
     requires pieces { length pieces.now ≤ piece_limit }
-    requires workers { (1 ≤ workers) × (workers ≤ seat_limit) }
     ensures held { IfOk result (HoldAll (rows_in pieces.now)) }
     ensures refused { IfErr result (λ e. (e ≡ Refused.NoWorker) ⊎ (e ≡ Refused.OutOfMemory)) }
 {
@@ -54,9 +54,8 @@ fn parts_of<'a, H: KeyHash<Cell> + Send + Sync, R: Threads + Wait>(
     workers: u64,
 ) -> Result<Vec<Columns<H>>, Refused>
     requires pieces { length laying.now.pieces.now ≤ piece_limit }
-    requires workers { (1 ≤ workers) × (workers ≤ seat_limit) }
     ensures shared { IfOk result (λ v. AreShared (λ places. Hold (rows_at laying.now.pieces.now places)) (length laying.now.pieces.now) v.items) }
-    ensures workers { IfOk result (λ v. vec_len v ≡ min workers (length laying.now.pieces.now)) }
+    ensures workers { IfOk result (λ v. vec_len v ≡ min (workers_of workers) (length laying.now.pieces.now)) }
     ensures refused { IfErr result (λ e. (e ≡ Refused.NoWorker) ⊎ (e ≡ Refused.OutOfMemory)) }
 {
     share_out(rt, alloc, laying.pieces.len() as u64, workers, laying)
@@ -100,13 +99,9 @@ impl<'a, H: KeyHash<Cell> + Send + Sync> Task for Laying<'a, H> {
 
     type Made = Columns<H>;
 
-    type Given = Columns<H>;
-
     ghost count = { λ l. length l.pieces.now };
 
     ghost makes = { λ l places made. Hold (rows_at l.pieces.now places) made };
-
-    ghost gives = { λ l places given. Hold (rows_at l.pieces.now places) given };
 
     fn begin(&self, alloc: Global) -> Result<Columns<H>, AllocError> {
         self.none(alloc)
@@ -114,10 +109,6 @@ impl<'a, H: KeyHash<Cell> + Send + Sync> Task for Laying<'a, H> {
 
     fn take(&self, _alloc: Global, made: &mut Columns<H>, place: u64) -> Result<(), AllocError> {
         made.take(self.piece(place))
-    }
-
-    fn end(&self, _alloc: Global, made: Columns<H>) -> Result<Columns<H>, AllocError> {
-        Ok(made)
     }
 }
 

@@ -3,8 +3,8 @@ ghost use Rattle.std.specs.Prelude.{◌≡◌, ◌<◌, ◌≤◌, ◌⊎◌, �
 ghost use Rattle.cells.specs.Values.{RowValue};
 ghost use Rattle.cells.specs.declared.refused.Refused.TheVariants as Refused;
 ghost use Rattle.columns.specs.Columns.{Hold};
-ghost use Rattle.crew.specs.Limits.{seat_limit};
-ghost use Rattle.crew.specs.Ranging.{FoldsRanges, MayGatherRows, MayShareRows, range_count, range_rows};
+ghost use Rattle.crew.specs.Limits.{workers_of};
+ghost use Rattle.crew.specs.Ranging.{FoldsRanges, MayGatherRows, range_count, range_rows};
 ghost use Rattle.crew.specs.Shares.{AreShared};
 ghost use Rattle.crew.specs.Tasks.{MayTake};
 ghost use Rattle.groups.specs.Folds.{Folds};
@@ -25,10 +25,10 @@ use std::thread::Threads;
 // So many that what is made of the groups of each range costs little beside its rows.
 const RANGE_ROWS: u64 = 524_288;
 
-/// The partial result of those rows for which the plan's WHERE is true, of `count` rows whose columns are at hand. They are
-/// rows of the table that the plan was checked for, and are not too many for a table. The rows are cut into ranges, which as
-/// many workers as the smaller of `workers`, which is 1 to [`MAX_SEATS`](crate::MAX_SEATS), and the number of ranges draw
-/// until none are left, each in a thread of its own; which worker takes which range has no effect. It owns what it keeps.
+/// The partial result of those rows for which the plan's WHERE is true, of `count` rows whose columns are at hand, which are
+/// at most 4,294,967,296. The rows are cut into ranges, which as many workers as the smaller of `workers`, taken as 1 at
+/// least and [`MAX_SEATS`](crate::MAX_SEATS) at most, and the number of ranges draw until none are left, each in a thread of
+/// its own; which worker takes which range has no effect. It owns what it keeps.
 ///
 /// None where a column that the plan needs was left out, or groups are too many for a table: then the rows are to be
 /// gathered from their pieces.
@@ -43,8 +43,7 @@ pub fn gather_rows<H: KeyHash<Cell> + KeyHash<Tuple> + Send + Sync, R: Threads +
     count: u64,
     workers: u64,
 ) -> Result<Option<Partial<H>>, Refused>
-    requires rows { MayGatherRows plan.now columns.now count }
-    requires workers { (1 ≤ workers) × (workers ≤ seat_limit) }
+    requires rows { MayGatherRows columns.now count }
     ensures stands { (rows : List RowValue) → Hold rows columns.now → length rows ≡ count →
         IfOk result (λ made. IfSome made (λ partial. Stands H.KeyHash-2.hash_of plan.now (kept plan.now.condition rows) partial)) }
     ensures refused { IfErr result (λ e. (e ≡ Refused.NoWorker) ⊎ (e ≡ Refused.OutOfMemory)) }
@@ -66,12 +65,11 @@ fn range_foldings<'a, H: KeyHash<Cell> + KeyHash<Tuple> + Send + Sync, R: Thread
     ranging: &Ranging<'a, H>,
     workers: u64,
 ) -> Result<Vec<Option<Folding<'a, H>>>, Refused>
-    requires workers { (1 ≤ workers) × (workers ≤ seat_limit) }
     ensures shared { IfOk result (λ v. AreShared (FoldsRanges ranging.now) (range_count ranging.now.count) v.items) }
-    ensures workers { IfOk result (λ v. vec_len v ≡ min workers (range_count ranging.now.count)) }
+    ensures workers { IfOk result (λ v. vec_len v ≡ min (workers_of workers) (range_count ranging.now.count)) }
     ensures refused { IfErr result (λ e. (e ≡ Refused.NoWorker) ⊎ (e ≡ Refused.OutOfMemory)) }
 {
-    ranging.rows_may_fold();
+    ranging.rows_are_few();
     share_out(rt, alloc, ranging.ranges(), workers, ranging)
 }
 
@@ -96,15 +94,14 @@ impl<'a, H: KeyHash<Cell>> Model for Ranging<'a, H> {
 
     ghost view = { λ r. record { plan = r.plan.now; columns = r.columns.now; count = r.count } };
 
-    ghost invariant = { λ r. MayGatherRows r.plan.now r.columns.now r.count };
+    ghost invariant = { λ r. MayGatherRows r.columns.now r.count };
 }
 
 impl<'a, H: KeyHash<Cell> + KeyHash<Tuple>> Ranging<'a, H> {
-    /// It does nothing: that all rows may be folded is known of each value, and so may those of a share.
-    fn rows_may_fold(&self)
-        ensures { MayShareRows self.now }
+    /// It does nothing: that the columns hold so many rows, which are few enough, is known of each value.
+    fn rows_are_few(&self)
+        ensures { MayGatherRows self.now.columns self.now.count }
     {
-        any_order::<H>();
         let _ = &self.plan;
     }
 
@@ -121,7 +118,7 @@ impl<'a, H: KeyHash<Cell> + KeyHash<Tuple>> Ranging<'a, H> {
         ensures { (rows : List RowValue) → Hold rows self.now.columns →
             IfOk result (λ made. IfSome made (Folds self.now.plan (kept self.now.plan.condition (range_rows self.now.count rows place)))) }
     {
-        self.rows_may_fold();
+        self.rows_are_few();
         let first = place * RANGE_ROWS;
         let count = (self.count - first).min(RANGE_ROWS);
         Folding::of_rows(
@@ -143,7 +140,7 @@ impl<'a, H: KeyHash<Cell> + KeyHash<Tuple>> Ranging<'a, H> {
         requires { MayTake (FoldsRanges self.now) (range_count self.now.count) (Some before) place }
         ensures { (places : List ℕ) → FoldsRanges self.now places (Some before.entry) → IfOk result (FoldsRanges self.now (places ++ place ∷ [])) }
     {
-        self.rows_may_fold();
+        self.rows_are_few();
         let Some(range) = self.range(alloc, place)? else {
             return Ok(None);
         };
@@ -156,13 +153,9 @@ impl<'a, H: KeyHash<Cell> + KeyHash<Tuple> + Send + Sync> Task for Ranging<'a, H
 
     type Made = Option<Folding<'a, H>>;
 
-    type Given = Option<Folding<'a, H>>;
-
     ghost count = { λ r. range_count r.count };
 
     ghost makes = { λ r places made. FoldsRanges r places made };
-
-    ghost gives = { λ r places given. FoldsRanges r places given };
 
     fn begin(&self, alloc: Global) -> Result<Option<Folding<'a, H>>, AllocError> {
         Ok(Some(Folding::new(alloc, self.plan)?))
@@ -179,14 +172,6 @@ impl<'a, H: KeyHash<Cell> + KeyHash<Tuple> + Send + Sync> Task for Ranging<'a, H
         }
         Ok(())
     }
-
-    fn end(
-        &self,
-        _alloc: Global,
-        made: Option<Folding<'a, H>>,
-    ) -> Result<Option<Folding<'a, H>>, AllocError> {
-        Ok(made)
-    }
 }
 
 /// The partial result of all ranges, from the foldings of the workers who shared them, which are joined in their order; None
@@ -202,7 +187,7 @@ fn joined_ranges<'a, H: KeyHash<Cell> + KeyHash<Tuple>>(
 {
     // These do nothing: they are the laws by which shares may be joined, and are all rows in the end.
     any_order::<H>();
-    ranging.rows_may_fold();
+    ranging.rows_are_few();
     let mut all = Folding::new(alloc, ranging.plan)?;
     for folding in foldings {
         let Some(folding) = folding else {

@@ -32,19 +32,19 @@ pub(crate) fn run_all<K: Task, R: Threads + Wait>(
     deal: &Deal,
     seats: Vec<Seat>,
     task: &K,
-) -> Result<Returned<K::Given>, AllocError>
+) -> Result<Returned<K::Made>, AllocError>
     requires seats { seats.items ≡ new_seats deal.now }
     requires task { K.count task.now ≡ deal.now.pieces }
-    ensures back { IfOk result (λ r. AreBack deal.now (K.gives task.now) r.seats.items r.given.items) }
+    ensures back { IfOk result (λ r. AreBack deal.now (K.makes task.now) r.seats.items r.given.items) }
 {
     let called_off = AtomicBool::new(false);
     let called_off = &called_off;
     thread::scope(
         thread::scope_env(),
         rt,
-        move |scope| -> Result<Returned<K::Given>, AllocError>
+        move |scope| -> Result<Returned<K::Made>, AllocError>
             requires { (seats.items ≡ new_seats deal.now) × (K.count task.now ≡ deal.now.pieces) }
-            ensures back { IfOk result (λ r. AreBack deal.entry.now (K.gives task.entry.now) r.seats.items r.given.items) }
+            ensures back { IfOk result (λ r. AreBack deal.entry.now (K.makes task.entry.now) r.seats.items r.given.items) }
         {
             let start = Start {
                 scope,
@@ -79,7 +79,7 @@ struct Start<'a, 's, 'e, K> {
 
 impl<'a, 's, 'e: 's, K: Task> Start<'a, 's, 'e, K> {
     // Starts a worker at the seat. Where a thread can't be started, the work is called off and the seat comes back.
-    fn worker(&self, seat: Seat) -> Result<PromisedHandle<Worked<K::Given>, Promised<'s, K>>, Seat>
+    fn worker(&self, seat: Seat) -> Result<PromisedHandle<Worked<K::Made>, Promised<'s, K>>, Seat>
         requires seat { IsSeatOf self.now.deal.now seat × (seat.seen ≡ []) }
         requires task { K.count self.now.task.now ≡ self.now.deal.now.pieces }
         ensures started { IfOk result (λ handle. (handle.promise.deal.now ≡ self.now.deal.now) × (handle.promise.task.now ≡ self.now.task.now) × (handle.promise.number ≡ seat.number)) }
@@ -97,9 +97,9 @@ impl<'a, 's, 'e: 's, K: Task> Start<'a, 's, 'e, K> {
         let alloc = self.alloc;
         let deal = self.deal;
         let task = self.task;
-        let job = move || -> Worked<K::Given>
+        let job = move || -> Worked<K::Made>
             requires { IsSeatOf deal.now seat × (seat.seen ≡ []) × (K.count task.now ≡ deal.now.pieces) }
-            ensures { IsWorked deal.entry.now (K.gives task.entry.now) seat.number result }
+            ensures { IsWorked deal.entry.now (K.makes task.entry.now) seat.number result }
         { work(alloc, deal, seat, task, called_off) };
         match self.scope.spawn_with(promise, job) {
             Ok(handle) => Ok(handle),
@@ -116,15 +116,15 @@ impl<'a, 's, 'e: 's, K: Task> Start<'a, 's, 'e, K> {
     fn joined<R: Threads>(
         &self,
         rt: &R,
-        begun: Vec<Result<PromisedHandle<Worked<K::Given>, Promised<'s, K>>, Seat>>,
-        room: Returned<K::Given>,
-    ) -> Returned<K::Given>
+        begun: Vec<Result<PromisedHandle<Worked<K::Made>, Promised<'s, K>>, Seat>>,
+        room: Returned<K::Made>,
+    ) -> Returned<K::Made>
         requires empty { (room.seats.items ≡ []) × (room.given.items ≡ []) }
         requires room { (vec_len begun ≤ vec_capacity room.seats) × (vec_len begun ≤ vec_capacity room.given) }
         requires many { length begun.items ≡ self.now.deal.now.seats }
         requires started { AllNumbered (λ number one. IfOk one (λ handle. (handle.promise.deal.now ≡ self.now.deal.now) × (handle.promise.task.now ≡ self.now.task.now) × (handle.promise.number ≡ number))) 0 begun.items }
         requires refused { AllNumbered (λ number one. IfErr one (λ seat. IsSeatOf self.now.deal.now seat × (seat.number ≡ number))) 0 begun.items }
-        ensures back { AreBack self.now.deal.now (K.gives self.now.task.now) result.seats.items result.given.items }
+        ensures back { AreBack self.now.deal.now (K.makes self.now.task.now) result.seats.items result.given.items }
     {
         let Returned {
             mut seats,
@@ -142,12 +142,12 @@ impl<'a, 's, 'e: 's, K: Task> Start<'a, 's, 'e, K> {
     fn back<R: Threads>(
         &self,
         rt: &R,
-        begun: Result<PromisedHandle<Worked<K::Given>, Promised<'s, K>>, Seat>,
-    ) -> Worked<K::Given>
+        begun: Result<PromisedHandle<Worked<K::Made>, Promised<'s, K>>, Seat>,
+    ) -> Worked<K::Made>
         requires started { IfOk begun (λ handle. (handle.promise.deal.now ≡ self.now.deal.now) × (handle.promise.task.now ≡ self.now.task.now)) }
         requires refused { IfErr begun (λ seat. IsSeatOf self.now.deal.now seat) }
-        ensures started { IfOk begun.entry (λ handle. IsBack self.now.deal.now (K.gives self.now.task.now) handle.promise.number result) }
-        ensures refused { IfErr begun.entry (λ seat. IsBack self.now.deal.now (K.gives self.now.task.now) seat.number result) }
+        ensures started { IfOk begun.entry (λ handle. IsBack self.now.deal.now (K.makes self.now.task.now) handle.promise.number result) }
+        ensures refused { IfErr begun.entry (λ seat. IsBack self.now.deal.now (K.makes self.now.task.now) seat.number result) }
     {
         match begun {
             Ok(handle) => handle.join(rt),
@@ -167,8 +167,8 @@ struct Promised<'a, K> {
     number: u64,
 }
 
-impl<'a, K: Task> Promise<Worked<K::Given>> for Promised<'a, K> {
+impl<'a, K: Task> Promise<Worked<K::Made>> for Promised<'a, K> {
     ghost use Rattle.crew.specs.Works.{IsWorked};
 
-    ghost kept_by = { λ promise worked. IsWorked promise.deal.now (K.gives promise.task.now) promise.number worked };
+    ghost kept_by = { λ promise worked. IsWorked promise.deal.now (K.makes promise.task.now) promise.number worked };
 }

@@ -2,10 +2,11 @@
 ghost use Rattle.std.specs.Prelude.{◌≡◌, ◌≤◌, ◌⊎◌, ◌↔◌, [], Any, map, min, Ok, true, vec_capacity, vec_len, IfErr, IfOk, IsErrOf};
 ghost use Rattle.std.specs.Result.{is_err};
 ghost use Rattle.cells.specs.declared.refused.Refused.TheVariants as Refused;
-ghost use Rattle.crew.specs.Limits.{piece_limit, seat_limit};
+ghost use Rattle.crew.specs.Limits.{piece_limit, workers_of};
 ghost use Rattle.crew.specs.Shares.{AreShared};
 
 use crate::deal::{Deal, draws_rise};
+use crate::limits::MAX_SEATS;
 use crate::running::{Returned, run_all};
 use crate::task::Task;
 use cells::Refused;
@@ -13,10 +14,11 @@ use std::alloc::Global;
 use std::sync::Wait;
 use std::thread::Threads;
 
-/// Shares the places below `count` out among workers, each in a thread of its own, and gives their results in the order
-/// of the workers. There are as many workers as the smaller of `workers`, which is 1 to [`MAX_SEATS`](crate::MAX_SEATS),
-/// and `count`, which is at most [`MAX_PIECES`](crate::MAX_PIECES). No worker has a fixed share: each draws one place
-/// after another until none are left, so it is not said who draws which, but each place is drawn once.
+/// Shares the places below `count` out among workers, each in a thread of its own, and gives what they made in the order
+/// of the workers. There are as many workers as the smaller of `workers`, which counts as 1 where it is 0, and as
+/// [`MAX_SEATS`] where it is more, and `count`, which is at most [`MAX_PIECES`](crate::MAX_PIECES). No worker has a fixed
+/// share: each draws one place after another until none are left, so it is not said who draws which, but each place is
+/// drawn once.
 ///
 /// [`Refused::NoWorker`] comes where a thread could not be started; otherwise [`Refused::OutOfMemory`] where there was
 /// no memory, here or for a worker. All threads that were started are joined before this returns, however it ends. It
@@ -27,11 +29,10 @@ pub fn share_out<K: Task, R: Threads + Wait>(
     count: u64,
     workers: u64,
     task: &K,
-) -> Result<Vec<K::Given>, Refused>
+) -> Result<Vec<K::Made>, Refused>
     requires count { (K.count task.now ≡ count) × (count ≤ piece_limit) }
-    requires workers { (1 ≤ workers) × (workers ≤ seat_limit) }
-    ensures shared { IfOk result (λ v. AreShared (K.gives task.now) count v.items) }
-    ensures workers { IfOk result (λ v. vec_len v ≡ min workers count) }
+    ensures shared { IfOk result (λ v. AreShared (K.makes task.now) count v.items) }
+    ensures workers { IfOk result (λ v. vec_len v ≡ min (workers_of workers) count) }
     ensures refused { IfErr result (λ e. (e ≡ Refused.NoWorker) ⊎ (e ≡ Refused.OutOfMemory)) }
 
     // Where there are no places, nothing is refused.
@@ -41,12 +42,19 @@ pub fn share_out<K: Task, R: Threads + Wait>(
         return Ok(Vec::new(alloc));
     }
     draws_rise();
-    let (deal, seats) = Deal::new(alloc, count, workers.min(count))?;
+    let (deal, seats) = Deal::new(alloc, count, workers_of(workers).min(count))?;
     // The lists are made before a thread is started, so that none is wanted between the work and the end of the deal.
     let all = Vec::with_capacity(alloc, seats.len())?;
     let Returned { seats, given } = run_all(rt, alloc, &deal, seats, task)?;
     deal.close(seats);
     all_given(all, given)
+}
+
+// As many workers as are asked for, but one at least, and no more than there are seats.
+fn workers_of(workers: u64) -> u64
+    ensures { result ≡ workers_of workers }
+{
+    workers.max(1).min(MAX_SEATS)
 }
 
 // What was given at all seats, put into a list that has room for it. Want of a worker goes before want of memory.

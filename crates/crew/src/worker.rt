@@ -10,7 +10,7 @@ use std::alloc::Global;
 use std::sync::atomic::AtomicBool;
 use std::sync::atomic::Ordering::SeqCst;
 
-/// What comes back of a seat: the seat itself, and what the task gave for the places that it drew. Nothing was given where
+/// What comes back of a seat: the seat itself, and what was made of the places that it drew. Nothing was given where
 /// there was no memory, or where the work was called off since a thread could not be started.
 #[derive(Drop)]
 pub(crate) struct Worked<T> {
@@ -26,29 +26,29 @@ pub(crate) fn work<K: Task>(
     mut seat: Seat,
     task: &K,
     called_off: &AtomicBool,
-) -> Worked<K::Given>
+) -> Worked<K::Made>
     requires seat { IsSeatOf deal.now seat × (seat.seen ≡ []) }
     requires task { K.count task.now ≡ deal.now.pieces }
-    ensures { IsWorked deal.now (K.gives task.now) seat.number result }
+    ensures { IsWorked deal.now (K.makes task.now) seat.number result }
 {
     let given = make(alloc, deal, &mut seat, task, called_off);
     draw_on(deal, &mut seat);
     Worked { seat, given }
 }
 
-// What the task gives for all places that the seat draws.
+// What is made of all places that the seat draws.
 fn make<K: Task>(
     alloc: Global,
     deal: &Deal,
     seat: &mut Seat,
     task: &K,
     called_off: &AtomicBool,
-) -> Result<K::Given, Refused>
+) -> Result<K::Made, Refused>
     requires seat { IsSeatOf deal.now seat.old × (seat.old.seen ≡ []) }
     requires task { K.count task.now ≡ deal.now.pieces }
     ensures seat { IsSeatOf deal.now seat.new × (seat.new.number ≡ seat.old.number) }
     ensures finished { OnOk result (is_finished seat.new ≡ true) }
-    ensures given { IfOk result (K.gives task.now (drawn_by seat.new)) }
+    ensures given { IfOk result (K.makes task.now (drawn_by seat.new)) }
 {
     draws_rise();
     let mut made = task.begin(alloc)?;
@@ -58,7 +58,7 @@ fn make<K: Task>(
         }
         task.take(alloc, &mut made, place)?;
     }
-    Ok(task.end(alloc, made)?)
+    Ok(made)
 }
 
 // Draws until no places are left, and does nothing with them.

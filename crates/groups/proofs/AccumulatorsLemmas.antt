@@ -1,15 +1,13 @@
 -- Lists of accumulators, one by one.
-use Rattle.std.specs.Prelude.{◌≡◌, ℕ, zero, suc, ◌+◌, ◌<◌, ◌≤◌, ◌⊎◌, List, [], ◌∷◌, ◌++◌, length, set, take, drop, Option, Some, None, refl}
+use Rattle.std.specs.Prelude.{◌≡◌, ℕ, ◌+◌, ◌<◌, ◌≤◌, ◌⊎◌, List, [], ◌∷◌, ◌++◌, length, set, take, drop, Option, Some, None, refl}
 use Rattle.std.specs.List.{cons_option}
 use Rattle.std.proofs.Common.{get_or, ap, sym, ◌∙◌, subst, arith, inl, inr}
-use Rattle.std.proofs.lemmas.List.{take_more, append_assoc, append-nil, drop_more, drop-set-lt, get_or_read, take_more_set, drop_all, length-drop, take-append-drop}
+use Rattle.std.proofs.lemmas.List.{take_more, append_assoc, append-nil, drop_more, drop-set-lt, take_more_set, drop_all, take_all, take-append-drop}
 use Rattle.std.proofs.lemmas.List.Elements.{filter_map-append}
 use Rattle.aggs.specs.Accs.{AccsFit, acc_of, acc_together, kind_of}
 use Rattle.aggs.specs.declared.acc.Acc.{Acc}
 use Rattle.cells.specs.Values.{RowValue}
-use Rattle.cells.specs.declared.cell.Cell.{Cell}
-use Rattle.cells.specs.declared.cell.Cell.TheVariants.{Null}
-use Rattle.groups.specs.Accumulators.{aggregation_of, aggregations_of, AllFit, CanStep, MayStep, accs_together, stepped}
+use Rattle.groups.specs.Accumulators.{aggregation_of, aggregations_of, AllFit, CanStep, accs_together, stepped}
 use Rattle.groups.specs.Groups.{cell_at}
 use Rattle.groups.specs.declared.aggregation.Aggregation.{Aggregation}
 use Rattle.query.specs.declared.item.Item.{Item}
@@ -23,35 +21,35 @@ module _ {H : Type 0} where
   pub stepping_first : (row : RowValue) (aggregations : List Aggregation) (old accs : List (Acc H)) → accs ≡ old → CanStep row aggregations old → Stepping row aggregations old 0 accs
   stepping_first row aggregations old accs e can = record { same = ap (stepped row aggregations) e; can = subst (CanStep row aggregations) (sym e) can }
 
-  many_left : (row : RowValue) (a : Aggregation) (aggregations : List Aggregation) (accs : List (Acc H)) → CanStep row (a ∷ aggregations) accs → 0 < length accs
-  many_left row a aggregations [] can = absurd can
-  many_left row a aggregations (x ∷ accs) can = omega arith
-
   module _ {row : RowValue} {aggregations : List Aggregation} {old accs : List (Acc H)} {i : ℕ} (now : Stepping row aggregations old i accs)
-      (a : Aggregation) (within : i < length aggregations) (is : a ≡ get_or aggregations i a) where
+      (none : Aggregation) (within : i < length aggregations) where
+    abbrev a : Aggregation
+    a = get_or aggregations i none
+
     rest : drop i aggregations ≡ a ∷ drop (i + 1) aggregations
-    rest = drop_more aggregations i a within ∙ ap (λ b. b ∷ drop (i + 1) aggregations) (sym is)
+    rest = drop_more aggregations i none within
 
-    can_next : CanStep row (a ∷ drop (i + 1) aggregations) (drop i accs)
-    can_next = subst (λ l. CanStep row l (drop i accs)) rest now.can
+    -- there is no accumulator more
+    pub stepping_short : length accs ≤ i → accs ≡ stepped row aggregations old
+    stepping_short past =
+        let none : drop i accs ≡ [] = drop_all i accs past in
+        let same : take i accs ++ stepped row (a ∷ drop (i + 1) aggregations) [] ≡ stepped row aggregations old = rw (rest, none) at now.same in
+        sym (take_all i accs past) ∙ sym (append-nil (take i accs)) ∙ same
 
-    pub stepping_within : i < length accs
-    stepping_within = omega (arith, length-drop i accs, many_left row a (drop (i + 1) aggregations) (drop i accs) can_next)
-
-    module _ (x : Acc H) (here : x ≡ get_or accs i x) where
+    module _ (x : Acc H) (there : i < length accs) (here : x ≡ get_or accs i x) where
       left : drop i accs ≡ x ∷ drop (i + 1) accs
-      left = drop_more accs i x stepping_within ∙ ap (λ b. b ∷ drop (i + 1) accs) (sym here)
+      left = drop_more accs i x there ∙ ap (λ b. b ∷ drop (i + 1) accs) (sym here)
 
       can_here : CanStep row (a ∷ drop (i + 1) aggregations) (x ∷ drop (i + 1) accs)
-      can_here = subst (λ l. CanStep row (a ∷ drop (i + 1) aggregations) l) left can_next
+      can_here = subst (λ l. CanStep row (a ∷ drop (i + 1) aggregations) l) left (subst (λ l. CanStep row l (drop i accs)) rest now.can)
 
-      pub stepping_may : MayStep row a x
+      pub stepping_may : AccsFit x (acc_of (kind_of x) (cell_at a.column row ∷ []))
       stepping_may = can_here.0
 
       pub stepping_more : (v : Acc H) → v ≡ acc_together x (acc_of (kind_of x) (cell_at a.column row ∷ [])) → Stepping row aggregations old (i + 1) (set accs i v)
       stepping_more v e =
           let after : drop (i + 1) (set accs i v) ≡ drop (i + 1) accs = drop-set-lt (i + 1) accs i v (omega arith) in
-          let before : take (i + 1) (set accs i v) ≡ take i accs ++ v ∷ [] = take_more_set accs i v stepping_within in
+          let before : take (i + 1) (set accs i v) ≡ take i accs ++ v ∷ [] = take_more_set accs i v there in
           record {
             same = rw (before, after) (append_assoc (take i accs) (v ∷ []) (stepped row (drop (i + 1) aggregations) (drop (i + 1) accs))
                 ∙ ap (λ w. take i accs ++ w ∷ stepped row (drop (i + 1) aggregations) (drop (i + 1) accs)) e
@@ -73,19 +71,15 @@ module _ {H : Type 0} where
   pub joining_first : (firsts seconds : List (Acc H)) → AllFit firsts seconds → Joining firsts seconds [] firsts seconds
   joining_first firsts seconds fit = record { same = refl; fit = fit }
 
-  pub record MayJoin (x y : Acc H) : Type 0 where
-    pub fits : AccsFit x y
-    pub one : kind_of x ≡ kind_of y
-
   module _ {firsts seconds made xs ys : List (Acc H)} (now : Joining firsts seconds made xs ys) where
     module _ {x y : Acc H} {more later : List (Acc H)} (p : xs ≡ x ∷ more) (q : ys ≡ y ∷ later) where
-      pub joining_may : MayJoin x y
-      joining_may = let all : AllFit (x ∷ more) (y ∷ later) = rw (p, q) at now.fit in record { fits = all.0; one = all.1 }
+      pub joining_may : AccsFit x y
+      joining_may = let all : AllFit (x ∷ more) (y ∷ later) = rw (p, q) at now.fit in all.0
 
       pub joining_more : (v : Acc H) → v ≡ acc_together x y → Joining firsts seconds (made ++ v ∷ []) more later
       joining_more v e = let all : AllFit (x ∷ more) (y ∷ later) = rw (p, q) at now.fit in record {
         same = append_assoc made (v ∷ []) (accs_together more later) ∙ ap (λ w. made ++ w ∷ accs_together more later) e ∙ (rw (p, q) at now.same);
-        fit = all.2;
+        fit = all.1;
       }
 
     no_more : (xs ys : List (Acc H)) → (xs ≡ []) ⊎ (ys ≡ []) → accs_together xs ys ≡ []
@@ -96,32 +90,6 @@ module _ {H : Type 0} where
 
     pub joining_all : (xs ≡ []) ⊎ (ys ≡ []) → made ≡ accs_together firsts seconds
     joining_all h = sym (append-nil made) ∙ ap (λ l. made ++ l) (sym (no_more xs ys h)) ∙ now.same
-
--- the item of a list at a place
-pub item : {X : Type 0} (xs : List X) (i : ℕ) → i < length xs → X
-item [] i h = absurd (omega arith)
-item (x ∷ xs) zero h = x
-item (x ∷ xs) (suc i) h = item xs i (omega arith)
-
-pub item_is : {X : Type 0} (xs : List X) (i : ℕ) (h : i < length xs) → item xs i h ≡ get_or xs i (item xs i h)
-unfolding item
-item_is [] i h = absurd (omega arith)
-item_is (x ∷ xs) zero h = refl
-item_is (x ∷ xs) (suc i) h = item_is xs i (omega arith)
-
-item_default : {X : Type 0} (xs : List X) (i : ℕ) (h : i < length xs) (d : X) → get_or xs i d ≡ item xs i h
-unfolding item
-item_default [] i h d = absurd (omega arith)
-item_default (x ∷ xs) zero h d = refl
-item_default (x ∷ xs) (suc i) h d = item_default xs i (omega arith) d
-
--- the cell that was read is the row's in the aggregate's column
-pub cell_read : (row : RowValue) (cells : List Cell) (aggregations : List Aggregation) (i : ℕ) (h : i < length aggregations) (d : Aggregation) (x : Cell) →
-    cells ≡ row.cells → x ≡ get_or cells (get_or aggregations i d).column x → (item aggregations i h).column < length row.cells →
-    x ≡ cell_at (item aggregations i h).column row
-cell_read row cells aggregations i h d x same is within =
-    let e : x ≡ get_or row.cells (item aggregations i h).column x = rw (← item_default aggregations i h d, ← same) is in
-    get_or_read row.cells (item aggregations i h).column x within e Null
 
 -- ---- the aggregates of a select list, item by item
 module _ (items : List (Item ℕ)) (i : ℕ) (d : Item ℕ) (h : i < length items) where

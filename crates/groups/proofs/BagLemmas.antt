@@ -1,66 +1,41 @@
 -- Groups and the rows that went into them.
 use Rattle.std.specs.Prelude.{◌≡◌, ℕ, zero, suc, ◌+◌, ◌<◌, ◌≤◌, Bool, true, false, List, [], ◌∷◌, ◌++◌, length, set, Some, None, if◌then◌else◌, refl}
-use Rattle.std.specs.List.{All, AllByRecursion}
+use Rattle.std.specs.List.{AllByRecursion}
 use Rattle.std.specs.List.Sorted.{IsPermutation}
 use Rattle.std.proofs.Common.{get_or, ap, ap₂, sym, ◌∙◌, subst, arith, inl, inr}
 use Rattle.std.proofs.lemmas.List.{append_assoc, append-nil, get_or_read, length-append, length-map}
-use Rattle.std.proofs.lemmas.List.Sorted.{All-permutation, IsPermutation-append_comm, IsPermutation-append_left, IsPermutation-append_right, IsPermutation-refl, IsPermutation-trans, length_permutation}
-use Rattle.aggs.specs.Accs.{AccsFit, acc_kind, acc_of, acc_room, acc_takes, acc_together}
+use Rattle.std.proofs.lemmas.List.Sorted.{IsPermutation-append_comm, IsPermutation-append_left, IsPermutation-append_right, IsPermutation-refl, IsPermutation-trans, length_permutation}
+use Rattle.aggs.specs.Accs.{AccsFit, acc_kind, acc_of, acc_room, acc_together}
 use Rattle.aggs.specs.Room.{cell_limit}
 use Rattle.aggs.specs.declared.acc.Acc.{Acc}
-use Rattle.cells.specs.Fitting.{AreStored, IsStored}
 use Rattle.cells.specs.TupleOrder.{tuple_eq, tuple_eq-equiv}
 use Rattle.cells.specs.Values.{RowValue}
 use Rattle.cells.specs.declared.cell.Cell.{Cell}
-use Rattle.cells.specs.declared.cell.Cell.TheVariants.{Null}
-use Rattle.groups.specs.Accumulators.{CanStep, MayStep, accs_of, accs_together, both, group, group_or, is_start, no_rows, stepped}
-use Rattle.groups.specs.Bags.{AreParts, CanTake, Covers, FitsRow, Group, HasRoom, IsPart, MayTake, Takes, joined, picked}
+use Rattle.groups.specs.Accumulators.{AllFit, CanStep, accs_of, accs_together, both, group, group_or, is_start, no_rows, stepped}
+use Rattle.groups.specs.Bags.{AreParts, CanTake, Covers, Group, HasRoom, IsPart, Takes, joined, picked}
 use Rattle.groups.specs.Groups.{cell_at, column_of, members, tuple_of}
 use Rattle.groups.specs.Laws.{accs_join, group_any_order, group_joins}
 use Rattle.groups.specs.Laying.{given, met_from}
 use Rattle.groups.specs.declared.aggregation.Aggregation.{Aggregation}
-use Rattle.groups.proofs.TuplesLemmas.{all_at, all_first, all_push, all_second}
+use Rattle.groups.proofs.TuplesLemmas.{all_push}
 
--- ---- what holds of each row holds in any order
-module _ {X : Type 0} (P : X → Type 0) where
-  pub all_from : (xs : List X) → All P xs → AllByRecursion P xs
-  all_from [] all = tt
-  all_from (x ∷ xs) all = (all 0 x (omega arith), all_from xs (λ k d h. all (suc k) d (omega (arith, h))))
-
-  pub all_in_order : (xs ys : List X) → IsPermutation xs ys → AllByRecursion P xs → AllByRecursion P ys
-  all_in_order xs ys p all = all_from ys (All-permutation P xs ys p (λ k d h. all_at P xs k d all h))
-
--- ---- cells of rows are stored
-stored_at : (cells : List Cell) (i : ℕ) → AreStored cells → IsStored (get_or cells i Null)
-stored_at [] i s = tt
-stored_at (c ∷ cells) zero s = s.0
-stored_at (c ∷ cells) (suc i) s = stored_at cells i s.1
-
-pub stored_column : (aggregations : List Aggregation) (column : ℕ) (rows : List RowValue) → AllByRecursion (FitsRow aggregations) rows → AreStored (column_of column rows)
-stored_column aggregations column [] fit = tt
-stored_column aggregations column (r ∷ rows) fit = (stored_at r.cells column (fit.0).stored, stored_column aggregations column rows fit.1)
-
--- ---- a row more
+-- ---- there is room for few rows
 module _ (H : Type 0) where
-  may_step : (all : List Aggregation) (row : RowValue) (a : Aggregation) (part : List RowValue) → AllByRecursion (FitsRow all) part → FitsRow all row →
-      MayTake row a → length part + 1 ≤ cell_limit → MayStep row a (acc_of {H = H} a.kind (column_of a.column part))
-  may_step all row a part rows fit may few =
-      let fits : AccsFit (acc_of {H = H} a.kind (column_of a.column part)) (acc_of a.kind (cell_at a.column row ∷ [])) =
-      acc_room H a.kind (column_of a.column part) (cell_at a.column row ∷ []) (record {
-        first = stored_column all a.column part rows;
-        second = (stored_at row.cells a.column fit.stored, tt);
-        few = omega (arith, few, length-map part (cell_at a.column));
-      }) in
-      record {
-        column = may.column;
-        takes = acc_takes H a.kind (column_of a.column part) (cell_at a.column row) may.number;
-        fits = subst (λ k. AccsFit (acc_of {H = H} a.kind (column_of a.column part)) (acc_of k (cell_at a.column row ∷ []))) (sym (acc_kind H a.kind (column_of a.column part))) fits;
-      }
+  -- what rows went into can be put together
+  pub all_fit : (aggregations : List Aggregation) (xs ys : List RowValue) → length xs + length ys ≤ cell_limit → AllFit (accs_of {H = H} aggregations xs) (accs_of aggregations ys)
+  all_fit [] xs ys few = tt
+  all_fit (a ∷ aggregations) xs ys few = (
+    acc_room H a.kind (column_of a.column xs) (column_of a.column ys) (omega (arith, few, length-map xs (cell_at a.column), length-map ys (cell_at a.column))),
+    all_fit aggregations xs ys few,
+  )
 
-  can_step : (all : List Aggregation) (row : RowValue) (part : List RowValue) → AllByRecursion (FitsRow all) part → FitsRow all row → length part + 1 ≤ cell_limit →
-      (aggregations : List Aggregation) → AllByRecursion (MayTake row) aggregations → CanStep row aggregations (accs_of {H = H} aggregations part)
-  can_step all row part rows fit few [] may = tt
-  can_step all row part rows fit few (a ∷ aggregations) may = (may_step all row a part rows fit may.0 few, can_step all row part rows fit few aggregations may.1)
+  can_step : (row : RowValue) (part : List RowValue) → length part + 1 ≤ cell_limit → (aggregations : List Aggregation) → CanStep row aggregations (accs_of {H = H} aggregations part)
+  can_step row part few [] = tt
+  can_step row part few (a ∷ aggregations) = (
+    subst (λ k. AccsFit (acc_of {H = H} a.kind (column_of a.column part)) (acc_of k (cell_at a.column row ∷ []))) (sym (acc_kind H a.kind (column_of a.column part)))
+        (acc_room H a.kind (column_of a.column part) (cell_at a.column row ∷ []) (omega (arith, few, length-map part (cell_at a.column)))),
+    can_step row part few aggregations,
+  )
 
 module _ {H : Type 0} where
   stepped_is : (row : RowValue) (aggregations : List Aggregation) (part : List RowValue) →
@@ -112,25 +87,20 @@ module _ {H : Type 0} (aggregations : List Aggregation) (columns : List ℕ) whe
   covers_none = record { parts = []; each = tt; all = IsPermutation-refl [] }
 
   -- each group can take one row more: a part of some rows has no more than they
-  each_can_take : (row : RowValue) → FitsRow aggregations row → (groups : List (Group H)) (parts : List (List RowValue)) → AreParts aggregations columns groups parts →
-      AllByRecursion (FitsRow aggregations) (joined parts) → length (joined parts) + 1 ≤ cell_limit → AllByRecursion (λ g. CanStep row aggregations g.1) groups
-  each_can_take row fit [] parts are all few = tt
-  each_can_take row fit (g ∷ groups) [] are all few = absurd are
-  each_can_take row fit (g ∷ groups) (p ∷ parts) are all few = (
-    subst (CanStep row aggregations) (sym (are.0).accs)
-        (can_step H aggregations row p (all_first _ p (joined parts) all) fit (omega (arith, few, length-append p (joined parts))) aggregations fit.each),
-    each_can_take row fit groups parts are.1 (all_second _ p (joined parts) all) (omega (arith, few, length-append p (joined parts))),
+  each_can_take : (row : RowValue) (groups : List (Group H)) (parts : List (List RowValue)) → AreParts aggregations columns groups parts → length (joined parts) + 1 ≤ cell_limit →
+      AllByRecursion (λ g. CanStep row aggregations g.1) groups
+  each_can_take row [] parts are few = tt
+  each_can_take row (g ∷ groups) [] are few = absurd are
+  each_can_take row (g ∷ groups) (p ∷ parts) are few = (
+    subst (CanStep row aggregations) (sym (are.0).accs) (can_step H row p (omega (arith, few, length-append p (joined parts))) aggregations),
+    each_can_take row groups parts are.1 (omega (arith, few, length-append p (joined parts))),
   )
 
-  pub can_take : (row : RowValue) (groups : List (Group H)) → HasRoom aggregations columns row groups → CanTake aggregations row groups
-  can_take row groups room =
-      let fit : FitsRow aggregations row = (all_second _ room.rows (row ∷ []) (room.can).each).0 in
-      let all = all_in_order _ room.rows (joined (room.covers).parts) (room.covers).all (all_first _ room.rows (row ∷ []) (room.can).each) in
-      let few : length room.rows + 1 ≤ cell_limit = omega (arith, (room.can).few, length-append room.rows (row ∷ [])) in
-      record {
-        each = each_can_take row fit groups (room.covers).parts (room.covers).each all (omega (arith, few, length_permutation room.rows (joined (room.covers).parts) (room.covers).all));
-        new = can_step H aggregations row [] tt fit (omega (arith, few)) aggregations fit.each;
-      }
+  pub can_take : (row : RowValue) (groups : List (Group H)) → HasRoom aggregations columns groups → CanTake aggregations row groups
+  can_take row groups room = record {
+    each = each_can_take row groups (room.covers).parts (room.covers).each (omega (arith, room.few, length_permutation room.rows (joined (room.covers).parts) (room.covers).all));
+    new = can_step H row [] (omega (arith, room.few)) aggregations;
+  }
 
   record Later (groups : List (Group H)) (parts : List (List RowValue)) (row : RowValue) : Type 0 where
     new : List (List RowValue)

@@ -3,7 +3,7 @@ use Rattle.std.specs.Prelude.{◌≡◌, ℕ, zero, suc, ◌+◌, ◌<◌, ◌�
 use Rattle.std.specs.List.{AllByRecursion}
 use Rattle.std.specs.List.Sorted.{IsPermutation}
 use Rattle.std.proofs.Common.{get_or, ap, ap₂, sym, ◌∙◌, subst, arith, inl, inr}
-use Rattle.std.proofs.lemmas.List.{append_assoc, append-nil, get_or-map, length-append, length-map, map-append, take_all, take_more, take-append-drop}
+use Rattle.std.proofs.lemmas.List.{append_assoc, append-nil, get_or-map, length-append, map-append, take_all, take_more, take-append-drop}
 use Rattle.std.proofs.lemmas.List.Sorted.{IsPermutation-append_comm, IsPermutation-append_left, IsPermutation-append_right, IsPermutation-refl, IsPermutation-trans, length_permutation}
 use Rattle.aggs.specs.Room.{cell_limit}
 use Rattle.aggs.specs.declared.acc.Acc.{Acc}
@@ -12,13 +12,12 @@ use Rattle.cells.specs.declared.cell.Cell.{Cell}
 use Rattle.cells.specs.declared.cell.Cell.TheVariants.{Null}
 use Rattle.groups.specs.Accumulators.{AllFit, accs_of, accs_together, no_rows}
 use Rattle.groups.specs.Coarsening.{CanCoarsen, Regroups, TakesGroup, coarser, picked_columns}
-use Rattle.groups.specs.Bags.{AreParts, AreWithin, CanCount, Covers, FitsRow, Group, IsCounted, IsPart, joined, picked}
+use Rattle.groups.specs.Bags.{AreParts, AreWithin, Covers, Group, IsCounted, IsPart, joined, picked}
 use Rattle.groups.specs.Groups.{cell_at, tuple_of}
 use Rattle.groups.specs.Laws.{accs_join}
 use Rattle.groups.specs.declared.aggregation.Aggregation.{Aggregation}
-use Rattle.groups.proofs.BagLemmas.{all_in_order}
-use Rattle.groups.proofs.LayingLemmas.{all_fit}
-use Rattle.groups.proofs.TuplesLemmas.{all_both, all_first, all_second}
+use Rattle.groups.proofs.BagLemmas.{all_fit}
+use Rattle.groups.proofs.TuplesLemmas.{all_both}
 
 some_both : (xs ys : List RowValue) → no_rows xs ≡ false → no_rows (xs ++ ys) ≡ false
 some_both [] ys e = cc
@@ -115,13 +114,6 @@ module _ {H : Type 0} (aggregations : List Aggregation) (columns : List ℕ) whe
         whole = ap (λ l. p ++ l) rest.whole ∙ sym (append_assoc p (joined rest.firsts) rest.part);
       }
 
-  pub regroups_none : (new : List (Group H)) → new ≡ [] → Regroups aggregations columns [] new
-  regroups_none new e = record { serves = λ parts are. subst (λ gs. Covers aggregations columns (joined parts) gs) (sym e) (none parts are) }
-    where
-      none : (parts : List (List RowValue)) → AreParts {H = H} aggregations columns [] parts → Covers {H = H} aggregations columns (joined parts) []
-      none [] are = record { parts = []; each = tt; all = IsPermutation-refl [] }
-      none (p ∷ parts) are = absurd are
-
   pub regroups_more : (groups : List (Group H)) (g : Group H) (old new : List (Group H)) →
       Regroups aggregations columns groups old → TakesGroup g.0 g.1 old new → Regroups aggregations columns (groups ++ g ∷ []) new
   regroups_more groups g old new now takes = record {
@@ -132,61 +124,41 @@ module _ {H : Type 0} (aggregations : List Aggregation) (columns : List ℕ) whe
   }
 
   -- each group that is there takes one more
-  parts_fit : (part : List RowValue) (accs : List (Acc H)) → AllByRecursion (FitsRow aggregations) part → accs ≡ accs_of aggregations part →
-      (groups : List (Group H)) (parts : List (List RowValue)) → AreParts aggregations columns groups parts → AllByRecursion (FitsRow aggregations) (joined parts) →
-      length (joined parts) + length part ≤ cell_limit → AllByRecursion (λ h. AllFit h.1 accs) groups
-  parts_fit part accs fit e [] parts are all few = tt
-  parts_fit part accs fit e (h ∷ groups) [] are all few = absurd are
-  parts_fit part accs fit e (h ∷ groups) (p ∷ parts) are all few = (
+  parts_fit : (part : List RowValue) (accs : List (Acc H)) → accs ≡ accs_of aggregations part → (groups : List (Group H)) (parts : List (List RowValue)) →
+      AreParts aggregations columns groups parts → length (joined parts) + length part ≤ cell_limit → AllByRecursion (λ h. AllFit h.1 accs) groups
+  parts_fit part accs e [] parts are few = tt
+  parts_fit part accs e (h ∷ groups) [] are few = absurd are
+  parts_fit part accs e (h ∷ groups) (p ∷ parts) are few = (
     subst (λ a. AllFit a accs) (sym (are.0).accs) (subst (AllFit (accs_of aggregations p)) (sym e)
-        (all_fit H aggregations p part (all_first _ p (joined parts) all) fit (omega (arith, few, length-append p (joined parts))))),
-    parts_fit part accs fit e groups parts are.1 (all_second _ p (joined parts) all) (omega (arith, few, length-append p (joined parts))),
+        (all_fit H aggregations p part (omega (arith, few, length-append p (joined parts))))),
+    parts_fit part accs e groups parts are.1 (omega (arith, few, length-append p (joined parts))),
   )
 
   pub regroups_fit : (groups : List (Group H)) (g : Group H) (parts : List (List RowValue)) (old : List (Group H)) →
-      Regroups aggregations columns groups old → AreParts aggregations columns (groups ++ g ∷ []) parts → CanCount aggregations (joined parts) →
+      Regroups aggregations columns groups old → AreParts aggregations columns (groups ++ g ∷ []) parts → length (joined parts) ≤ cell_limit →
       AllByRecursion (λ h. AllFit h.1 g.1) old
-  regroups_fit groups g parts old now are can =
+  regroups_fit groups g parts old now are few =
       let last = last_part groups g parts are in
       let covers = now.serves last.firsts last.are in
-      let all : AllByRecursion (FitsRow aggregations) (joined last.firsts ++ last.part) = subst (AllByRecursion (FitsRow aggregations)) last.whole can.each in
-      parts_fit last.part g.1 (all_second _ (joined last.firsts) last.part all) (last.is).accs old covers.parts covers.each
-      (all_in_order _ (joined last.firsts) (joined covers.parts) covers.all (all_first _ (joined last.firsts) last.part all))
-      (omega (arith, can.few, ap length last.whole, length-append (joined last.firsts) last.part, length_permutation (joined last.firsts) (joined covers.parts) covers.all))
+      parts_fit last.part g.1 (last.is).accs old covers.parts covers.each
+      (omega (arith, few, ap (λ l. length l) last.whole, length-append (joined last.firsts) last.part, length_permutation (joined last.firsts) (joined covers.parts) covers.all))
 
 module _ {H : Type 0} (aggregations : List Aggregation) (columns : List ℕ) where
   record FirstParts (before : List (Group H)) (parts : List (List RowValue)) : Type 0 where
     firsts : List (List RowValue)
     are : AreParts aggregations columns before firsts
-    fit : AllByRecursion (FitsRow aggregations) (joined firsts)
     short : length (joined firsts) ≤ length (joined parts)
 
-  first_parts : (before after : List (Group H)) (parts : List (List RowValue)) → AreParts aggregations columns (before ++ after) parts →
-      AllByRecursion (FitsRow aggregations) (joined parts) → FirstParts before parts
-  first_parts [] after parts are all = record { firsts = []; are = tt; fit = tt; short = omega arith }
-  first_parts (g ∷ before) after [] are all = absurd are
-  first_parts (g ∷ before) after (p ∷ parts) are all =
-      let rest = first_parts before after parts are.1 (all_second _ p (joined parts) all) in
+  first_parts : (before after : List (Group H)) (parts : List (List RowValue)) → AreParts aggregations columns (before ++ after) parts → FirstParts before parts
+  first_parts [] after parts are = record { firsts = []; are = tt; short = omega arith }
+  first_parts (g ∷ before) after [] are = absurd are
+  first_parts (g ∷ before) after (p ∷ parts) are =
+      let rest = first_parts before after parts are.1 in
       record {
         firsts = p ∷ rest.firsts;
         are = (are.0, rest.are);
-        fit = all_both _ p (joined rest.firsts) (all_first _ p (joined parts) all) rest.fit;
         short = omega (arith, rest.short, length-append p (joined parts), length-append p (joined rest.firsts));
       }
-
-  wide_tuple : (g : Group H) (part : List RowValue) → IsPart aggregations columns g part → length g.0 ≡ length columns
-  wide_tuple g part is = by_part part is.some is.alike
-    where
-      by_part : (part : List RowValue) → no_rows part ≡ false → AllByRecursion (λ r. tuple_of columns r ≡ g.0) part → length g.0 ≡ length columns
-      by_part [] e alike = cc
-      by_part (r ∷ part) e alike = ap length (sym alike.0) ∙ length-map columns (λ c. get_or r.cells c Null)
-
-  wide_at : (groups : List (Group H)) (parts : List (List RowValue)) (i : ℕ) (g : Group H) →
-      AreParts aggregations columns groups parts → i < length groups → g ≡ get_or groups i g → length g.0 ≡ length columns
-  wide_at [] parts i g are h is = absurd (omega arith)
-  wide_at (f ∷ groups) [] i g are h is = absurd are
-  wide_at (f ∷ groups) (p ∷ parts) zero g are h is = ap (λ (x : Group H). length x.0) is ∙ wide_tuple f p are.0
-  wide_at (f ∷ groups) (p ∷ parts) (suc i) g are h is = wide_at groups parts i g are.1 (omega arith) is
 
 -- ---- coarser tuples
 picked_tuple : (columns places : List ℕ) (row : RowValue) → AreWithin (length columns) places →
@@ -237,33 +209,24 @@ module _ {H : Type 0} (aggregations : List Aggregation) (columns places : List �
       record { parts = made.parts; each = made.each; all = IsPermutation-trans _ _ _ served.all made.all }
 
   module _ (i : ℕ) (g : Group H) (h : i < length groups) (is : g ≡ get_or groups i g) where
-    coarse_wide : (rows : List RowValue) → Covers aggregations columns rows groups → AreWithin (length g.0) places
-    coarse_wide rows covers = subst (λ n. AreWithin n places) (sym (wide_at aggregations columns groups covers.parts i g covers.each h is)) all
-
     coarse_fit : (old : List (Group H)) → IsCounted aggregations columns groups →
         Regroups aggregations (picked_columns columns places) (coarser places (take i groups)) old → AllByRecursion (λ x. AllFit x.1 g.1) old
     coarse_fit old counted now =
         let served = covers_coarser aggregations columns places all counted.rows groups counted.covers in
         let split : coarser places groups ≡ coarser places (take (i + 1) groups) ++ coarser places (drop (i + 1) groups) =
         ap (coarser places) (sym (take-append-drop (i + 1) groups)) ∙ map-append (λ x. (picked places x.0, x.1)) (take (i + 1) groups) (drop (i + 1) groups) in
-        let can : CanCount aggregations (joined served.parts) = record {
-          each = all_in_order _ counted.rows (joined served.parts) served.all (counted.can).each;
-          few = omega (arith, (counted.can).few, length_permutation counted.rows (joined served.parts) served.all);
-        } in
+        let few : length (joined served.parts) ≤ cell_limit = omega (arith, counted.few, length_permutation counted.rows (joined served.parts) served.all) in
         let firsts = first_parts aggregations (picked_columns columns places) (coarser places (take (i + 1) groups)) (coarser places (drop (i + 1) groups)) served.parts
-        (subst (λ gs. AreParts aggregations (picked_columns columns places) gs served.parts) split served.each) can.each in
+        (subst (λ gs. AreParts aggregations (picked_columns columns places) gs served.parts) split served.each) in
         regroups_fit aggregations (picked_columns columns places) (coarser places (take i groups)) (picked places g.0, g.1) firsts.firsts old now
         (subst (λ gs. AreParts aggregations (picked_columns columns places) gs firsts.firsts) (one_coarser places groups i g h is) firsts.are)
-        (record { each = firsts.fit; few = omega (arith, firsts.short, can.few) })
+        (omega (arith, firsts.short, few))
 
 -- the first i groups have gone into the bag
 pub record Coarsening {H : Type 0} (places : List ℕ) (groups : List (Group H)) (i : ℕ) (bag : List (Group H)) : Type 0 where
   pub regroups : (aggregations : List Aggregation) (columns : List ℕ) → Regroups aggregations (picked_columns columns places) (coarser places (take i groups)) bag
 
 module _ {H : Type 0} (places : List ℕ) (groups : List (Group H)) where
-  pub coarsening_first : (bag : List (Group H)) → bag ≡ [] → Coarsening places groups 0 bag
-  coarsening_first bag e = record { regroups = λ aggregations columns. regroups_none aggregations (picked_columns columns places) bag e }
-
   pub coarsening_all : (bag : List (Group H)) (i : ℕ) → length groups ≤ i → Coarsening places groups i bag → (aggregations : List Aggregation) (columns : List ℕ) (rows : List RowValue) →
       AreWithin (length columns) places → Covers aggregations columns rows groups → Covers aggregations (picked_columns columns places) rows bag
   coarsening_all bag i past now aggregations columns rows all covers =
@@ -275,9 +238,6 @@ module _ {H : Type 0} (places : List ℕ) (groups : List (Group H)) where
 
     here : g ≡ get_or groups i g
     here = subst (λ (l : List (Group H)). g ≡ get_or l i g) same is
-
-    pub coarsening_wide : CanCoarsen places groups → AreWithin (length g.0) places
-    coarsening_wide can = coarse_wide can.aggregations can.columns places can.within groups i g within here (can.counted).rows (can.counted).covers
 
     pub coarsening_fit : (old : List (Group H)) → CanCoarsen places groups → Coarsening places groups i old → AllByRecursion (λ x. AllFit x.1 g.1) old
     coarsening_fit old can now = coarse_fit can.aggregations can.columns places can.within groups i g within here old can.counted (now.regroups can.aggregations can.columns)

@@ -9,22 +9,17 @@ use Rattle.std.proofs.lemmas.List.FromFn.{map-range_with_len_more}
 use Rattle.std.proofs.lemmas.List.Sorted.{IsPermutation-append_comm, IsPermutation-append_left, IsPermutation-append_right, IsPermutation-refl, IsPermutation-trans}
 use Rattle.std.proofs.lemmas.Map.Views.{exact_unsigned_eq}
 use Rattle.aggs.specs.Accs.{acc_of}
-use Rattle.aggs.specs.Values.{IsNoText}
 use Rattle.aggs.specs.declared.acc.Acc.{Acc}
-use Rattle.aggs.specs.declared.acc.Kind.TheVariants as kind
 use Rattle.cells.specs.Values.{RowValue}
 use Rattle.cells.specs.declared.cell.Cell.{Cell}
-use Rattle.columns.specs.Columns.{ColumnsValue}
 use Rattle.groups.specs.Accumulators.{accs_of, no_rows}
-use Rattle.groups.specs.Bags.{AreParts, Covers, FitsRow, Group, IsPart, MayTake}
-use Rattle.groups.specs.Columnar.{MayCount, MayTallyRows, TalliesRows, accs_at, groups_from, no_acc}
-use Rattle.groups.specs.Groups.{cell_at, column_of, tuple_of}
-use Rattle.groups.specs.Numbered.{AreNumbered, NumberAll, picked_rows}
+use Rattle.groups.specs.Bags.{AreParts, Covers, Group, IsPart}
+use Rattle.groups.specs.Columnar.{TalliesRows, accs_at, groups_from, no_acc}
+use Rattle.groups.specs.Groups.{cell_at, tuple_of}
+use Rattle.groups.specs.Numbered.{AreNumbered, NumberAll}
 use Rattle.groups.specs.Tallying.{keep_if, those_of}
 use Rattle.groups.specs.declared.aggregation.Aggregation.{Aggregation}
-use Rattle.groups.proofs.BagLemmas.{stored_column}
 use Rattle.groups.proofs.TallyingLemmas.{same_or_other}
-use Rattle.groups.proofs.TuplesLemmas.{all_through}
 
 -- ---- each thing is of one number
 module _ {X : Type 0} where
@@ -96,31 +91,6 @@ zip_next {A} {B} {C} R f xs ys added i x d y h at all one e =
     subst (λ l. AllZip R (take (i + 1) xs) (map f l)) (sym e)
     (subst (AllZip R (take (i + 1) xs)) (sym (map-append f ys (y ∷ [])))
     (subst (λ l. AllZip R l (map f ys ++ f y ∷ [])) (sym (take_more xs i d h ∙ ap (λ (a : A). take i xs ++ a ∷ []) (sym at))) (zip_push R (take i xs) (map f ys) x (f y) all one)))
-
-pub may_tally_each : (aggregations : List Aggregation) (columns : ColumnsValue) (places : List ℕ) → MayCount aggregations columns places → AllByRecursion (MayTallyRows columns places) aggregations
-may_tally_each aggregations columns places may = each aggregations (λ row fits. fits.each) (may.can).each
-  where
-    number_each : (a : Aggregation) (rows : List RowValue) → AllByRecursion (λ row. MayTake row a) rows → a.kind ≡ kind.Sum → AllByRecursion IsNoText (column_of a.column rows)
-    number_each a [] all e = tt
-    number_each a (r ∷ rows) all e = ((all.0).number e, number_each a rows all.1 e)
-
-    each : (some : List Aggregation) → ((row : RowValue) → FitsRow aggregations row → AllByRecursion (MayTake row) some) → AllByRecursion (FitsRow aggregations) (picked_rows may.rows places) →
-        AllByRecursion (MayTallyRows columns places) some
-    each [] take fits = tt
-    each (a ∷ some) take fits = (
-      record {
-        rows = may.rows;
-        held = may.held;
-        within = may.within;
-        few = may.few;
-        may = record {
-          stored = stored_column aggregations a.column (picked_rows may.rows places) fits;
-          numbers = number_each a (picked_rows may.rows places) (all_through (FitsRow aggregations) (λ row. MayTake row a) (λ row f. (take row f).0) (picked_rows may.rows places) fits);
-          few = omega (arith, (may.can).few, length-map (picked_rows may.rows places) (cell_at a.column));
-        };
-      },
-      each some (λ row f. (take row f).1) fits,
-    )
 
 -- ---- the groups cover the rows
 pub number_all : (set : List ℕ) (rows : List RowValue) (numbers : List ℕ) (tuples : List (List Cell)) (count : ℕ) → length rows ≡ count → AreNumbered set rows numbers tuples → NumberAll count numbers tuples

@@ -1,5 +1,5 @@
 -- Where a cell counts once, parts are as good as the rows that they are parts of.
-use Rattle.std.specs.Prelude.{◌≡◌, ℕ, zero, suc, ◌<◌, ◌≤◌, ◌==◌, ◌&&◌, ◌||◌, Bool, true, false, not, List, [], ◌∷◌, length, map, refl}
+use Rattle.std.specs.Prelude.{◌≡◌, ℕ, suc, ◌<◌, ◌≤◌, ◌==◌, ◌&&◌, ◌||◌, Bool, true, false, not, List, [], ◌∷◌, length, map, refl}
 use Rattle.std.specs.FinSet.{same_set}
 use Rattle.std.specs.List.{AllByRecursion, Contains, list_any}
 use Rattle.std.proofs.Common.{get_or, ap, ap₂, sym, ◌∙◌, subst, arith}
@@ -7,21 +7,19 @@ use Rattle.std.specs.Cmp.{both_ways}
 use Rattle.std.proofs.lemmas.List.{length-map}
 use Rattle.std.proofs.lemmas.List.Folds.{list_any_at}
 use Rattle.std.proofs.Math.ListN.{get_or-map}
-use Rattle.aggs.specs.Accs.{acc_of}
 use Rattle.aggs.specs.Differing.{contains_different, different}
 use Rattle.aggs.specs.Values.{is_null, present}
 use Rattle.aggs.specs.declared.acc.Acc.{Acc}
 use Rattle.aggs.specs.declared.acc.Acc.TheVariants as acc
 use Rattle.aggs.specs.declared.acc.Kind.TheVariants as kind
 use Rattle.cells.specs.CellOrder.{cell_cmp-total, cell_eq}
-use Rattle.cells.specs.Fitting.{AreStored, IsStored}
 use Rattle.cells.specs.SameKeys.{exact_cells}
 use Rattle.cells.specs.declared.cell.Cell.{Cell}
 use Rattle.cells.specs.declared.cell.Cell.TheVariants.{Null, Int, Text}
 use Rattle.columns.specs.Columns.{decoded}
 use Rattle.groups.specs.Differing.{cells_of_parts, groups_of_parts}
 use Rattle.groups.specs.Parting.{AreParted, no_part}
-use Rattle.groups.specs.Tallying.{AreTallied, MayTally, keep_if, those_of}
+use Rattle.groups.specs.Tallying.{AreTallied, keep_if, those_of}
 use Rattle.groups.specs.declared.parting.Part.{Part}
 use Rattle.groups.proofs.TallyingLemmas.{any_default}
 use Rattle.groups.proofs.TuplesLemmas.{all_at}
@@ -109,24 +107,5 @@ module _ (groups codes numbers : List ℕ) (parts : List Part) (cells : List Cel
     each = λ n h d. now.each n h d ∙ ap acc.CountDistinct (sym (same_cells_of n));
   }
 
-  part_met : (P : Cell → Type 0) (n : ℕ) → n < length parts → AllByRecursion P (decoded cells codes) → P (get_or cells (get_or parts n no_part).code Null)
-  part_met P n h all =
-      let g : ℕ → Cell = λ k. get_or cells (get_or parts k no_part).code Null in
-      let at = are.met n h in
-      let there : at.0 < length (decoded cells codes) = omega (arith, at.1, ap (λ l. length l) map_cell, length-map numbers g) in
-      subst (λ k. P (g k)) at.2 (subst P (get_or-map g numbers at.0 n) (subst (λ l. P (get_or l at.0 (g n))) map_cell (all_at P (decoded cells codes) at.0 (g n) all there)))
-
-  pub may_tally_parts : MayTally kind.CountDistinct (decoded cells codes) → MayTally kind.CountDistinct (cells_of_parts cells parts)
-  may_tally_parts may = record {
-    stored = stored parts (λ n h. part_met IsStored n h (as_all (decoded cells codes) may.stored));
-    numbers = λ e. absurd (cc (e));
-    few = omega (arith, may.few, are.few, length-map parts (λ (part : Part). get_or cells part.code Null), ap (λ l. length l) map_cell, length-map numbers (λ (k : ℕ). get_or cells (get_or parts k no_part).code Null));
-  }
-    where
-      as_all : (cs : List Cell) → AreStored cs → AllByRecursion IsStored cs
-      as_all [] s = tt
-      as_all (c ∷ cs) s = (s.0, as_all cs s.1)
-
-      stored : (ps : List Part) → ((n : ℕ) → n < length ps → IsStored (get_or cells (get_or ps n no_part).code Null)) → AreStored (cells_of_parts cells ps)
-      stored [] each = tt
-      stored (p ∷ ps) each = (each 0 (omega arith), stored ps (λ n h. each (suc n) (omega (arith, h))))
+  pub parts_few : length parts ≤ length codes
+  parts_few = omega (arith, are.few, ap (λ l. length l) are.of_codes, length-map numbers (λ (n : ℕ). (get_or parts n no_part).code))

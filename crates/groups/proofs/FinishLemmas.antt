@@ -20,7 +20,7 @@ use Rattle.groups.specs.Accumulators.{accs_of, aggregations_of, group}
 use Rattle.groups.specs.Finishing.{row_by, rows_by}
 use Rattle.groups.specs.Groups.{cell_at, column_of, item_value, members, rows_over, set_rows, shown}
 use Rattle.groups.specs.Partials.{Stands, StandsAt, StandsEach}
-use Rattle.groups.proofs.BagLemmas.{all_from, all_in_order}
+use Rattle.groups.proofs.TuplesLemmas.{all_from, all_in_order}
 use Rattle.groups.proofs.OrderLemmas.{rising_differ, value_by_tuple}
 use Rattle.groups.proofs.SetTuplesLemmas.{all_tuples, group_is, group_is_some, has_group}
 use Rattle.query.specs.Plans.{PlanTree}
@@ -112,9 +112,6 @@ module _ {H : Type 0} where
     pub same : (rows : List RowValue) → Stands hash plan rows tries → made ++ flat_map (λ set. set_rows plan set rows) left ≡ rows_over plan rows
 
   module _ (hash : List Cell → ℕ) (plan : PlanTree) (tries : List (List (List Cell × List (Acc H)))) where
-    pub finishing_first : (made : List (List Total)) → made ≡ [] → Finishing hash plan tries made plan.sets tries
-    finishing_first made e = subst (λ m. Finishing hash plan tries m plan.sets tries) (sym e) (record { stand = λ rows s. s.each; same = λ rows s. refl })
-
     module _ {made : List (List Total)} {left : List (List ℕ)} {later : List (List (List Cell × List (Acc H)))} (now : Finishing hash plan tries made left later) where
       pub finishing_more : {set : List ℕ} {t : List (List Cell × List (Acc H))} {sets : List (List ℕ)} {more : List (List (List Cell × List (Acc H)))} →
           left ≡ set ∷ sets → later ≡ t ∷ more → (new : List (List Total)) →

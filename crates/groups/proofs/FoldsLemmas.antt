@@ -1,26 +1,21 @@
 -- Rows folded piece by piece.
 use Rattle.std.specs.Prelude.{◌≡◌, ℕ, zero, suc, ◌+◌, ◌<◌, ◌≤◌, List, [], ◌∷◌, ◌++◌, length, set, refl, ◌||◌, ⊤}
 use Rattle.std.specs.List.{AllByRecursion, Contains, list_any}
-use Rattle.std.specs.List.Sorted.{IsPermutation}
 use Rattle.std.proofs.Common.{get_or, ap, ap₂, sym, ◌∙◌, subst, arith}
-use Rattle.std.proofs.lemmas.List.Sorted.{length_permutation}
-use Rattle.cells.specs.Fitting.{IsRowOf}
+use Rattle.aggs.specs.Room.{cell_limit}
 use Rattle.cells.specs.Values.{RowValue}
 use Rattle.cells.specs.declared.cell.Cell.{Cell}
 use Rattle.groups.specs.Accumulators.{aggregations_of}
-use Rattle.groups.specs.Bags.{CanFoldSet, Covers, Group}
+use Rattle.groups.specs.Bags.{Covers, Group}
 use Rattle.groups.specs.Folds.{FillsSources, Folds, FillsSource, MayFillSources, MayEnd, MayFillSource, MayTakeMore, kept_of}
 use Rattle.groups.specs.Groups.{kept}
-use Rattle.groups.specs.Partials.{MayFold, Stands, StandsEach, rows_of}
+use Rattle.groups.specs.Partials.{Stands, StandsEach, rows_of}
 use Rattle.groups.specs.Pools.{AreCounted, AreSources, HaveFiner, IsPool, has_all, has_finer, sets_of}
 use Rattle.groups.specs.declared.aggregation.Aggregation.{Aggregation}
 use Rattle.groups.specs.declared.folding.Folding.{Folding}
 use Rattle.groups.specs.declared.pool.SetBag.{SetBag}
 use Rattle.groups.specs.declared.visiting.KeptRows.{KeptRows}
-use Rattle.groups.proofs.BagLemmas.{all_in_order}
-use Rattle.groups.proofs.PlanLemmas.{CanFold, RowsFitColumns, can_fold}
 use Rattle.groups.proofs.TuplesLemmas.{all_at, all_through}
-use Rattle.groups.proofs.VisitingLemmas.{can_count_kept}
 use Rattle.query.specs.Plans.{PlanTree}
 
 -- ---- source by source
@@ -45,13 +40,6 @@ module _ {H : Type 0} (rows : KeptRows H) where
   pub gone_none : (old : List (SetBag H)) → GoneOn 0 old old
   gone_none [] = tt
   gone_none (o ∷ old) = (refl, gone_none old)
-
-  pub gone_length : (i : ℕ) (old new : List (SetBag H)) → GoneOn i old new → length new ≡ length old
-  gone_length i [] [] now = refl
-  gone_length i [] (n ∷ new) now = absurd now
-  gone_length i (o ∷ old) [] now = absurd now
-  gone_length zero (o ∷ old) (n ∷ new) now = ap suc (gone_length zero old new now.1)
-  gone_length (suc i) (o ∷ old) (n ∷ new) now = ap suc (gone_length i old new now.1)
 
   -- the next source is as it was
   pub gone_at : (i : ℕ) (old new : List (SetBag H)) (d : SetBag H) → GoneOn i old new → get_or new i d ≡ get_or old i d
@@ -104,20 +92,6 @@ module _ {H : Type 0} (rows : KeptRows H) where
       (subst (λ n. GoneOn n old (set now i g)) next (gone_more i old now g f h gone (subst (λ x. FillsSource rows x g) (is ∙ gone_at i old now f gone) goes)))
 
 -- ---- the sources of a plan
-pub may_fold_any_order : (plan : PlanTree) (xs ys : List RowValue) → IsPermutation xs ys → MayFold plan xs → MayFold plan ys
-may_fold_any_order plan xs ys p may = record {
-  table = may.table;
-  planned = may.planned;
-  fit = all_in_order (IsRowOf may.table) xs ys p may.fit;
-  few = omega (arith, may.few, length_permutation xs ys p);
-}
-
-can_by : (laws : RowsFitColumns) (plan : PlanTree) (rows : List RowValue) (columns : List ℕ) → MayFold plan rows → Contains plan.sets columns → CanFoldSet (aggregations_of plan.items) columns rows
-can_by laws plan rows columns may contains =
-    let can : CanFold plan (aggregations_of plan.items) rows = can_fold laws plan (aggregations_of plan.items) rows refl may in
-    subst (λ s. CanFoldSet (aggregations_of plan.items) s rows) contains.2
-    (all_at (λ s. CanFoldSet (aggregations_of plan.items) s rows) plan.sets contains.0 columns can.each contains.1)
-
 module _ {H : Type 0} where
   pub finer_by_sets : (set : List ℕ) (old new : List (SetBag H)) → sets_of new ≡ sets_of old → has_finer new set ≡ has_finer old set
   finer_by_sets set old new e = by_sets new ∙ ap (list_any (λ s. has_all s set)) e ∙ sym (by_sets old)
@@ -159,36 +133,20 @@ module _ {H : Type 0} where
           (subst (λ p. IsPool rows.aggregations.now (befores ++ kept p.condition (rows_of rows.piece.now)) new.sources.items) is_plan
           (all.serves befores (subst (λ a. IsPool a befores old.sources.items) (sym are) folds.covers)))
 
-  go_each : (rows : KeptRows H) (plan : PlanTree) (taken : List RowValue) → ((set : List ℕ) → Contains plan.sets set → CanFoldSet rows.aggregations.now set (taken ++ rows_of rows.piece.now)) →
-      (sources : List (SetBag H)) → AllByRecursion (Contains plan.sets) (sets_of sources) →
-      AllByRecursion (λ (f : SetBag H). Covers rows.aggregations.now f.set.items (kept rows.plan.now.condition taken) f.bag) sources → AllByRecursion (MayFillSource rows) sources
-  go_each rows plan taken can [] among covers = tt
-  go_each rows plan taken can (f ∷ sources) among covers = (
-    record { taken = taken; covers = covers.0; can = can f.set.items among.0 },
-    go_each rows plan taken can sources among.1 covers.1,
-  )
+  go_each : (rows : KeptRows H) (taken : List RowValue) → length taken + length (rows_of rows.piece.now) ≤ cell_limit → (sources : List (SetBag H)) →
+      AllByRecursion (λ (f : SetBag H). Covers rows.aggregations.now f.set.items taken f.bag) sources → AllByRecursion (MayFillSource rows) sources
+  go_each rows taken few [] covers = tt
+  go_each rows taken few (f ∷ sources) covers = (record { taken = taken; covers = covers.0; few = few }, go_each rows taken few sources covers.1)
 
-  pub may_fill_sources : (laws : RowsFitColumns) (folding : Folding H) (rows : KeptRows H) → rows.plan.now ≡ folding.plan.now → rows.aggregations.now ≡ folding.aggregations.items →
-      MayTakeMore folding (rows_of rows.piece.now) → MayFillSources rows folding.sources.items
-  may_fill_sources laws folding rows by with may =
-      let is_plan : rows.plan.now ≡ may.plan = by ∙ (may.folds).planned in
+  pub may_fill_sources : (folding : Folding H) (rows : KeptRows H) → rows.aggregations.now ≡ folding.aggregations.items → MayTakeMore folding (rows_of rows.piece.now) →
+      MayFillSources rows folding.sources.items
+  may_fill_sources folding rows with may =
       let are : rows.aggregations.now ≡ aggregations_of (may.plan).items = with ∙ (may.folds).aggregations in
-      record {
-        each = go_each rows may.plan may.taken
-            (λ s contains. rw are (can_by laws may.plan (may.taken ++ rows_of rows.piece.now) s may.may contains))
-            folding.sources.items (may.folds).among (rw (is_plan, are) ((may.folds).covers).each);
-      }
+      record { each = go_each rows may.taken may.few folding.sources.items (rw are ((may.folds).covers).each) }
 
-  pub end_counted : (laws : RowsFitColumns) (folding : Folding H) (aggregations : List Aggregation) → aggregations ≡ folding.aggregations.items → MayEnd folding →
-      AreCounted aggregations folding.sources.items
-  end_counted laws folding aggregations is may =
-      subst (λ a. AreCounted a folding.sources.items) (sym (is ∙ (may.folds).aggregations)) (record {
-        rows = kept (may.plan).condition may.taken;
-        covers = (may.folds).covers;
-        can = can_count_kept (may.plan).condition (aggregations_of (may.plan).items) (get_or (may.plan).sets 0 []) may.taken
-            (all_at (λ s. CanFoldSet (aggregations_of (may.plan).items) s may.taken) (may.plan).sets 0 []
-            (can_fold laws may.plan (aggregations_of (may.plan).items) may.taken refl may.may).each ((may.may).planned).some);
-      })
+  pub end_counted : (folding : Folding H) (aggregations : List Aggregation) → aggregations ≡ folding.aggregations.items → MayEnd folding → AreCounted aggregations folding.sources.items
+  end_counted folding aggregations is may =
+      subst (λ a. AreCounted a folding.sources.items) (sym (is ∙ (may.folds).aggregations)) (record { rows = may.taken; covers = (may.folds).covers; few = may.few })
 
   pub end_finer : (folding : Folding H) (sets : List (List ℕ)) → sets ≡ folding.plan.now.sets → MayEnd folding → HaveFiner folding.sources.items sets
   end_finer folding sets is may = rw (is, (may.folds).planned) (may.folds).finer

@@ -1,56 +1,26 @@
 -- Groups of two lists of rows put together.
-use Rattle.std.specs.Prelude.{◌≡◌, ℕ, zero, suc, ◌+◌, ◌≤◌, ◌⊎◌, Bool, true, false, List, [], ◌∷◌, ◌++◌, length, Option, Some, None, refl}
-use Rattle.std.specs.List.{AllByRecursion}
+use Rattle.std.specs.Prelude.{◌≡◌, ℕ, ◌+◌, ◌≤◌, ◌⊎◌, Bool, true, false, List, [], ◌∷◌, ◌++◌, length, Option, Some, None, refl}
 use Rattle.std.specs.List.Sorted.{IsPermutation}
 use Rattle.std.specs.Map.{keys_of}
-use Rattle.std.proofs.Common.{get_or, ap, sym, ◌∙◌, subst, arith, inl, inr}
-use Rattle.std.proofs.lemmas.List.{append_assoc, append-nil, length-map}
-use Rattle.aggs.specs.Accs.{acc_kind, acc_room}
+use Rattle.std.proofs.Common.{ap, sym, ◌∙◌, subst, arith, inl, inr}
+use Rattle.std.proofs.lemmas.List.{append_assoc, append-nil}
 use Rattle.aggs.specs.Room.{cell_limit}
 use Rattle.aggs.specs.declared.acc.Acc.{Acc}
-use Rattle.cells.specs.Fitting.{AreStored, IsRowOf, IsStored, cells_are_stored}
 use Rattle.cells.specs.TupleOrder.{tuple_cmp, tuple_eq}
-use Rattle.cells.specs.Values.{RowValue, Table}
+use Rattle.cells.specs.Values.{RowValue}
 use Rattle.cells.specs.declared.cell.Cell.{Cell}
-use Rattle.cells.specs.declared.cell.Cell.TheVariants.{Null}
 use Rattle.groups.specs.Accumulators.{AllFit, accs_of, accs_together, aggregations_of, both, group, group_or, is_start}
-use Rattle.groups.specs.Groups.{cell_at, column_of, members, tuple_of}
-use Rattle.groups.specs.Joining.{AreTogether, Joins, JoinsEach, MeetsAt}
-use Rattle.groups.specs.Laws.{all_kept, group_any_order, group_joins, kept_short}
+use Rattle.groups.specs.Groups.{members, tuple_of}
+use Rattle.groups.specs.Joining.{Joins, JoinsEach, MeetsAt}
+use Rattle.groups.specs.Laws.{group_any_order, group_joins, kept_short}
 use Rattle.groups.specs.Partials.{MayMeet, Stands, StandsAt, StandsEach}
 use Rattle.groups.specs.declared.aggregation.Aggregation.{Aggregation}
+use Rattle.groups.proofs.BagLemmas.{all_fit}
 use Rattle.groups.proofs.SetTuplesLemmas.{stands_short}
 use Rattle.query.specs.Plans.{PlanTree}
 use Rattle.trie.specs.Digits.{digit_order}
 use Rattle.trie.specs.Entries.{IsRising, value_at}
 use Rattle.trie.specs.Merging.{CanBlend, blended}
-
--- ---- rows of a table are stored
-stored_at : (cells : List Cell) (i : ℕ) → AreStored cells → IsStored (get_or cells i Null)
-stored_at [] i s = tt
-stored_at (c ∷ cells) zero s = s.0
-stored_at (c ∷ cells) (suc i) s = stored_at cells i s.1
-
-stored_column : (table : Table) (column : ℕ) (rows : List RowValue) → AllByRecursion (IsRowOf table) rows → AreStored (column_of column rows)
-stored_column table column [] fit = tt
-stored_column table column (r ∷ rows) fit = (
-  stored_at r.cells column (cells_are_stored r.cells table.columns (fit.0).cells),
-  stored_column table column rows fit.1,
-)
-
--- what rows of one table went into can be put together
-all_fit : (H : Type 0) (table : Table) (aggregations : List Aggregation) (xs ys : List RowValue) → AllByRecursion (IsRowOf table) xs →
-    AllByRecursion (IsRowOf table) ys → length xs + length ys ≤ cell_limit → AllFit (accs_of {H = H} aggregations xs) (accs_of aggregations ys)
-all_fit H table [] xs ys s t few = tt
-all_fit H table (a ∷ aggregations) xs ys s t few = (
-  acc_room H a.kind (column_of a.column xs) (column_of a.column ys) (record {
-    first = stored_column table a.column xs s;
-    second = stored_column table a.column ys t;
-    few = omega (arith, few, length-map xs (cell_at a.column), length-map ys (cell_at a.column));
-  }),
-  acc_kind H a.kind (column_of a.column xs) ∙ sym (acc_kind H a.kind (column_of a.column ys)),
-  all_fit H table aggregations xs ys s t few,
-)
 
 module _ {H : Type 0} where
   some_is : (aggregations : List Aggregation) (start : Bool) (rows : List RowValue) (a : List (Acc H)) → group_or aggregations start rows ≡ Some a →
@@ -71,19 +41,16 @@ module _ {H : Type 0} where
       can = λ q u v e f.
           let xs = members m.set q m.xs in
           let ys = members m.set q m.ys in
-          let both = m.rows in
           let p = some_is m.aggregations (is_start m.set q) xs u (sym (m.of_first.gives q) ∙ e) in
           let r = some_is m.aggregations (is_start m.set q) ys v (sym (m.of_second.gives q) ∙ f) in
           subst (λ w. AllFit w v) (sym p) (subst (AllFit (accs_of m.aggregations xs)) (sym r)
-          (all_fit H both.table m.aggregations xs ys (all_kept (IsRowOf both.table) (λ r. tuple_eq (tuple_of m.set r) q) m.xs both.first)
-          (all_kept (IsRowOf both.table) (λ r. tuple_eq (tuple_of m.set r) q) m.ys both.second)
-          (omega (arith, both.few, kept_short (λ r. tuple_eq (tuple_of m.set r) q) m.xs, kept_short (λ r. tuple_eq (tuple_of m.set r) q) m.ys))));
+          (all_fit H m.aggregations xs ys (omega (arith, m.few, kept_short (λ r. tuple_eq (tuple_of m.set r) q) m.xs, kept_short (λ r. tuple_eq (tuple_of m.set r) q) m.ys))));
     }
 
     pub meets_room : (first second : List (List Cell × List (Acc H))) → IsRising (digit_order hash tuple_cmp) (keys_of first) →
         IsRising (digit_order hash tuple_cmp) (keys_of second) → MeetsAt hash first second → length first + length second ≤ cell_limit + 2
     meets_room first second r s m =
-        omega (arith, (m.rows).few, stands_short hash m.aggregations m.set m.xs first r m.of_first, stands_short hash m.aggregations m.set m.ys second s m.of_second)
+        omega (arith, m.few, stands_short hash m.aggregations m.set m.xs first r m.of_first, stands_short hash m.aggregations m.set m.ys second s m.of_second)
 
     stands_joined : (aggregations : List Aggregation) (set : List ℕ) (xs ys : List RowValue) (a b c : List (List Cell × List (Acc H))) →
         StandsAt hash aggregations set xs a → StandsAt hash aggregations set ys b → Joins hash a b c → StandsAt hash aggregations set (xs ++ ys) c
@@ -134,7 +101,7 @@ module _ {H : Type 0} where
       pub sets : List (List ℕ)
       pub xs : List RowValue
       pub ys : List RowValue
-      pub rows : AreTogether xs ys
+      pub few : length xs + length ys ≤ cell_limit
       pub of_firsts : StandsEach hash aggregations sets xs firsts
       pub of_seconds : StandsEach hash aggregations sets ys seconds
 
@@ -153,7 +120,7 @@ module _ {H : Type 0} where
             sets = may.plan.sets;
             xs = may.xs;
             ys = may.ys;
-            rows = record { table = may.rows.table; first = may.rows.first; second = may.rows.second; few = may.rows.few };
+            few = may.few;
             of_firsts = may.firsts.each;
             of_seconds = may.seconds.each;
           };
@@ -165,8 +132,8 @@ module _ {H : Type 0} where
           MeetsAt hash x y × Meets more later
       meets_each [] s t = absurd s
       meets_each (c ∷ sets) s t = (
-        record { aggregations = m.aggregations; set = c; xs = m.xs; ys = m.ys; rows = m.rows; of_first = s.0; of_second = t.0 },
-        record { aggregations = m.aggregations; sets = sets; xs = m.xs; ys = m.ys; rows = m.rows; of_firsts = s.1; of_seconds = t.1 },
+        record { aggregations = m.aggregations; set = c; xs = m.xs; ys = m.ys; few = m.few; of_first = s.0; of_second = t.0 },
+        record { aggregations = m.aggregations; sets = sets; xs = m.xs; ys = m.ys; few = m.few; of_firsts = s.1; of_seconds = t.1 },
       )
 
     module _ {firsts seconds made xs ys : List (List (List Cell × List (Acc H)))} (now : JoiningTries firsts seconds made xs ys) where

@@ -3,28 +3,24 @@ use Rattle.std.specs.Prelude.{◌≡◌, ◌==◌, ℕ, ◌+◌, ◌<◌, ◌≤
 use Rattle.std.specs.FinMap as map
 use Rattle.std.specs.Prelude.{is_some}
 use Rattle.std.specs.FinMap.{IsAntisymmetric}
-use Rattle.std.specs.List.{AllByRecursion}
 use Rattle.std.specs.Ordering.{is_eq, is_lt}
 use Rattle.std.specs.declared.cmp.Ordering.{Ordering}
 use Rattle.std.proofs.Common.{eqb-true, get_or, ap, sym, ◌∙◌, subst, arith}
-use Rattle.std.proofs.lemmas.List.{drop_more, length-append, length-map, length-take, take_all, take_more, take-append-drop}
+use Rattle.std.proofs.lemmas.List.{drop_more, length-append, length-take, take_more, take-append-drop}
 use Rattle.std.proofs.lemmas.List.Sorted.{length_permutation}
-use Rattle.aggs.specs.Accs.{acc_kind, acc_room}
-use Rattle.aggs.specs.Room.{cell_limit}
 use Rattle.aggs.specs.declared.acc.Acc.{Acc}
 use Rattle.cells.specs.SameKeys.{exact_tuples, same_tuples}
 use Rattle.cells.specs.TupleOrder.{tuple_cmp, tuple_cmp-total, tuple_eq}
 use Rattle.cells.specs.Values.{RowValue}
 use Rattle.cells.specs.declared.cell.Cell.{Cell}
 use Rattle.groups.specs.Accumulators.{AllFit, accs_of, both, group, group_or, is_start, no_rows}
-use Rattle.groups.specs.Bags.{AreParts, Covers, FitsRow, Group, IsCounted, IsPart, joined}
-use Rattle.groups.specs.Groups.{cell_at, column_of, members, tuple_of}
-use Rattle.groups.specs.Laws.{all_kept, kept_short}
+use Rattle.groups.specs.Bags.{AreParts, Covers, Group, IsCounted, IsPart, joined}
+use Rattle.groups.specs.Groups.{members, tuple_of}
+use Rattle.groups.specs.Laws.{kept_short}
 use Rattle.groups.specs.Laying.{AreLaidOnce, CanMeet, IsLaid, Lays, found, given, met_from}
 use Rattle.groups.specs.Partials.{StandsAt}
 use Rattle.groups.specs.declared.aggregation.Aggregation.{Aggregation}
-use Rattle.groups.proofs.BagLemmas.{all_in_order, covers_none, met_covers, met_joined, stored_column}
-use Rattle.groups.proofs.TuplesLemmas.{all_both, all_first, all_second}
+use Rattle.groups.proofs.BagLemmas.{all_fit, covers_none, met_covers, met_joined}
 use Rattle.trie.specs.Digits.{digit_order}
 use Rattle.trie.specs.Entries.{with_pair, with_pairs}
 use Rattle.trie.specs.Maps.{map_of}
@@ -46,25 +42,6 @@ pub record AreMaps (H : Type 0) (hash : List Cell → ℕ) : Type 0 where
   pub value : (es : List (Group H)) (t : List Cell) → map.get (map_of tuple_cmp es) t ≡ found hash es t
   pub put : (es : List (Group H)) (t : List Cell) (accs : List (Acc H)) → IsAntisymmetric tuple_cmp →
       map_of tuple_cmp (with_pair (digit_order hash tuple_cmp) t accs es) ≡ map.insert (map_of tuple_cmp es) t accs
-
--- ---- what rows went into can be put together
-module _ (H : Type 0) where
-  all_fit_by : (all : List Aggregation) (xs ys : List RowValue) → AllByRecursion (FitsRow all) xs → AllByRecursion (FitsRow all) ys →
-      length xs + length ys ≤ cell_limit → (aggregations : List Aggregation) → AllFit (accs_of {H = H} aggregations xs) (accs_of aggregations ys)
-  all_fit_by all xs ys s t few [] = tt
-  all_fit_by all xs ys s t few (a ∷ aggregations) = (
-    acc_room H a.kind (column_of a.column xs) (column_of a.column ys) (record {
-      first = stored_column all a.column xs s;
-      second = stored_column all a.column ys t;
-      few = omega (arith, few, length-map xs (cell_at a.column), length-map ys (cell_at a.column));
-    }),
-    acc_kind H a.kind (column_of a.column xs) ∙ sym (acc_kind H a.kind (column_of a.column ys)),
-    all_fit_by all xs ys s t few aggregations,
-  )
-
-  pub all_fit : (aggregations : List Aggregation) (xs ys : List RowValue) → AllByRecursion (FitsRow aggregations) xs → AllByRecursion (FitsRow aggregations) ys →
-      length xs + length ys ≤ cell_limit → AllFit (accs_of {H = H} aggregations xs) (accs_of aggregations ys)
-  all_fit aggregations xs ys s t few = all_fit_by aggregations xs ys s t few aggregations
 
 module _ {H : Type 0} where
   pub both_none : (o : Option (List (Acc H))) → both o None ≡ o
@@ -146,46 +123,32 @@ module _ {H : Type 0} where
         t ≡ g.0 → a ≡ g.1 → IfSome (found hash old t) (λ o. AllFit o a)
     fits_copy old t a now can p q = subst (λ u. IfSome (found hash old u) (λ o. AllFit o a)) (sym p) (subst (λ b. IfSome (found hash old g.0) (λ o. AllFit o b)) (sym q) (fits_next old now can))
 
-    pub room_next : (old : List (Group H)) → IsLaid hash aggregations columns (take i groups) old → length old ≤ i + 1
-    room_next old now = omega (arith, now.short, length-take i groups)
-
-  pub laid_all : {hash : List Cell → ℕ} {aggregations : List Aggregation} {columns : List ℕ} {groups old : List (Group H)} {i : ℕ} →
-      IsLaid hash aggregations columns (take i groups) old → length groups ≤ i → IsLaid hash aggregations columns groups old
-  laid_all {hash} {aggregations} {columns} {groups} {old} {i} now h =
-      subst (λ l. IsLaid hash aggregations columns l old) (take_all i groups h) now
-
   module _ (aggregations : List Aggregation) (columns : List ℕ) where
     record IsSplit (before : List (Group H)) (g : Group H) (parts : List (List RowValue)) : Type 0 where
       firsts : List (List RowValue)
       part : List RowValue
       are : AreParts aggregations columns before firsts
       is : IsPart aggregations columns g part
-      fit : AllByRecursion (FitsRow aggregations) (joined firsts)
-      fits : AllByRecursion (FitsRow aggregations) part
       short : length (joined firsts) + length part ≤ length (joined parts)
 
     split_at : (before after : List (Group H)) (g : Group H) (parts : List (List RowValue)) →
-        AreParts aggregations columns (before ++ g ∷ after) parts → AllByRecursion (FitsRow aggregations) (joined parts) → IsSplit before g parts
-    split_at [] after g [] are all = absurd are
-    split_at [] after g (p ∷ parts) are all = record {
+        AreParts aggregations columns (before ++ g ∷ after) parts → IsSplit before g parts
+    split_at [] after g [] are = absurd are
+    split_at [] after g (p ∷ parts) are = record {
       firsts = [];
       part = p;
       are = tt;
       is = are.0;
-      fit = tt;
-      fits = all_first _ p (joined parts) all;
       short = omega (arith, length-append p (joined parts));
     }
-    split_at (b ∷ before) after g [] are all = absurd are
-    split_at (b ∷ before) after g (p ∷ parts) are all =
-        let rest = split_at before after g parts are.1 (all_second _ p (joined parts) all) in
+    split_at (b ∷ before) after g [] are = absurd are
+    split_at (b ∷ before) after g (p ∷ parts) are =
+        let rest = split_at before after g parts are.1 in
         record {
           firsts = p ∷ rest.firsts;
           part = rest.part;
           are = (are.0, rest.are);
           is = rest.is;
-          fit = all_both _ p (joined rest.firsts) (all_first _ p (joined parts) all) rest.fit;
-          fits = rest.fits;
           short = omega (arith, rest.short, length-append p (joined parts), length-append p (joined rest.firsts));
         }
 
@@ -200,14 +163,13 @@ module _ {H : Type 0} where
     pub can_meet : (groups : List (Group H)) → IsCounted aggregations columns groups → CanMeet aggregations columns groups
     can_meet groups counted = let covers = counted.covers in record {
       fit = λ before after g e.
-          let split = split_at before after g covers.parts (subst (λ gs. AreParts aggregations columns gs covers.parts) e covers.each)
-          (all_in_order _ counted.rows (joined covers.parts) covers.all (counted.can).each) in
+          let split = split_at before after g covers.parts (subst (λ gs. AreParts aggregations columns gs covers.parts) e covers.each) in
           let ms = members columns g.0 (joined split.firsts) in
           let test : RowValue → Bool = λ r. tuple_eq (tuple_of columns r) g.0 in
           subst (λ o. IfSome o (λ old. AllFit old g.1)) (sym (met_joined aggregations columns before split.firsts [] g.0 split.are))
           (fits_group (is_start columns g.0) ms g.1 (subst (AllFit (accs_of aggregations ms)) (sym split.is.accs)
-          (all_fit H aggregations ms split.part (all_kept _ test (joined split.firsts) split.fit) split.fits
-          (omega (arith, kept_short test (joined split.firsts), split.short, (counted.can).few, length_permutation counted.rows (joined covers.parts) covers.all)))));
+          (all_fit H aggregations ms split.part
+          (omega (arith, kept_short test (joined split.firsts), split.short, counted.few, length_permutation counted.rows (joined covers.parts) covers.all)))));
     }
 
     pub stands : (hash : List Cell → ℕ) (rows : List RowValue) (groups entries : List (Group H)) → Covers aggregations columns rows groups →

@@ -15,7 +15,6 @@ pub mod DifferingLemmas
 pub mod ColumnarLemmas
 pub mod RangesLemmas
 pub mod KeepingLemmas
-pub mod PlanLemmas
 pub mod PoolLemmas
 pub mod ReportLemmas
 pub mod SetTuplesLemmas

@@ -1,30 +1,24 @@
 -- The sources of two foldings put together.
-use Rattle.std.specs.Prelude.{◌≡◌, ◌<◌, sum_by, true, List, [], ◌∷◌, ◌++◌, refl}
+use Rattle.std.specs.Prelude.{◌≡◌, ◌+◌, ◌≤◌, sum_by, true, List, [], ◌∷◌, ◌++◌, refl}
 use Rattle.std.specs.List.{AllByRecursion, AllZip, Contains}
 use Rattle.std.specs.List.Sorted.{IsPermutation}
-use Rattle.std.proofs.Common.{ℕ, length, ap₂, sym, ◌∙◌, subst, get_or, arith}
+use Rattle.std.proofs.Common.{ℕ, length, ap₂, sym, ◌∙◌, subst, arith}
 use Rattle.std.proofs.lemmas.List.{append_assoc, append-nil, length-append, nil_from_length}
 use Rattle.std.proofs.lemmas.List.Sums.{sum_by-cons}
 use Rattle.std.proofs.lemmas.List.Concat.{flat_map-append}
 use Rattle.std.proofs.lemmas.List.Sorted.{IsPermutation-append_left, IsPermutation-append_right, IsPermutation-trans, length_permutation}
+use Rattle.aggs.specs.Room.{cell_limit}
 use Rattle.cells.specs.Values.{RowValue}
 use Rattle.groups.specs.Accumulators.{aggregations_of}
-use Rattle.groups.specs.Bags.{AreParts, CanCount, CanFoldSet, Covers, Group, joined}
+use Rattle.groups.specs.Bags.{AreParts, Covers, Group, joined}
 use Rattle.groups.specs.Folds.{Folds, MayJoin, MayTakeOthers, TakesOthers, group_count}
-use Rattle.groups.specs.Groups.{kept}
-use Rattle.groups.specs.Laws.{kept_join}
 use Rattle.groups.specs.Pools.{HaveFiner, IsPool, MayCoarsen, MayCoarsenAll, has_finer, sets_of}
 use Rattle.groups.specs.declared.aggregation.Aggregation.{Aggregation}
 use Rattle.groups.specs.declared.folding.Folding.{Folding}
 use Rattle.groups.specs.declared.pool.SetBag.{SetBag}
 use Rattle.groups.proofs.FoldsLemmas.{finer_by_sets}
-use Rattle.groups.proofs.PlanLemmas.{RowsFitColumns, can_fold}
-use Rattle.groups.proofs.TuplesLemmas.{all_at, all_second, all_through}
-use Rattle.groups.proofs.VisitingLemmas.{can_count_kept}
+use Rattle.groups.proofs.TuplesLemmas.{all_at, all_through}
 use Rattle.query.specs.Plans.{PlanTree}
-
-can_second : (aggregations : List Aggregation) (rows more : List RowValue) → CanCount aggregations (rows ++ more) → CanCount aggregations more
-can_second aggregations rows more can = record { each = all_second _ rows more can.each; few = omega (arith, can.few, length-append rows more) }
 
 module _ {H : Type 0} where
   parts_both : (aggregations : List Aggregation) (columns : List ℕ) (first second : List (Group H)) (ps qs : List (List RowValue)) → AreParts aggregations columns first ps →
@@ -48,7 +42,7 @@ module _ {H : Type 0} where
     pub others_coarsen : MayCoarsenAll others
     others_coarsen = record {
       aggregations = may.aggregations;
-      counted = record { rows = may.more; covers = may.pool; can = can_second may.aggregations may.rows may.more may.can };
+      counted = record { rows = may.more; covers = may.pool; few = omega (arith, may.few) };
     }
 
     pub both_coarsen : (both : SetBag H) (more : List (Group H)) → both.set.items ≡ source.set.items → both.bag ≡ source.bag ++ more →
@@ -58,7 +52,7 @@ module _ {H : Type 0} where
       counted = record {
         rows = may.rows ++ may.more;
         covers = rw (same, is) (covers_both may.aggregations source.set.items may.rows may.more source.bag more may.covers (made may.aggregations may.more may.pool));
-        can = may.can;
+        few = omega (arith, may.few, length-append may.rows may.more);
       };
     }
 
@@ -112,32 +106,27 @@ module _ {H : Type 0} where
       sets = zip_sets others first.sources.items new.sources.items zip
 
   join_each : (aggregations : List Aggregation) (rows more : List RowValue) (sets : List (List ℕ)) (others : List (SetBag H)) → IsPool aggregations more others → HaveFiner others sets →
-      CanCount aggregations (rows ++ more) → (sources : List (SetBag H)) → AllByRecursion (Contains sets) (sets_of sources) →
+      length rows + length more ≤ cell_limit → (sources : List (SetBag H)) → AllByRecursion (Contains sets) (sets_of sources) →
       AllByRecursion (λ (f : SetBag H). Covers aggregations f.set.items rows f.bag) sources → AllByRecursion (MayTakeOthers others) sources
-  join_each aggregations rows more sets others pool finer can [] among covers = tt
-  join_each aggregations rows more sets others pool finer can (f ∷ sources) among covers = (
+  join_each aggregations rows more sets others pool finer few [] among covers = tt
+  join_each aggregations rows more sets others pool finer few (f ∷ sources) among covers = (
     record {
       aggregations = aggregations;
       rows = rows;
       more = more;
       covers = covers.0;
       pool = pool;
-      can = can;
+      few = few;
       finer = subst (λ s. has_finer others s ≡ true) (among.0).2 (all_at (λ s. has_finer others s ≡ true) sets (among.0).0 f.set.items finer (among.0).1);
     },
-    join_each aggregations rows more sets others pool finer can sources among.1 covers.1,
+    join_each aggregations rows more sets others pool finer few sources among.1 covers.1,
   )
 
-  pub may_take_others : (laws : RowsFitColumns) (first second : Folding H) (others : List (SetBag H)) → others ≡ second.sources.items → MayJoin first second →
+  pub may_take_others : (first second : Folding H) (others : List (SetBag H)) → others ≡ second.sources.items → MayJoin first second →
       AllByRecursion (MayTakeOthers others) first.sources.items
-  may_take_others laws first second others are may =
-      let plan = may.plan in
-      let aggregations = aggregations_of plan.items in
-      let can = can_count_kept plan.condition aggregations (get_or plan.sets 0 []) (may.rows ++ may.more)
-      (all_at (λ s. CanFoldSet aggregations s (may.rows ++ may.more)) plan.sets 0 []
-      (can_fold laws plan aggregations (may.rows ++ may.more) refl may.may).each ((may.may).planned).some) in
-      join_each aggregations (kept plan.condition may.rows) (kept plan.condition may.more) plan.sets others (rw are (may.seconds).covers) (rw are (may.seconds).finer)
-      (subst (CanCount aggregations) (kept_join plan.condition may.rows may.more) can) first.sources.items (may.firsts).among ((may.firsts).covers).each
+  may_take_others first second others are may =
+      join_each (aggregations_of (may.plan).items) may.rows may.more (may.plan).sets others (rw are (may.seconds).covers) (rw are (may.seconds).finer) may.few
+      first.sources.items (may.firsts).among ((may.firsts).covers).each
 
   -- ---- a folding of no rows
 
@@ -147,19 +136,25 @@ module _ {H : Type 0} where
   covers_nothing aggregations columns rows [] (p ∷ parts) none are moved = absurd are
   covers_nothing aggregations columns rows (g ∷ groups) parts none are moved = absurd (cc)
 
-  no_rows_in : (aggregations : List Aggregation) (rows : List RowValue) (sets : List (List ℕ)) (sources : List (SetBag H)) → 0 < length sets → HaveFiner sources sets →
-      IsPool aggregations rows sources → sum_by (λ s. length s.bag) sources ≡ 0 → rows ≡ []
-  no_rows_in aggregations rows [] sources some finer pool none = absurd (omega (arith, some))
-  no_rows_in aggregations rows (set ∷ sets) [] some finer pool none = absurd (let never = finer.0 in cc)
-  no_rows_in aggregations rows (set ∷ sets) (f ∷ sources) some finer pool none =
+  -- where there is a set, there are sources: they have groups, or no rows went in
+  no_rows_in : (aggregations : List Aggregation) (rows more : List RowValue) (sets : List (List ℕ)) (sources others : List (SetBag H)) → HaveFiner sources sets →
+      AllByRecursion (Contains sets) (sets_of others) → IsPool aggregations rows sources → sum_by (λ s. length s.bag) sources ≡ 0 → IsPool aggregations more others →
+      IsPool aggregations (rows ++ more) others
+  no_rows_in aggregations rows more [] sources [] finer among pool none pooled = record { each = tt }
+  no_rows_in aggregations rows more [] sources (o ∷ others) finer among pool none pooled = absurd (omega (arith, (among.0).1))
+  no_rows_in aggregations rows more (set ∷ sets) [] others finer among pool none pooled = absurd (let never = finer.0 in cc)
+  no_rows_in aggregations rows more (set ∷ sets) (f ∷ sources) others finer among pool none pooled =
       let empty : f.bag ≡ [] = nil_from_length f.bag (omega (arith, none, sum_by-cons (λ (s : SetBag H). length s.bag) f sources)) in
       let covers = (pool.each).0 in
-      covers_nothing aggregations f.set.items rows f.bag covers.parts empty covers.each covers.all
+      let nothing : rows ≡ [] = covers_nothing aggregations f.set.items rows f.bag covers.parts empty covers.each covers.all in
+      rw nothing pooled
 
-  pub joins_nothing : (first second : Folding H) → MayJoin first second → group_count first ≡ 0 → (plan : PlanTree) (rows more : List RowValue) → Folds plan rows first → Folds plan more second →
+  pub joins_nothing : (first second : Folding H) → group_count first ≡ 0 → (plan : PlanTree) (rows more : List RowValue) → Folds plan rows first → Folds plan more second →
       Folds plan (rows ++ more) second
-  joins_nothing first second may none plan rows more one two =
-      let same : may.plan ≡ plan = sym (may.firsts).planned ∙ one.planned in
-      let some : 0 < length plan.sets = subst (λ (p : PlanTree). 0 < length p.sets) same ((may.may).planned).some in
-      let nothing = no_rows_in (aggregations_of plan.items) rows plan.sets first.sources.items some one.finer one.covers none in
-      rw nothing two
+  joins_nothing first second none plan rows more one two = record {
+    planned = two.planned;
+    aggregations = two.aggregations;
+    finer = two.finer;
+    among = two.among;
+    covers = no_rows_in (aggregations_of plan.items) rows more plan.sets first.sources.items second.sources.items one.finer two.among one.covers none two.covers;
+  }

@@ -28,9 +28,6 @@ module _ {X Y : Type 0} where
       ap₂ (λ (h : List Cell) (t : List (List Cell)). h ∷ t) (ap₂ (λ (l : List Cell) (c : Cell). l ++ c ∷ []) first second) rest
 
 -- ---- one group
-pub one_of_none : (rows : List RowValue) → length rows ≡ 0 → AreNumbered [] rows [] []
-one_of_none [] e = record { within = tt; stand = refl; met = λ n h. absurd (omega (arith, h)) }
-one_of_none (r ∷ rows) e = absurd (omega (arith, e))
 
 all_first : (count : ℕ) → AllByRecursion (λ n. n < 1) (replicate count 0)
 all_first zero = tt

@@ -1,15 +1,12 @@
 -- Parts, and the rows that are of them.
-use Rattle.std.specs.Prelude.{◌≡◌, ℕ, zero, suc, ◌+◌, ◌<◌, ◌≤◌, ◌⊎◌, List, [], ◌∷◌, ◌++◌, length, map, take, refl}
+use Rattle.std.specs.Prelude.{◌≡◌, ℕ, zero, suc, ◌+◌, ◌<◌, ◌⊎◌, List, [], ◌∷◌, ◌++◌, length, map, take, refl}
 use Rattle.std.specs.List.{AllByRecursion, Contains}
 use Rattle.std.proofs.Common.{get_or, ap, ap₂, sym, ◌∙◌, subst, arith, inl, inr}
-use Rattle.std.proofs.lemmas.List.{length-append, length-map, map-append, take_all, take_more}
+use Rattle.std.proofs.lemmas.List.{length-append, length-map, map-append, take_more}
 use Rattle.std.proofs.lemmas.List.Elements.{Contains-append_left, Contains-append_right}
 use Rattle.groups.specs.Parting.{AreParted, IsNumbered, codes_at, no_part}
 use Rattle.groups.specs.declared.parting.Part.{Part}
 use Rattle.groups.proofs.TuplesLemmas.{all_push, all_through}
-
-pub parted_none : AreParted [] [] [] []
-parted_none = record { within = tt; of_groups = refl; of_codes = refl; met = λ n h. absurd (omega (arith, h)); few = omega arith }
 
 -- a number that is among the first ones gives what it gave
 part_before : (parts more : List Part) (n : ℕ) → n < length parts → get_or (parts ++ more) n no_part ≡ get_or parts n no_part
@@ -91,7 +88,3 @@ parted_next groups rows codes numbers added parts new i group row code n h k at 
     code_read [] i h = absurd (omega (arith, h))
     code_read (r ∷ rows) zero h = refl
     code_read (r ∷ rows) (suc i) h = code_read rows i (omega (arith, h))
-
-pub parted_all : (groups codes numbers : List ℕ) (parts : List Part) (i : ℕ) → length groups ≤ i → length codes ≤ i → AreParted (take i groups) (take i codes) numbers parts →
-    AreParted groups codes numbers parts
-parted_all groups codes numbers parts i h k now = subst (λ l. AreParted l codes numbers parts) (take_all i groups h) (subst (λ l. AreParted (take i groups) l numbers parts) (take_all i codes k) now)

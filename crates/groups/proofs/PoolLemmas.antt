@@ -1,19 +1,18 @@
 -- Pools of groups, and partial results set by set.
 use Rattle.std.specs.Prelude.{◌≡◌, ◌==◌, ℕ, ◌+◌, ◌<◌, ◌≤◌, Bool, true, false, List, [], ◌∷◌, ◌++◌, length, nat_eq, nat_lt, ◌&&◌, take, Some, refl, slice_index_or}
 use Rattle.std.specs.Cmp.Lexicographic.{pointwise}
-use Rattle.std.specs.List.{AllByRecursion}
 use Rattle.std.proofs.Common.{eqb-true, get_or, ap, ap₂, arith, sym, ◌∙◌, subst}
 use Rattle.std.proofs.lemmas.Bool.{ltb-false, ltb-true}
 use Rattle.std.proofs.lemmas.List.{map-append, take_all, take_more}
 use Rattle.std.proofs.lemmas.List.Quantifiers.{position-Some}
 use Rattle.cells.specs.Values.{RowValue}
 use Rattle.cells.specs.declared.cell.Cell.{Cell}
-use Rattle.groups.specs.Coarsening.{ArePlaces, CanCoarsen}
-use Rattle.groups.specs.Bags.{Covers, Group, IsCounted}
+use Rattle.groups.specs.Coarsening.{ArePlaces}
+use Rattle.groups.specs.Bags.{Covers, Group}
 use Rattle.groups.specs.Groups.{place_in}
 use Rattle.groups.specs.Laying.{IsLaid}
 use Rattle.groups.specs.Partials.{StandsAt, StandsEach}
-use Rattle.groups.specs.Pools.{AreCounted, Grows, HaveFiner, HaveSetsAbove, HaveSetsOf, IsPool, MayCoarsen, MayCoarsenAll, has_finer, has_set}
+use Rattle.groups.specs.Pools.{AreCounted, Grows, HaveFiner, HaveSetsAbove, HaveSetsOf, IsPool, MayCoarsenAll, has_finer, has_set}
 use Rattle.groups.specs.declared.aggregation.Aggregation.{Aggregation}
 use Rattle.groups.specs.declared.pool.SetBag.{SetBag}
 use Rattle.groups.proofs.LayingLemmas.{start_stands}
@@ -21,8 +20,6 @@ use Rattle.groups.proofs.SourcesLemmas.{finer_stays, set_here, set_stays}
 use Rattle.groups.proofs.TuplesLemmas.{all_at, all_push, all_through}
 
 -- ---- places of columns
-pub places_none : (finer places : List ℕ) → places ≡ [] → ArePlaces finer [] places
-places_none finer places e = subst (ArePlaces finer []) (sym e) (record { within = tt; are = refl })
 
 pub places_more : (finer columns places new : List ℕ) (i place : ℕ) → i < length columns → ArePlaces finer (take i columns) places →
     place_in finer (get_or columns i 0) ≡ Some place → new ≡ places ++ place ∷ [] → ArePlaces finer (take (i + 1) columns) new
@@ -34,14 +31,8 @@ places_more finer columns places new i place h now e f =
           ∙ sym (take_more columns i 0 h);
     })
 
-pub places_all : (finer columns places : List ℕ) (i : ℕ) → length columns ≤ i → ArePlaces finer (take i columns) places → ArePlaces finer columns places
-places_all finer columns places i h now = subst (λ cs. ArePlaces finer cs places) (take_all i columns h) now
-
 -- ---- the pool
 module _ {H : Type 0} where
-  pub pool_none : (aggregations : List Aggregation) (rows : List RowValue) (pool : List (SetBag H)) → pool ≡ [] → IsPool aggregations rows pool
-  pool_none aggregations rows pool e = subst (IsPool aggregations rows) (sym e) (record { each = tt })
-
   pub pool_more : (aggregations : List Aggregation) (rows : List RowValue) (pool new : List (SetBag H)) (f : SetBag H) → IsPool aggregations rows pool →
       Covers aggregations f.set.items rows f.bag → new ≡ pool ++ f ∷ [] → IsPool aggregations rows new
   pool_more aggregations rows pool new f now covers e = subst (IsPool aggregations rows) (sym e) (record { each = all_push _ pool f now.each covers })
@@ -50,20 +41,6 @@ module _ {H : Type 0} where
       f ≡ get_or pool i f → Covers aggregations f.set.items rows f.bag
   pool_at aggregations rows pool i f now h is = subst (λ (g : SetBag H). Covers aggregations g.set.items rows g.bag) (sym is)
       (all_at (λ (g : SetBag H). Covers aggregations g.set.items rows g.bag) pool i f now.each h)
-
-  pub counted_at : (aggregations : List Aggregation) (pool : List (SetBag H)) (set : List ℕ) (groups : List (Group H)) → (counted : AreCounted aggregations pool) →
-      ((rows : List RowValue) → IsPool aggregations rows pool → Covers aggregations set rows groups) → IsCounted aggregations set groups
-  counted_at aggregations pool set groups counted covers = record { rows = counted.rows; covers = covers counted.rows counted.covers; can = counted.can }
-
-  pub may_coarsen_at : (pool : List (SetBag H)) (i : ℕ) (f : SetBag H) → MayCoarsenAll pool → i < length pool → f ≡ get_or pool i f → MayCoarsen f
-  may_coarsen_at pool i f may h is = record {
-    aggregations = may.aggregations;
-    counted = counted_at may.aggregations pool f.set.items f.bag may.counted (λ rows now. pool_at may.aggregations rows pool i f now h is);
-  }
-
-  pub can_coarsen : (aggregations : List Aggregation) (finer set places : List ℕ) (groups : List (Group H)) → ArePlaces finer set places → IsCounted aggregations finer groups →
-      CanCoarsen places groups
-  can_coarsen aggregations finer set places groups are counted = record { aggregations = aggregations; columns = finer; within = are.within; counted = counted }
 
 -- ---- a pool that grows
 module _ {H : Type 0} where
@@ -94,7 +71,7 @@ module _ {H : Type 0} where
   set_pushed old new set f is e = rw e (subst (λ s. has_set (old ++ f ∷ []) s ≡ true) is (set_here old f))
 
   pub grown_counted : (aggregations : List Aggregation) (old new : List (SetBag H)) → Grows old new → AreCounted aggregations old → AreCounted aggregations new
-  grown_counted aggregations old new grows counted = record { rows = counted.rows; covers = grows.covers aggregations counted.rows counted.covers; can = counted.can }
+  grown_counted aggregations old new grows counted = record { rows = counted.rows; covers = grows.covers aggregations counted.rows counted.covers; few = counted.few }
 
   pub grown_may : (old new : List (SetBag H)) → Grows old new → MayCoarsenAll old → MayCoarsenAll new
   grown_may old new grows may = record { aggregations = may.aggregations; counted = grown_counted may.aggregations old new grows may.counted }
@@ -114,9 +91,6 @@ module _ {H : Type 0} (sets : List (List ℕ)) (columns : ℕ) where
     pub grows : Grows old new
     pub there : HaveSetsOf columns new (take i sets)
 
-  pub adds_to_none : (old new : List (SetBag H)) → new ≡ old → AddsTo 0 old new
-  adds_to_none old new e = record { grows = grows_not old new e; there = tt }
-
   pub adds_to_more : (its : List (List ℕ)) (i : ℕ) (s : List ℕ) (old mid new : List (SetBag H)) → its ≡ sets → i < length its → s ≡ get_or its i s → Grows mid new →
       (length s ≡ columns → has_set new s ≡ true) → AddsTo i old mid → AddsTo (i + 1) old new
   adds_to_more its i s old mid new same h is grows here now =
@@ -128,19 +102,10 @@ module _ {H : Type 0} (sets : List (List ℕ)) (columns : ℕ) where
             (all_push _ (take i sets) s (all_through _ _ (λ x f many. grows.stay x (f many)) (take i sets) now.there) here);
       }
 
-  pub adds_to_all : (i : ℕ) (old new : List (SetBag H)) → length sets ≤ i → AddsTo i old new → HaveSetsOf columns new sets
-  adds_to_all i old new h now = subst (HaveSetsOf columns new) (take_all i sets h) now.there
-
   -- those of more columns, in a pool that has grown
   pub record GrownTo (old new : List (SetBag H)) : Type 0 where
     pub grows : Grows old new
     pub there : HaveSetsAbove columns new sets
-
-  pub grown_none : (old new : List (SetBag H)) → new ≡ old → AllByRecursion (λ (s : List ℕ). length s ≤ columns) sets → GrownTo old new
-  grown_none old new e few = record {
-    grows = grows_not old new e;
-    there = all_through _ _ (λ s less more. absurd (omega (arith, less, more))) sets few;
-  }
 
 module _ {H : Type 0} where
   both_there : (columns less : ℕ) (mid new : List (SetBag H)) (sets : List (List ℕ)) → columns ≡ less + 1 → Grows mid new → HaveSetsAbove columns mid sets →
@@ -171,9 +136,6 @@ module _ {H : Type 0} (hash : List Cell → ℕ) (aggregations : List Aggregatio
   pub record StandsTo (sets : List (List ℕ)) (i : ℕ) (tries : List (List (Group H))) : Type 0 where
     pub each : StandsEach hash aggregations (take i sets) rows tries
 
-  pub stands_none : (sets : List (List ℕ)) (tries : List (List (Group H))) → tries ≡ [] → StandsTo sets 0 tries
-  stands_none sets tries e = subst (StandsTo sets 0) (sym e) (record { each = tt })
-
   pub stands_more : (sets : List (List ℕ)) (i : ℕ) (s : List ℕ) (tries new : List (List (Group H))) (t : List (Group H)) →
       i < length sets → s ≡ get_or sets i s → StandsTo sets i tries → StandsAt hash aggregations s rows t → new ≡ tries ++ t ∷ [] → StandsTo sets (i + 1) new
   stands_more sets i s tries new t h is now one e = record {
@@ -195,9 +157,6 @@ module _ {H : Type 0} (hash : List Cell → ℕ) (aggregations : List Aggregatio
   -- for whatever rows went into the pool
   pub record StandsFor (sets : List (List ℕ)) (i : ℕ) (tries : List (List (Group H))) : Type 0 where
     pub each : (rows : List RowValue) → IsPool aggregations rows pool → StandsTo hash aggregations rows sets i tries
-
-  pub stands_for_none : (sets : List (List ℕ)) (tries : List (List (Group H))) → tries ≡ [] → StandsFor sets 0 tries
-  stands_for_none sets tries e = record { each = λ rows now. stands_none hash aggregations rows sets tries e }
 
   pub stands_for_next : (sets its : List (List ℕ)) (i : ℕ) (s t : List ℕ) (tries new : List (List (Group H))) (trie : List (Group H)) → its ≡ sets → i < length its → s ≡ get_or its i s → t ≡ s →
       StandsFor sets i tries → ((rows : List RowValue) → IsPool aggregations rows pool → StandsAt hash aggregations t rows trie) → new ≡ tries ++ trie ∷ [] → StandsFor sets (i + 1) new

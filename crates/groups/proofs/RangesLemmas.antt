@@ -1,20 +1,14 @@
 -- Ranges of rows, and the sources over them.
 use Rattle.std.specs.Prelude.{◌≡◌, ℕ, zero, suc, ◌+◌, ◌<◌, ◌≤◌, List, [], ◌∷◌, ◌++◌, refl, None}
 use Rattle.std.specs.List.{AllByRecursion, Contains, range_with_len}
-use Rattle.std.proofs.Common.{get_or, ap, ap₂, sym, ◌∙◌, subst, arith}
+use Rattle.std.proofs.Common.{ap, ap₂, sym, ◌∙◌, subst, arith}
 use Rattle.cells.specs.Values.{RowValue}
-use Rattle.groups.specs.Accumulators.{aggregations_of}
-use Rattle.groups.specs.Bags.{CanCount, CanFoldSet}
 use Rattle.groups.specs.Folds.{Folds}
 use Rattle.groups.specs.Groups.{kept}
-use Rattle.groups.specs.Partials.{MayFold}
 use Rattle.groups.specs.Pools.{IsPool, sets_of}
-use Rattle.groups.specs.declared.aggregation.Aggregation.{Aggregation}
 use Rattle.groups.specs.declared.folding.Folding.{Folding}
 use Rattle.groups.proofs.FoldsLemmas.{finer_by_sets}
-use Rattle.groups.proofs.PlanLemmas.{RowsFitColumns, can_fold}
-use Rattle.groups.proofs.TuplesLemmas.{all_at, all_through}
-use Rattle.groups.proofs.VisitingLemmas.{can_count_kept}
+use Rattle.groups.proofs.TuplesLemmas.{all_through}
 use Rattle.query.specs.Plans.{PlanTree}
 
 pub kept_all : (rows : List RowValue) → kept None rows ≡ rows
@@ -46,13 +40,6 @@ module _ {H : Type 0} where
     among = subst (AllByRecursion (Contains plan.sets)) (sym sets) folds.among;
     covers = subst (λ a. IsPool a rows new.sources.items) folds.aggregations pool;
   }
-
-pub can_count_rows : (laws : RowsFitColumns) (plan : PlanTree) (aggregations : List Aggregation) (rows : List RowValue) → aggregations ≡ aggregations_of plan.items → MayFold plan rows →
-    CanCount aggregations (kept plan.condition rows)
-can_count_rows laws plan aggregations rows is may =
-    subst (λ a. CanCount a (kept plan.condition rows)) (sym is)
-    (can_count_kept plan.condition (aggregations_of plan.items) (get_or plan.sets 0 []) rows
-    (all_at (λ s. CanFoldSet (aggregations_of plan.items) s rows) plan.sets 0 [] (can_fold laws plan (aggregations_of plan.items) rows refl may).each (may.planned).some))
 
 pub range_next : (first count n : ℕ) (places added : List ℕ) → n ≡ first + count → places ≡ range_with_len first count → added ≡ places ++ n ∷ [] → added ≡ range_with_len first (count + 1)
 range_next first count n places added is are e = e ∙ ap₂ (λ (l : List ℕ) (k : ℕ). l ++ k ∷ []) are is ∙ sym (range_more first count)

@@ -6,11 +6,11 @@ use Rattle.std.specs.Option.{is_some}
 use Rattle.std.proofs.Common.{get_or, ap, sym, ◌∙◌, subst, arith}
 use Rattle.std.proofs.lemmas.Bool.{ltb-false}
 use Rattle.std.proofs.lemmas.Cmp.{nat_list_eq_equiv}
-use Rattle.std.proofs.lemmas.List.{map-append, take_all, take_more}
+use Rattle.std.proofs.lemmas.List.{map-append, take_more}
 use Rattle.std.proofs.lemmas.List.Folds.{list_all_at, list_any-append, list_any_none}
 use Rattle.std.proofs.lemmas.List.Sums.{fails_before_first}
 use Rattle.groups.specs.Groups.{place_in}
-use Rattle.groups.specs.Pools.{AddsSource, ArePlanned, AreSources, has_all, has_finer, has_set, sets_of}
+use Rattle.groups.specs.Pools.{AddsSource, ArePlanned, has_all, has_finer, has_set, sets_of}
 use Rattle.groups.specs.declared.pool.SetBag.{SetBag}
 use Rattle.groups.proofs.BagLemmas.{covers_none}
 use Rattle.groups.proofs.TuplesLemmas.{all_push, all_through}
@@ -86,9 +86,6 @@ module _ {H : Type 0} where
       list_any-append (λ (g : SetBag H). pointwise nat_eq g.set.items f.set.items) pool (f ∷ [])
       ∙ either_second (has_set pool f.set.items) (has_set (f ∷ []) f.set.items) (either_first _ false (nat_list_eq_equiv.refl f.set.items))
 
-  pub adds_nothing : (set : List ℕ) (old new : List (SetBag H)) → has_finer old set ≡ true → new ≡ old → AddsSource set old new
-  adds_nothing set old new e same = rw same (record { finer = e; stay = λ other h. h; planned = λ sets contains now. now })
-
   pub adds_source : (set : List ℕ) (old new : List (SetBag H)) (f : SetBag H) → f.set.items ≡ set → f.bag ≡ [] → new ≡ old ++ f ∷ [] → AddsSource set old new
   adds_source set old new f is empty e = rw e (record {
     finer = subst (λ s. has_finer (old ++ f ∷ []) s ≡ true) is (finer_here old f);
@@ -102,16 +99,10 @@ module _ {H : Type 0} where
     };
   })
 
-  pub none_planned : (sets : List (List ℕ)) (sources : List (SetBag H)) → sources ≡ [] → ArePlanned sets sources
-  none_planned sets sources e = rw e (record { among = tt; none = λ aggregations. record { each = tt } })
-
   -- the sets before a place that have so many columns have a source
   pub record Sourced (sets : List (List ℕ)) (columns i : ℕ) (sources : List (SetBag H)) : Type 0 where
     pub planned : ArePlanned sets sources
     pub finer : AllByRecursion (λ (set : List ℕ). columns ≤ length set → has_finer sources set ≡ true) (take i sets)
-
-  pub sourced_none : (sets : List (List ℕ)) (columns : ℕ) (sources : List (SetBag H)) → ArePlanned sets sources → Sourced sets columns 0 sources
-  sourced_none sets columns sources planned = record { planned = planned; finer = tt }
 
   sourced_push : (sets : List (List ℕ)) (columns i : ℕ) (set : List ℕ) (sources new : List (SetBag H)) → i < length sets → set ≡ get_or sets i set → ArePlanned sets new →
       ((other : List ℕ) → has_finer sources other ≡ true → has_finer new other ≡ true) → (columns ≤ length set → has_finer new set ≡ true) → Sourced sets columns i sources →
@@ -135,11 +126,3 @@ module _ {H : Type 0} where
   sourced_fewer sets its columns i count s sources same h is e less now =
       sourced_push sets columns i s sources sources (subst (λ l. i < length l) same h) (subst (λ (l : List (List ℕ)). s ≡ get_or l i s) same is) now.planned (λ other f. f)
       (λ few. absurd (omega (arith, e, less, few))) now
-
-  pub sourced_all : (sets : List (List ℕ)) (columns i : ℕ) (sources : List (SetBag H)) → length sets ≤ i → Sourced sets columns i sources →
-      AllByRecursion (λ (set : List ℕ). columns ≤ length set → has_finer sources set ≡ true) sets
-  sourced_all sets columns i sources h now = subst (AllByRecursion (λ (s : List ℕ). columns ≤ length s → has_finer sources s ≡ true)) (take_all i sets h) now.finer
-
-  pub are_sources : (sets : List (List ℕ)) (sources : List (SetBag H)) → ArePlanned sets sources →
-      AllByRecursion (λ (set : List ℕ). 0 ≤ length set → has_finer sources set ≡ true) sets → AreSources sets sources
-  are_sources sets sources planned finer = record { planned = planned; finer = all_through _ _ (λ s f. f (omega arith)) sets finer }

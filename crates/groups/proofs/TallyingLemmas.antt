@@ -4,20 +4,18 @@ use Rattle.std.specs.List.{AllByRecursion}
 use Rattle.std.proofs.Common.{get_or, ap, sym, ◌∙◌, subst, arith, eq-eqb, inl, inr}
 use Rattle.std.proofs.lemmas.Bool.{ne_eqb}
 use Rattle.std.proofs.lemmas.List.{append-nil, get_or-set_other, get_or-set_same, length-append, length-map, length-set, length-take, take_all, take_more}
-use Rattle.aggs.specs.Accs.{AccTakes, AccsFit, acc_joins, acc_kind, acc_of, acc_room, acc_takes, acc_together, kind_of}
+use Rattle.aggs.specs.Accs.{AccsFit, acc_joins, acc_kind, acc_of, acc_room, acc_together, kind_of}
 use Rattle.aggs.specs.Room.{cell_limit}
-use Rattle.aggs.specs.Values.{IsNoText}
 use Rattle.aggs.specs.Counts.{rows}
 use Rattle.aggs.specs.declared.acc.Acc.{Acc}
 use Rattle.aggs.specs.declared.acc.Acc.TheVariants as acc
 use Rattle.aggs.specs.declared.acc.Kind.{Kind}
 use Rattle.aggs.specs.declared.acc.Kind.TheVariants as kind
-use Rattle.cells.specs.Fitting.{AreStored, IsStored}
 use Rattle.cells.specs.declared.cell.Cell.{Cell}
 use Rattle.cells.specs.declared.cell.Cell.TheVariants.{Null}
 use Rattle.columns.specs.Columns.{AreCodes, decoded}
 use Rattle.groups.specs.Parting.{codes_at}
-use Rattle.groups.specs.Tallying.{AreTallied, MayTally, keep_if, those_of}
+use Rattle.groups.specs.Tallying.{AreTallied, keep_if, those_of}
 use Rattle.groups.proofs.TuplesLemmas.{all_at}
 
 pub same_or_other : (n m : ℕ) → (n ≡ m) ⊎ (n ≢ m)
@@ -50,15 +48,6 @@ those_few {X} m (k ∷ numbers) (x ∷ xs) = kept (those_of m numbers xs) (k == 
     kept : (rest : List X) (b : Bool) → length rest ≤ length xs → length (keep_if b x rest) ≤ suc (length xs)
     kept rest true few = omega (arith, few)
     kept rest false few = omega (arith, few)
-
-those_stored : (m : ℕ) (numbers : List ℕ) (cells : List Cell) → AreStored cells → AreStored (those_of m numbers cells)
-those_stored m [] cells s = tt
-those_stored m (k ∷ numbers) [] s = tt
-those_stored m (k ∷ numbers) (c ∷ cells) s = kept (those_of m numbers cells) (k == m) (those_stored m numbers cells s.1)
-  where
-    kept : (rest : List Cell) (b : Bool) → AreStored rest → AreStored (keep_if b c rest)
-    kept rest true stored = (s.0, stored)
-    kept rest false stored = stored
 
 -- ---- tallies
 module _ {H : Type 0} where
@@ -105,36 +94,17 @@ module _ {H : Type 0} where
           ap (acc_of k) (sym (those_more m numbers cells n cell same ∙ ap (λ b. those_of m numbers cells ++ keep_if b cell []) (ne_eqb n m other) ∙ append-nil (those_of m numbers cells)))
 
 -- ---- the accumulator may be stepped with the cell at i
-stored_first : (i : ℕ) (cells : List Cell) → AreStored cells → AreStored (take i cells)
-stored_first zero cells s = tt
-stored_first (suc i) [] s = tt
-stored_first (suc i) (c ∷ cells) s = (s.0, stored_first i cells s.1)
-
-stored_there : (cells : List Cell) (i : ℕ) (d : Cell) → i < length cells → AreStored cells → IsStored (get_or cells i d)
-stored_there [] i d h s = absurd (omega (arith, h))
-stored_there (c ∷ cells) zero d h s = s.0
-stored_there (c ∷ cells) (suc i) d h s = stored_there cells i d (omega (arith, h)) s.1
-
 module _ {H : Type 0} (k : Kind) (count : ℕ) (numbers : List ℕ) (cells : List Cell) (accs : List (Acc H)) (i n : ℕ) (cell : Cell) (acc : Acc H) (h : i < length cells)
-    (at : cell ≡ get_or cells i cell) (below : n < count) (read : acc ≡ get_or accs n acc) (may : MayTally k cells) (now : AreTallied k count (take i numbers) (take i cells) accs) where
+    (at : cell ≡ get_or cells i cell) (below : n < count) (read : acc ≡ get_or accs n acc) (few : length cells ≤ cell_limit) (now : AreTallied k count (take i numbers) (take i cells) accs) where
   is_tally : acc ≡ acc_of k (those_of n (take i numbers) (take i cells))
   is_tally = read ∙ now.each n below acc
-
-  pub takes_cell : AccTakes acc cell
-  takes_cell =
-      subst (λ (a : Acc H). AccTakes a cell) (sym is_tally)
-      (acc_takes H k (those_of n (take i numbers) (take i cells)) cell (λ e. subst IsNoText (sym at) (all_at IsNoText cells i cell (may.numbers e) h)))
 
   pub fits_cell : AccsFit acc (acc_of (kind_of acc) (cell ∷ []))
   fits_cell =
       let xs : List Cell = those_of n (take i numbers) (take i cells) in
       subst (λ (a : Acc H). AccsFit a (acc_of (kind_of a) (cell ∷ []))) (sym is_tally)
       (subst (λ kind. AccsFit (acc_of {H = H} k xs) (acc_of kind (cell ∷ []))) (sym (acc_kind H k xs))
-      (acc_room H k xs (cell ∷ []) (record {
-        first = those_stored n (take i numbers) (take i cells) (stored_first i cells may.stored);
-        second = (subst IsStored (sym at) (stored_there cells i cell h may.stored), tt);
-        few = omega (arith, may.few, h, those_few n (take i numbers) (take i cells), length-take i cells);
-      })))
+      (acc_room H k xs (cell ∷ []) (omega (arith, few, h, those_few n (take i numbers) (take i cells), length-take i cells))))
 
 -- the cell at i goes behind those before it
 pub tallied_next : {H : Type 0} (k : Kind) (count : ℕ) (numbers : List ℕ) (cells : List Cell) (accs : List (Acc H)) (i n : ℕ) (cell : Cell) (new acc : Acc H) → length numbers ≡ length cells →
@@ -162,17 +132,6 @@ cell_read cells by_row (r ∷ rows) (suc i) h = cell_read cells by_row rows i (o
 -- ---- rows that are counted
 abbrev pub nulls : List ℕ → List Cell
 nulls numbers = map (λ n. Null) numbers
-
-nulls_stored : (numbers : List ℕ) → AreStored (nulls numbers)
-nulls_stored [] = tt
-nulls_stored (n ∷ numbers) = (tt, nulls_stored numbers)
-
-pub may_count : (numbers : List ℕ) → length numbers ≤ cell_limit → MayTally kind.CountRows (nulls numbers)
-may_count numbers few = record {
-  stored = nulls_stored numbers;
-  numbers = λ e. absurd (cc (e));
-  few = omega (arith, few, length-map numbers (λ n. Null));
-}
 
 as_many : {X Y : Type 0} (m : ℕ) (numbers : List ℕ) (xs : List X) (ys : List Y) → length xs ≡ length ys → length (those_of m numbers xs) ≡ length (those_of m numbers ys)
 as_many m [] xs ys e = refl

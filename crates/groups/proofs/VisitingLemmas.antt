@@ -1,18 +1,17 @@
 -- Rows that a walk lends, one after another.
-use Rattle.std.specs.Prelude.{◌≡◌, ℕ, true, List, [], ◌∷◌, ◌++◌, Option, refl}
-use Rattle.std.specs.List.{AllByRecursion}
+use Rattle.std.specs.Prelude.{◌≡◌, ℕ, ◌+◌, ◌<◌, ◌≤◌, true, List, [], ◌∷◌, ◌++◌, length, Option, refl}
 use Rattle.std.proofs.Common.{ap, sym, ◌∙◌, subst, arith}
-use Rattle.std.proofs.lemmas.List.{append_assoc, append-nil, length-append, map-append}
+use Rattle.std.proofs.lemmas.List.{append_assoc, append-nil, length-append, length-map}
+use Rattle.aggs.specs.Room.{cell_limit}
 use Rattle.cells.specs.Values.{RowValue}
 use Rattle.cells.specs.declared.cell.Cell.{Cell}
-use Rattle.groups.specs.Bags.{CanCount, CanFoldSet, Covers, FitsRow, FitsSet, Group, HasRoom, Takes}
+use Rattle.groups.specs.Bags.{Covers, Group, HasRoom, Takes}
 use Rattle.groups.specs.Groups.{keeps, kept}
-use Rattle.groups.specs.Laws.{all_kept, kept_join, kept_short}
+use Rattle.groups.specs.Laws.{kept_join, kept_short}
 use Rattle.groups.specs.Partials.{rows_of}
 use Rattle.groups.specs.Visiting.{MayVisit, TakesKept, Visits}
 use Rattle.groups.specs.declared.aggregation.Aggregation.{Aggregation}
 use Rattle.groups.proofs.BagLemmas.{covers_more}
-use Rattle.groups.proofs.TuplesLemmas.{all_first, all_push, all_second, all_through}
 use Rattle.query.specs.Trees.{PredicateTree}
 use Rattle.query.specs.declared.test.Test.{Test}
 use Rattle.trie.specs.Walks.{MayTakeAll, TakesAll}
@@ -27,26 +26,6 @@ module _ {H : Type 0} (condition : Option (PredicateTree (Test ℕ))) (aggregati
     serves = λ rows covers.
         subst (λ l. Covers aggregations set (rows ++ l) new) (sym (kept_one condition row e)) (covers_more aggregations set row rows old new covers takes);
   }
-
--- ---- rows that are kept may be counted
-can_count : (condition : Option (PredicateTree (Test ℕ))) (aggregations : List Aggregation) (set : List ℕ) (before after : List RowValue) (row : RowValue) →
-    CanFoldSet aggregations set (before ++ row ∷ after) → CanCount aggregations (kept condition before ++ row ∷ [])
-can_count condition aggregations set before after row can =
-    let P : RowValue → Type 0 = FitsSet aggregations set in
-    let Q : RowValue → Type 0 = FitsRow aggregations in
-    let firsts : AllByRecursion P before = all_first P before (row ∷ after) can.each in
-    let here : P row = (all_second P before (row ∷ after) can.each).0 in
-    record {
-      each = all_push Q (kept condition before) row (all_kept Q (keeps condition) before (all_through P Q (λ r fits. fits.counted) before firsts)) here.counted;
-      few = omega (arith, can.few, kept_short (keeps condition) before, length-append (kept condition before) (row ∷ []), length-append before (row ∷ after));
-    }
-
-pub can_count_kept : (condition : Option (PredicateTree (Test ℕ))) (aggregations : List Aggregation) (set : List ℕ) (rows : List RowValue) →
-    CanFoldSet aggregations set rows → CanCount aggregations (kept condition rows)
-can_count_kept condition aggregations set rows can = record {
-  each = all_kept (FitsRow aggregations) (keeps condition) rows (all_through (FitsSet aggregations set) (FitsRow aggregations) (λ r fits. fits.counted) rows can.each);
-  few = omega (arith, can.few, kept_short (keeps condition) rows);
-}
 
 module _ {S H : Type 0} (condition : S → Option (PredicateTree (Test ℕ))) (aggregations : S → List Aggregation) (set : S → List ℕ) (groups : S → List (Group H)) where
   -- the rows of the entries have gone into the groups
@@ -91,25 +70,21 @@ module _ {S H : Type 0} (condition : S → Option (PredicateTree (Test ℕ))) (a
       Covers (aggregations old) (set old) befores (groups old) → Covers (aggregations old) (set old) (befores ++ kept (condition old) (rows_of es)) (groups new)
   visited_all old new es t = (visited old new es t).serves
 
-  may_visit_at : (old mid : S) (taken before after : List RowValue) (key : Cell) (row : RowValue) → Covers (aggregations old) (set old) (kept (condition old) taken) (groups old) →
-      Visited old before mid → CanFoldSet (aggregations old) (set old) ((taken ++ before) ++ row ∷ after) → MayVisit condition aggregations set groups mid key row
-  may_visit_at old mid taken before after key row covers v can =
-      let fits : FitsSet (aggregations old) (set old) row = (all_second _ (taken ++ before) (row ∷ after) can.each).0 in
-      let room : HasRoom (aggregations old) (set old) row (groups mid) = record {
-        rows = kept (condition old) (taken ++ before);
-        covers = subst (λ l. Covers (aggregations old) (set old) l (groups mid)) (sym (kept_join (condition old) taken before)) (v.serves (kept (condition old) taken) covers);
-        can = can_count (condition old) (aggregations old) (set old) (taken ++ before) after row can;
+  -- the rows before an entry leave room for it
+  may_visit_at : (old mid : S) (taken before : List RowValue) (most : ℕ) → Covers (aggregations old) (set old) taken (groups old) → Visited old before mid →
+      length taken + length before < most → most ≤ cell_limit → HasRoom (aggregations mid) (set mid) (groups mid)
+  may_visit_at old mid taken before most covers v less few =
+      let room : HasRoom (aggregations old) (set old) (groups mid) = record {
+        rows = taken ++ kept (condition old) before;
+        covers = v.serves taken covers;
+        few = omega (arith, less, few, kept_short (keeps (condition old)) before, length-append taken (kept (condition old) before));
       } in
-      record {
-        fits = rw (v.aggregations_stay, v.set_stays) fits;
-        room = rw (v.aggregations_stay, v.set_stays) room;
-      }
+      rw (v.aggregations_stay, v.set_stays) room
 
-  pub may_visit : (old : S) (taken : List RowValue) (es : List (Cell × RowValue)) → Covers (aggregations old) (set old) (kept (condition old) taken) (groups old) →
-      CanFoldSet (aggregations old) (set old) (taken ++ rows_of es) → MayTakeAll (MayVisit condition aggregations set groups) (Visits condition aggregations set groups) old es
-  may_visit old taken es covers can = record {
+  pub may_visit : (old : S) (taken : List RowValue) (es : List (Cell × RowValue)) → Covers (aggregations old) (set old) taken (groups old) →
+      length taken + length (rows_of es) ≤ cell_limit → MayTakeAll (MayVisit condition aggregations set groups) (Visits condition aggregations set groups) old es
+  may_visit old taken es covers few = record {
     asked = λ before after x mid split t.
-        may_visit_at old mid taken (rows_of before) (rows_of after) x.0 x.1 covers (visited old mid before t)
-        (subst (CanFoldSet (aggregations old) (set old))
-        (ap (λ l. taken ++ l) (ap rows_of split ∙ map-append (λ x. x.1) before (x ∷ after)) ∙ sym (append_assoc taken (rows_of before) (x.1 ∷ rows_of after))) can);
+        may_visit_at old mid taken (rows_of before) (length taken + length (rows_of es)) covers (visited old mid before t)
+        (omega (arith, ap (λ l. length (rows_of l)) split, length-map (before ++ x ∷ after) (λ e. e.1), length-map before (λ e. e.1), length-append before (x ∷ after))) few;
   }

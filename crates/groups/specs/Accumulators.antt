@@ -1,7 +1,7 @@
 -- The accumulators of a group: one for each aggregate of the select list, in its order.
-use Rattle.std.specs.Prelude.{◌≡◌, ℕ, ◌<◌, Bool, true, false, not, ◌&&◌, List, [], ◌∷◌, length, map, Option, Some, None, if◌then◌else◌, ⊤}
+use Rattle.std.specs.Prelude.{ℕ, Bool, true, false, not, ◌&&◌, List, [], ◌∷◌, map, Option, Some, None, if◌then◌else◌, ⊤}
 use Rattle.std.specs.List.{filter_map}
-use Rattle.aggs.specs.Accs.{AccTakes, AccsFit, acc_of, acc_together, kind_of}
+use Rattle.aggs.specs.Accs.{AccsFit, acc_of, acc_together, kind_of}
 use Rattle.aggs.specs.declared.acc.Acc.{Acc}
 use Rattle.aggs.specs.declared.acc.Kind.TheVariants as kind
 use Rattle.cells.specs.Values.{RowValue}
@@ -11,7 +11,7 @@ use Rattle.groups.specs.declared.aggregation.Aggregation.{Aggregation}
 use Rattle.query.specs.declared.item.Item.{Item}
 use Rattle.query.specs.declared.item.Item.TheVariants as item
 
--- the aggregate that an item asks for: COUNT(*) may be stepped with any cell of a row, and is with the first
+-- the aggregate that an item asks for: COUNT(*) may be stepped with any cell, and is with a row's first
 abbrev pub aggregation_of : Item ℕ → Option Aggregation
 aggregation_of (item.Column c) = None
 aggregation_of (item.Grouping c) = None
@@ -54,23 +54,17 @@ module _ {H : Type 0} where
   stepped row (a ∷ aggregations) (x ∷ accs) =
       acc_together x (acc_of (kind_of x) (cell_at a.column row ∷ [])) ∷ stepped row aggregations accs
 
-  -- an accumulator can take the row's cell: there is one, it is no text under SUM, and there is room
-  pub record MayStep (row : RowValue) (a : Aggregation) (x : Acc H) : Type 0 where
-    pub column : a.column < length row.cells
-    pub takes : AccTakes x (cell_at a.column row)
-    pub fits : AccsFit x (acc_of (kind_of x) (cell_at a.column row ∷ []))
-
-  -- each of them can take the row
+  -- each of them has room for the row's cell
   abbrev pub CanStep : RowValue → List Aggregation → List (Acc H) → Type 0
   CanStep row [] accs = ⊤
-  CanStep row (a ∷ aggregations) [] = ⊥
-  CanStep row (a ∷ aggregations) (x ∷ accs) = MayStep row a x × CanStep row aggregations accs
+  CanStep row (a ∷ aggregations) [] = ⊤
+  CanStep row (a ∷ aggregations) (x ∷ accs) = AccsFit x (acc_of (kind_of x) (cell_at a.column row ∷ [])) × CanStep row aggregations accs
 
-  -- they can be put together
+  -- they have room for each other
   abbrev pub AllFit : List (Acc H) → List (Acc H) → Type 0
   AllFit [] bs = ⊤
   AllFit (a ∷ xs) [] = ⊤
-  AllFit (a ∷ xs) (b ∷ ys) = AccsFit a b × (kind_of a ≡ kind_of b) × AllFit xs ys
+  AllFit (a ∷ xs) (b ∷ ys) = AccsFit a b × AllFit xs ys
 
   -- the accumulators of a group's rows, where it has any or is there from the start
   abbrev pub group_or : List Aggregation → Bool → List RowValue → Option (List (Acc H))

@@ -3,15 +3,12 @@ use Rattle.std.specs.Prelude.{◌≡◌, ℕ, ◌<◌, ◌≤◌, false, ◌⊎�
 use Rattle.std.specs.List.{AllByRecursion, flat_map}
 use Rattle.std.specs.List.Sorted.{IsPermutation}
 use Rattle.aggs.specs.Room.{cell_limit}
-use Rattle.aggs.specs.Values.{IsNoText}
 use Rattle.aggs.specs.declared.acc.Acc.{Acc}
-use Rattle.aggs.specs.declared.acc.Kind.TheVariants as kind
-use Rattle.cells.specs.Fitting.{AreStored}
 use Rattle.cells.specs.Values.{RowValue}
 use Rattle.cells.specs.declared.cell.Cell.{Cell}
 use Rattle.cells.specs.declared.cell.Cell.TheVariants.{Null}
 use Rattle.groups.specs.Accumulators.{CanStep, accs_of, no_rows, stepped}
-use Rattle.groups.specs.Groups.{cell_at, tuple_of}
+use Rattle.groups.specs.Groups.{tuple_of}
 use Rattle.groups.specs.declared.aggregation.Aggregation.{Aggregation}
 
 -- a group: its tuple and its accumulators
@@ -25,21 +22,6 @@ AreWithin count places = AllByRecursion (λ i. i < count) places
 -- the cells at the places: for places of columns those of a row's tuple
 abbrev pub picked : List ℕ → List Cell → List Cell
 picked places cells = map (λ i. slice_index_or cells i Null) places
-
--- the aggregate can take the row's cell: there is one, and no text under SUM
-pub record MayTake (row : RowValue) (a : Aggregation) : Type 0 where
-  pub column : a.column < length row.cells
-  pub number : a.kind ≡ kind.Sum → IsNoText (cell_at a.column row)
-
--- each aggregate can take the row's cell, and integers have 64 bits
-pub record FitsRow (aggregations : List Aggregation) (row : RowValue) : Type 0 where
-  pub stored : AreStored row.cells
-  pub each : AllByRecursion (MayTake row) aggregations
-
--- the aggregates can take the rows, which are few enough
-pub record CanCount (aggregations : List Aggregation) (rows : List RowValue) : Type 0 where
-  pub each : AllByRecursion (FitsRow aggregations) rows
-  pub few : length rows ≤ cell_limit
 
 -- the lists put together
 abbrev pub joined : List (List RowValue) → List RowValue
@@ -78,31 +60,19 @@ module _ {H : Type 0} (aggregations : List Aggregation) (columns : List ℕ) whe
       Steps row old new ⊎ (new ≡ old ++ (tuple_of columns row, stepped row aggregations (accs_of aggregations [])) ∷ [])
 
 module _ {H : Type 0} (aggregations : List Aggregation) where
-  -- each group can take the row, and so can a new one
+  -- each group has room for the row, and so has a new one
   pub record CanTake (row : RowValue) (groups : List (Group H)) : Type 0 where
     pub each : AllByRecursion (λ g. CanStep row aggregations g.1) groups
     pub new : CanStep {H = H} row aggregations (accs_of aggregations [])
 
-  -- some rows went into the groups, and this one may go there, too
-  pub record HasRoom (columns : List ℕ) (row : RowValue) (groups : List (Group H)) : Type 0 where
+  -- so few rows went into the groups that one more may go there
+  pub record HasRoom (columns : List ℕ) (groups : List (Group H)) : Type 0 where
     pub rows : List RowValue
     pub covers : Covers aggregations columns rows groups
-    pub can : CanCount aggregations (rows ++ row ∷ [])
+    pub few : length rows < cell_limit
 
-  -- rows that may be counted went into the groups
+  -- few enough rows went into the groups
   pub record IsCounted (columns : List ℕ) (groups : List (Group H)) : Type 0 where
     pub rows : List RowValue
     pub covers : Covers aggregations columns rows groups
-    pub can : CanCount aggregations rows
-
--- ---- the rows of a plan
-
--- the row has the columns of the set and of the aggregates
-pub record FitsSet (aggregations : List Aggregation) (set : List ℕ) (row : RowValue) : Type 0 where
-  pub counted : FitsRow aggregations row
-  pub grouped : AreWithin (length row.cells) set
-
--- the rows can be folded into the groups of a set
-pub record CanFoldSet (aggregations : List Aggregation) (set : List ℕ) (rows : List RowValue) : Type 0 where
-  pub each : AllByRecursion (FitsSet aggregations set) rows
-  pub few : length rows ≤ cell_limit
+    pub few : length rows ≤ cell_limit

@@ -37,7 +37,7 @@ module _ {H : Type 0} where
   pub record Regroups (aggregations : List Aggregation) (columns : List ℕ) (groups new : List (Group H)) : Type 0 where
     pub serves : (parts : List (List RowValue)) → AreParts aggregations columns groups parts → Covers aggregations columns (joined parts) new
 
--- rows that may be counted went into the groups, by columns at whose places they are made coarser
+-- few enough rows went into the groups, by columns at whose places they are made coarser
 pub record CanCoarsen {H : Type 0} (places : List ℕ) (groups : List (Group H)) : Type 0 where
   pub aggregations : List Aggregation
   pub columns : List ℕ

@@ -1,33 +1,15 @@
 -- Groups made from columns.
-use Rattle.std.specs.Prelude.{ℕ, ◌<◌, ◌≤◌, ◌^◌, List, [], length, map, slice_index_or}
-use Rattle.std.specs.List.{AllByRecursion, range_with_len}
+use Rattle.std.specs.Prelude.{ℕ, List, [], length, map, slice_index_or}
+use Rattle.std.specs.List.{range_with_len}
 use Rattle.aggs.specs.Accs.{acc_of}
 use Rattle.aggs.specs.declared.acc.Acc.{Acc}
 use Rattle.aggs.specs.declared.acc.Kind.TheVariants as kind
 use Rattle.cells.specs.Values.{RowValue}
 use Rattle.cells.specs.declared.cell.Cell.{Cell}
-use Rattle.columns.specs.Columns.{ColumnsValue, Hold}
-use Rattle.groups.specs.Bags.{CanCount, Group}
+use Rattle.groups.specs.Bags.{Group}
 use Rattle.groups.specs.Groups.{column_of}
-use Rattle.groups.specs.Numbered.{picked_rows}
-use Rattle.groups.specs.Tallying.{AreTallied, MayTally}
+use Rattle.groups.specs.Tallying.{AreTallied}
 use Rattle.groups.specs.declared.aggregation.Aggregation.{Aggregation}
-
--- the columns hold rows, and those at these places may be counted
-pub record MayCount (aggregations : List Aggregation) (columns : ColumnsValue) (places : List ℕ) : Type 0 where
-  pub rows : List RowValue
-  pub held : Hold rows columns
-  pub within : AllByRecursion (λ i. i < length rows) places
-  pub few : length places ≤ 2 ^ 32
-  pub can : CanCount aggregations (picked_rows rows places)
-
--- the columns hold rows, and the aggregate may be tallied over those at these places
-pub record MayTallyRows (columns : ColumnsValue) (places : List ℕ) (a : Aggregation) : Type 0 where
-  pub rows : List RowValue
-  pub held : Hold rows columns
-  pub within : AllByRecursion (λ i. i < length rows) places
-  pub few : length places ≤ 2 ^ 32
-  pub may : MayTally a.kind (column_of a.column (picked_rows rows places))
 
 module _ {H : Type 0} where
   -- the accumulators of the aggregate over these rows, which are numbered

@@ -1,11 +1,12 @@
 -- Rows folded piece by piece into the groups of the sources of a plan.
-use Rattle.std.specs.Prelude.{◌≡◌, ℕ, true, List, ◌++◌, length, sum_by}
+use Rattle.std.specs.Prelude.{◌≡◌, ℕ, ◌+◌, ◌≤◌, true, List, ◌++◌, length, sum_by}
 use Rattle.std.specs.List.{AllByRecursion, Contains}
+use Rattle.aggs.specs.Room.{cell_limit}
 use Rattle.cells.specs.Values.{RowValue}
 use Rattle.groups.specs.Accumulators.{aggregations_of}
-use Rattle.groups.specs.Bags.{CanCount, CanFoldSet, Covers, Group}
+use Rattle.groups.specs.Bags.{Covers, Group}
 use Rattle.groups.specs.Groups.{kept}
-use Rattle.groups.specs.Partials.{MayFold, rows_of}
+use Rattle.groups.specs.Partials.{rows_of}
 use Rattle.groups.specs.Pools.{HaveFiner, IsPool, has_finer, sets_of}
 use Rattle.groups.specs.declared.aggregation.Aggregation.{Aggregation}
 use Rattle.groups.specs.declared.folding.Folding.{Folding}
@@ -20,11 +21,11 @@ module _ {H : Type 0} where
   abbrev pub kept_of : KeptRows H → List RowValue
   kept_of rows = kept rows.plan.now.condition (rows_of rows.piece.now)
 
-  -- what is kept of some rows went into the groups, and the piece's can be folded behind them
+  -- some rows went into the groups, and with the piece's they are few enough
   pub record MayFill (rows : KeptRows H) (set : List ℕ) (groups : List (Group H)) : Type 0 where
     pub taken : List RowValue
-    pub covers : Covers rows.aggregations.now set (kept rows.plan.now.condition taken) groups
-    pub can : CanFoldSet rows.aggregations.now set (taken ++ rows_of rows.piece.now)
+    pub covers : Covers rows.aggregations.now set taken groups
+    pub few : length taken + length (rows_of rows.piece.now) ≤ cell_limit
 
   abbrev pub MayFillSource : KeptRows H → SetBag H → Type 0
   MayFillSource rows source = MayFill rows source.set.items source.bag
@@ -46,14 +47,14 @@ module _ {H : Type 0} where
 
   -- ---- sources and others
 
-  -- rows went into the source and into all others, and may be counted together
+  -- rows went into the source and into all others, and they are few enough together
   pub record MayTakeOthers (others : List (SetBag H)) (source : SetBag H) : Type 0 where
     pub aggregations : List Aggregation
     pub rows : List RowValue
     pub more : List RowValue
     pub covers : Covers aggregations source.set.items rows source.bag
     pub pool : IsPool aggregations more others
-    pub can : CanCount aggregations (rows ++ more)
+    pub few : length rows + length more ≤ cell_limit
     pub finer : has_finer others source.set.items ≡ true
 
   -- whatever rows went into the others went behind those of the source
@@ -76,25 +77,25 @@ module _ {H : Type 0} where
   abbrev pub group_count : Folding H → ℕ
   group_count folding = sum_by (λ s. length s.bag) folding.sources.items
 
-  -- what is kept of some rows went in, and they may be folded together with these
+  -- some rows went in, and with these they are few enough
   pub record MayTakeMore (folding : Folding H) (rows : List RowValue) : Type 0 where
     pub plan : PlanTree
     pub taken : List RowValue
-    pub folds : Folds plan (kept plan.condition taken) folding
-    pub may : MayFold plan (taken ++ rows)
+    pub folds : Folds plan taken folding
+    pub few : length taken + length rows ≤ cell_limit
 
-  -- what is kept of some rows that may be folded went in
+  -- few enough rows went in
   pub record MayEnd (folding : Folding H) : Type 0 where
     pub plan : PlanTree
     pub taken : List RowValue
-    pub folds : Folds plan (kept plan.condition taken) folding
-    pub may : MayFold plan taken
+    pub folds : Folds plan taken folding
+    pub few : length taken ≤ cell_limit
 
-  -- what is kept of some rows went into each, and these may be folded together
+  -- both are of one plan, and the rows that went in are few enough together
   pub record MayJoin (first second : Folding H) : Type 0 where
     pub plan : PlanTree
     pub rows : List RowValue
     pub more : List RowValue
-    pub firsts : Folds plan (kept plan.condition rows) first
-    pub seconds : Folds plan (kept plan.condition more) second
-    pub may : MayFold plan (rows ++ more)
+    pub firsts : Folds plan rows first
+    pub seconds : Folds plan more second
+    pub few : length rows + length more ≤ cell_limit

@@ -1,24 +1,15 @@
 -- Partial results put together, set by set.
 use Rattle.std.specs.Prelude.{◌≡◌, ℕ, ◌+◌, ◌≤◌, List, [], ◌∷◌, length}
-use Rattle.std.specs.List.{AllByRecursion}
 use Rattle.aggs.specs.Room.{cell_limit}
 use Rattle.aggs.specs.declared.acc.Acc.{Acc}
-use Rattle.cells.specs.Fitting.{IsRowOf}
 use Rattle.cells.specs.TupleOrder.{tuple_cmp}
-use Rattle.cells.specs.Values.{RowValue, Table}
+use Rattle.cells.specs.Values.{RowValue}
 use Rattle.cells.specs.declared.cell.Cell.{Cell}
 use Rattle.groups.specs.Accumulators.{accs_together}
 use Rattle.groups.specs.Partials.{StandsAt}
 use Rattle.groups.specs.declared.aggregation.Aggregation.{Aggregation}
 use Rattle.trie.specs.Digits.{digit_order}
 use Rattle.trie.specs.Merging.{IsMerged}
-
--- two lists of rows of one table, few enough together
-pub record AreTogether (xs ys : List RowValue) : Type 0 where
-  pub table : Table
-  pub first : AllByRecursion (IsRowOf table) xs
-  pub second : AllByRecursion (IsRowOf table) ys
-  pub few : length xs + length ys ≤ cell_limit
 
 module _ {H : Type 0} (hash : List Cell → ℕ) where
   -- each tuple has its accumulators of both, put together
@@ -32,12 +23,12 @@ module _ {H : Type 0} (hash : List Cell → ℕ) where
   JoinsEach (x ∷ firsts) (y ∷ seconds) [] = ⊥
   JoinsEach (x ∷ firsts) (y ∷ seconds) (n ∷ new) = Joins x y n × JoinsEach firsts seconds new
 
-  -- the groups of two lists of rows that may be put together, in one grouping set
+  -- the groups of two lists of rows, few enough together, in one grouping set
   pub record MeetsAt (first second : List (List Cell × List (Acc H))) : Type 0 where
     pub aggregations : List Aggregation
     pub set : List ℕ
     pub xs : List RowValue
     pub ys : List RowValue
-    pub rows : AreTogether xs ys
+    pub few : length xs + length ys ≤ cell_limit
     pub of_first : StandsAt hash aggregations set xs first
     pub of_second : StandsAt hash aggregations set ys second

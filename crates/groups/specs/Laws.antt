@@ -1,6 +1,5 @@
 -- Laws of groups: what lists of rows give when they are put together, and that the order of rows does not count.
-use Rattle.std.specs.Prelude.{◌≡◌, ℕ, ◌≤◌, Bool, true, false, not, List, [], ◌∷◌, ◌++◌, filter, length, Option, Some, if◌then◌else◌, refl}
-use Rattle.std.specs.List.{AllByRecursion}
+use Rattle.std.specs.Prelude.{◌≡◌, ℕ, ◌≤◌, Bool, true, false, not, List, [], ◌∷◌, ◌++◌, filter, length, Option, Some, refl}
 use Rattle.std.specs.List.Sorted.{IsPermutation}
 use Rattle.std.proofs.Common.{ap, ap₂, sym, ◌∙◌, arith}
 use Rattle.std.proofs.lemmas.List.{append-nil, map-append}
@@ -26,16 +25,7 @@ pub kept_join : (condition : Option (PredicateTree (Test ℕ))) (xs ys : List Ro
     kept condition (xs ++ ys) ≡ kept condition xs ++ kept condition ys
 kept_join condition xs ys = filter-append (keeps condition) xs ys
 
--- what holds of all rows holds of those that pass a test
-pub all_kept : (P : RowValue → Type 0) (test : RowValue → Bool) (rows : List RowValue) → AllByRecursion P rows → AllByRecursion P (filter test rows)
-all_kept P test [] all = tt
-all_kept P test (r ∷ rows) all = one (test r) (all_kept P test rows all.1)
-  where
-    one : (b : Bool) → AllByRecursion P (filter test rows) → AllByRecursion P (if b then r ∷ filter test rows else filter test rows)
-    one true rest = (all.0, rest)
-    one false rest = rest
-
--- they are no more than the rows
+-- the rows that pass a test are no more than all
 pub kept_short : (test : RowValue → Bool) (rows : List RowValue) → length (filter test rows) ≤ length rows
 kept_short test rows = omega (arith, length-filter_both test (λ r. not (test r)) (λ r. refl) rows)
 

@@ -16,7 +16,6 @@ pub mod Folds
 pub mod Coarsening
 pub mod Laying
 pub mod Laws
-pub mod Meeting
 pub mod Joining
 pub mod Finishing
 pub mod Worked

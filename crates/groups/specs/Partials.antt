@@ -1,36 +1,19 @@
 -- Partial results: for each grouping set the groups of some rows, in whatever order the rows came.
 use Rattle.std.specs.Prelude.{◌≡◌, ℕ, ◌+◌, ◌≤◌, List, [], ◌∷◌, length, map, ⊤}
-use Rattle.std.specs.List.{AllByRecursion}
 use Rattle.aggs.specs.Room.{cell_limit}
 use Rattle.aggs.specs.declared.acc.Acc.{Acc}
-use Rattle.cells.specs.Fitting.{IsRowOf}
 use Rattle.cells.specs.TupleOrder.{tuple_cmp}
-use Rattle.cells.specs.Values.{RowValue, Table}
+use Rattle.cells.specs.Values.{RowValue}
 use Rattle.cells.specs.declared.cell.Cell.{Cell}
 use Rattle.groups.specs.Accumulators.{aggregations_of, group}
 use Rattle.groups.specs.declared.aggregation.Aggregation.{Aggregation}
-use Rattle.query.specs.Plans.{IsPlanOf, PlanTree}
+use Rattle.query.specs.Plans.{PlanTree}
 use Rattle.trie.specs.Digits.{digit_order}
 use Rattle.trie.specs.Entries.{value_at}
 
 -- the rows that a piece of a table holds
 abbrev pub rows_of : List (Cell × RowValue) → List RowValue
 rows_of entries = map (λ e. e.1) entries
-
--- some table has these rows, and the plan is for it; they are not too many to be counted
-pub record MayFold (plan : PlanTree) (rows : List RowValue) : Type 0 where
-  pub table : Table
-  pub planned : IsPlanOf table plan
-  pub fit : AllByRecursion (IsRowOf table) rows
-  pub few : length rows ≤ cell_limit
-
--- the same of two lists of rows together
-pub record MayJoinRows (plan : PlanTree) (xs ys : List RowValue) : Type 0 where
-  pub table : Table
-  pub planned : IsPlanOf table plan
-  pub first : AllByRecursion (IsRowOf table) xs
-  pub second : AllByRecursion (IsRowOf table) ys
-  pub few : length xs + length ys ≤ cell_limit
 
 module _ {H : Type 0} (hash : List Cell → ℕ) where
   -- each tuple of the set has its group, whose accumulators are those of its rows, and no other tuple is there
@@ -48,11 +31,11 @@ module _ {H : Type 0} (hash : List Cell → ℕ) where
   pub record Stands (plan : PlanTree) (rows : List RowValue) (tries : List (List (List Cell × List (Acc H)))) : Type 0 where
     pub each : StandsEach (aggregations_of plan.items) plan.sets rows tries
 
-  -- two partial results of rows that may be put together
+  -- two partial results of one plan, of rows that are few enough together
   pub record MayMeet (first second : List (List (List Cell × List (Acc H)))) : Type 0 where
     pub plan : PlanTree
     pub xs : List RowValue
     pub ys : List RowValue
-    pub rows : MayJoinRows plan xs ys
+    pub few : length xs + length ys ≤ cell_limit
     pub firsts : Stands plan xs first
     pub seconds : Stands plan ys second

@@ -1,10 +1,11 @@
 -- Groups of several grouping sets over the same rows.
-use Rattle.std.specs.Prelude.{◌≡◌, ℕ, ◌<◌, true, Bool, List, [], length, map, nat_eq}
+use Rattle.std.specs.Prelude.{◌≡◌, ℕ, ◌<◌, ◌≤◌, true, Bool, List, [], length, map, nat_eq}
 use Rattle.std.specs.Cmp.Lexicographic.{pointwise}
 use Rattle.std.specs.List.{AllByRecursion, Contains, list_all, list_any}
 use Rattle.std.specs.Option.{is_some}
+use Rattle.aggs.specs.Room.{cell_limit}
 use Rattle.cells.specs.Values.{RowValue}
-use Rattle.groups.specs.Bags.{CanCount, Covers, IsCounted}
+use Rattle.groups.specs.Bags.{Covers, IsCounted}
 use Rattle.groups.specs.Groups.{place_in}
 use Rattle.groups.specs.declared.aggregation.Aggregation.{Aggregation}
 use Rattle.groups.specs.declared.pool.SetBag.{SetBag}
@@ -42,16 +43,16 @@ module _ {H : Type 0} where
   pub record IsPool (aggregations : List Aggregation) (rows : List RowValue) (pool : List (SetBag H)) : Type 0 where
     pub each : AllByRecursion (λ f. Covers aggregations f.set.items rows f.bag) pool
 
-  -- rows that may be counted went into these groups
+  -- few enough rows went into these groups
   pub record MayCoarsen (finer : SetBag H) : Type 0 where
     pub aggregations : List Aggregation
     pub counted : IsCounted aggregations finer.set.items finer.bag
 
-  -- rows that may be counted went into the groups of each set of the pool
+  -- few enough rows went into the groups of each set of the pool
   pub record AreCounted (aggregations : List Aggregation) (pool : List (SetBag H)) : Type 0 where
     pub rows : List RowValue
     pub covers : IsPool aggregations rows pool
-    pub can : CanCount aggregations rows
+    pub few : length rows ≤ cell_limit
 
   pub record MayCoarsenAll (pool : List (SetBag H)) : Type 0 where
     pub aggregations : List Aggregation

@@ -1,13 +1,8 @@
 -- Accumulators of numbered cells.
-use Rattle.std.specs.Prelude.{◌≡◌, ℕ, ◌<◌, ◌≤◌, ◌==◌, Bool, true, false, List, [], ◌∷◌, length, slice_index_or}
-use Rattle.std.specs.List.{AllByRecursion}
+use Rattle.std.specs.Prelude.{◌≡◌, ℕ, ◌<◌, ◌==◌, Bool, true, false, List, [], ◌∷◌, length, slice_index_or}
 use Rattle.aggs.specs.Accs.{acc_of}
-use Rattle.aggs.specs.Room.{cell_limit}
-use Rattle.aggs.specs.Values.{IsNoText}
 use Rattle.aggs.specs.declared.acc.Acc.{Acc}
 use Rattle.aggs.specs.declared.acc.Kind.{Kind}
-use Rattle.aggs.specs.declared.acc.Kind.TheVariants as kind
-use Rattle.cells.specs.Fitting.{AreStored}
 use Rattle.cells.specs.declared.cell.Cell.{Cell}
 
 abbrev pub keep_if : {X : Type 0} → Bool → X → List X → List X
@@ -24,9 +19,3 @@ those_of n (k ∷ numbers) (x ∷ xs) = keep_if (k == n) x (those_of n numbers x
 pub record AreTallied {H : Type 0} (kind : Kind) (count : ℕ) (numbers : List ℕ) (cells : List Cell) (accs : List (Acc H)) : Type 0 where
   pub counted : length accs ≡ count
   pub each : (n : ℕ) → n < count → (d : Acc H) → slice_index_or accs n d ≡ acc_of kind (those_of n numbers cells)
-
--- accumulators of the kind may be stepped with these cells: none is a text under SUM, and they are few enough
-pub record MayTally (k : Kind) (cells : List Cell) : Type 0 where
-  pub stored : AreStored cells
-  pub numbers : k ≡ kind.Sum → AllByRecursion IsNoText cells
-  pub few : length cells ≤ cell_limit

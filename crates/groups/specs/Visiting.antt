@@ -2,7 +2,7 @@
 use Rattle.std.specs.Prelude.{◌≡◌, ℕ, List, [], ◌∷◌, ◌++◌, Option}
 use Rattle.cells.specs.Values.{RowValue}
 use Rattle.cells.specs.declared.cell.Cell.{Cell}
-use Rattle.groups.specs.Bags.{Covers, FitsSet, Group, HasRoom}
+use Rattle.groups.specs.Bags.{Covers, Group, HasRoom}
 use Rattle.groups.specs.Groups.{kept}
 use Rattle.groups.specs.declared.aggregation.Aggregation.{Aggregation}
 use Rattle.query.specs.Trees.{PredicateTree}
@@ -14,10 +14,9 @@ pub record TakesKept {H : Type 0} (condition : Option (PredicateTree (Test ℕ))
 
 -- what folds rows, as a value of any type: its predicate, its aggregates, its set and its groups
 module _ {S H : Type 0} (condition : S → Option (PredicateTree (Test ℕ))) (aggregations : S → List Aggregation) (set : S → List ℕ) (groups : S → List (Group H)) where
-  -- it may be lent the row
-  pub record MayVisit (filler : S) (key : Cell) (row : RowValue) : Type 0 where
-    pub fits : FitsSet (aggregations filler) (set filler) row
-    pub room : HasRoom (aggregations filler) (set filler) row (groups filler)
+  -- it may be lent the row: its groups have room for it
+  abbrev pub MayVisit : S → Cell → RowValue → Type 0
+  MayVisit filler key row = HasRoom (aggregations filler) (set filler) (groups filler)
 
   -- it takes the row, and nothing but its groups changes
   pub record Visits (old : S) (key : Cell) (row : RowValue) (new : S) : Type 0 where

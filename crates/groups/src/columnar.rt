@@ -2,12 +2,11 @@
 //! aggregate goes over its column (Boncz, Zukowski and Nes, MonetDB/X100, 2005).
 ghost use Rattle.std.specs.Prelude.{◌≡◌, ◌≤◌, ◌^◌, List, IfOk, IfSome, ◌<◌, length, map};
 ghost use Rattle.std.specs.List.{AllByRecursion, AllZip};
-ghost use Rattle.aggs.specs.Room.{cell_limit};
 ghost use Rattle.cells.specs.Values.{RowValue};
 ghost use Rattle.columns.specs.Columns.{Hold};
 ghost use Rattle.groups.specs.Bags.{Covers};
-ghost use Rattle.groups.specs.Columnar.{MayCount, MayTallyRows, TalliesRows, accs_at, groups_from};
-ghost use Rattle.groups.specs.Numbered.{NumberAll, picked_rows};
+ghost use Rattle.groups.specs.Columnar.{TalliesRows, accs_at, groups_from};
+ghost use Rattle.groups.specs.Numbered.{HaveRows, NumberAll, picked_rows};
 
 use crate::accumulators::Accumulators;
 use crate::aggregation::Aggregation;
@@ -28,7 +27,7 @@ pub fn bag_of<H: KeyHash<Cell>>(
     aggregations: &[Aggregation],
     rows: &[u32],
 ) -> Result<Option<Bag<H>>, AllocError>
-    requires { MayCount aggregations.now columns.now rows.now }
+    requires { HaveRows columns.now rows.now }
     ensures { (all : List RowValue) → Hold all columns.now →
         IfOk result (λ made. IfSome made (λ bag. Covers aggregations.now set.now (picked_rows all rows.now) bag)) }
 {
@@ -50,7 +49,7 @@ fn tallies<H: KeyHash<Cell>>(
     rows: &[u32],
     groups: &Grouped,
 ) -> Result<Option<Vec<Vec<Acc<H>>>>, AllocError>
-    requires may { AllByRecursion (MayTallyRows columns.now rows.now) aggregations.now }
+    requires rows { HaveRows columns.now rows.now }
     requires all { NumberAll (length rows.now) groups.now.numbers.items groups.now.tuples.items }
     ensures { (all : List RowValue) → Hold all columns.now →
         IfOk result (λ made. IfSome made (λ v. AllZip (TalliesRows (picked_rows all rows.now) groups.now.numbers.items (length groups.now.tuples.items)) aggregations.now (map (λ accs. accs.items) v.items))) }
@@ -73,7 +72,7 @@ fn tally<H: KeyHash<Cell>>(
     rows: &[u32],
     groups: &Grouped,
 ) -> Result<Option<Vec<Acc<H>>>, AllocError>
-    requires may { MayTallyRows columns.now rows.now aggregation.now }
+    requires rows { HaveRows columns.now rows.now }
     requires all { NumberAll (length rows.now) groups.now.numbers.items groups.now.tuples.items }
     ensures { (all : List RowValue) → Hold all columns.now →
         IfOk result (λ made. IfSome made (λ v. TalliesRows (picked_rows all rows.now) groups.now.numbers.items (length groups.now.tuples.items) aggregation.now v.items)) }

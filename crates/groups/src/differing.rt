@@ -2,12 +2,13 @@
 //! however many rows have it.
 ghost use Rattle.std.specs.Prelude.{◌≡◌, ◌<◌, ◌≤◌, IfOk, IfSome, length, map};
 ghost use Rattle.std.specs.List.{AllByRecursion};
+ghost use Rattle.aggs.specs.Room.{cell_limit};
 ghost use Rattle.aggs.specs.declared.acc.Kind.TheVariants as kind;
 ghost use Rattle.columns.specs.Columns.{decoded};
 ghost use Rattle.groups.specs.Differing.{cells_of_parts, groups_of_parts};
 ghost use Rattle.groups.specs.Numbered.{HasRows};
 ghost use Rattle.groups.specs.Parting.{AreWithinBoth, codes_at};
-ghost use Rattle.groups.specs.Tallying.{AreTallied, MayTally};
+ghost use Rattle.groups.specs.Tallying.{AreTallied};
 
 use crate::parting::{Part, Parts, parted};
 use crate::tallying::empty_accs;
@@ -27,7 +28,6 @@ pub fn tallied_different<H: KeyHash<Cell>>(
 ) -> Result<Option<Vec<Acc<H>>>, AllocError>
     requires rows { HasRows column.now rows.now }
     requires numbers { (length numbers.now ≡ length rows.now) × AllByRecursion (λ n. n < count) numbers.now }
-    requires may { MayTally kind.CountDistinct (decoded column.now.cells (codes_at column.now.by_row rows.now)) }
     ensures { IfOk result (λ made. IfSome made (λ v. AreTallied kind.CountDistinct count numbers.now (decoded column.now.cells (codes_at column.now.by_row rows.now)) v.items)) }
 {
     let codes = column.codes();
@@ -47,7 +47,7 @@ fn tallied_parts<H: KeyHash<Cell>>(
     cells: &[Cell],
 ) -> Result<Vec<Acc<H>>, AllocError>
     requires within { AreWithinBoth count (length cells.now) parts.now }
-    requires may { MayTally kind.CountDistinct (cells_of_parts cells.now parts.now) }
+    requires few { length parts.now ≤ cell_limit }
     ensures { IfOk result (λ v. AreTallied kind.CountDistinct count (groups_of_parts parts.now) (cells_of_parts cells.now parts.now) v.items) }
 {
     let mut accs = empty_accs(alloc, Kind::CountDistinct, count)?;

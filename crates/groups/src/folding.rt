@@ -4,8 +4,9 @@ ghost use Rattle.cells.specs.Values.{RowValue};
 ghost use Rattle.columns.specs.Columns.{Hold};
 ghost use Rattle.groups.specs.Folds.{group_count, FillsSources, Folds, MayFillSources, MayEnd, MayJoin, MayTakeMore};
 ghost use Rattle.groups.specs.Groups.{kept};
+ghost use Rattle.groups.specs.Keeping.{HaveRange};
 ghost use Rattle.groups.specs.Partials.{Stands, rows_of};
-ghost use Rattle.groups.specs.Ranges.{MayFoldRange, rows_from};
+ghost use Rattle.groups.specs.Ranges.{rows_from};
 ghost use Rattle.query.specs.Plans.{PlanTree};
 
 use crate::aggregation::{Aggregation, aggregations};
@@ -19,7 +20,7 @@ use crate::sources::sources_of;
 use crate::visiting::{KeptRows, fill_source};
 use cells::{Cell, KeyHash, Row, Tuple};
 use columns::Columns;
-use query::{Plan, rows_fit_columns};
+use query::Plan;
 use std::alloc::{AllocError, Global};
 use trie::Piece;
 
@@ -48,15 +49,14 @@ impl<'a, H: KeyHash<Cell> + KeyHash<Tuple>> Folding<'a, H> {
         })
     }
 
-    /// Takes the rows of the piece for which the plan's WHERE is true, behind those that are there. The piece's rows are
-    /// of the table that the plan was checked for. A row whose group is there takes memory only for what accumulators
-    /// keep of it. After an error nothing is known of the rows, and the folding is to be dropped.
+    /// Takes the rows of the piece for which the plan's WHERE is true, behind those that are there. All of them together
+    /// are at most 4,294,967,296. A row whose group is there takes memory only for what accumulators keep of it. After an
+    /// error nothing is known of the rows, and the folding is to be dropped.
     pub fn take(&mut self, alloc: Global, piece: &Piece<Cell, Row, H>) -> Result<(), AllocError>
         requires { MayTakeMore self.old (rows_of piece.now) }
         ensures { (plan : PlanTree) (rows : List RowValue) → Folds plan rows self.old →
             IfOk result (λ _. Folds plan (rows ++ kept plan.condition (rows_of piece.now)) self.new) }
     {
-        rows_fit_columns();
         let rows = KeptRows {
             piece,
             plan: self.plan,
@@ -66,10 +66,9 @@ impl<'a, H: KeyHash<Cell> + KeyHash<Tuple>> Folding<'a, H> {
         Ok(())
     }
 
-    /// The folding of those rows for which the plan's WHERE is true, of `count` rows from the place `first` on whose columns
-    /// are at hand. They are rows of the table that the plan was checked for. None where a column that the plan needs was left
-    /// out, or groups are too many for a table: then the rows are to be folded piece by piece. The only error is that a growth
-    /// was refused.
+    /// The folding of those rows for which the plan's WHERE is true, of `count` rows from the place `first` on whose
+    /// columns are at hand. None where a column that the plan needs was left out, or groups are too many for a table: then
+    /// the rows are to be folded piece by piece. The only error is that a growth was refused.
     pub fn of_rows(
         alloc: Global,
         plan: &'a Plan,
@@ -77,11 +76,10 @@ impl<'a, H: KeyHash<Cell> + KeyHash<Tuple>> Folding<'a, H> {
         first: usize,
         count: usize,
     ) -> Result<Option<Folding<'a, H>>, AllocError>
-        requires { MayFoldRange plan.now columns.now first count }
+        requires { HaveRange columns.now first count }
         ensures { (all : List RowValue) → Hold all columns.now →
             IfOk result (λ made. IfSome made (Folds plan.now (kept plan.now.condition (rows_from first count all)))) }
     {
-        rows_fit_columns();
         let none = Folding::new(alloc, plan)?;
         let Some(rows) = kept_rows(alloc, plan, columns, first, count)? else {
             return Ok(None);
@@ -119,15 +117,14 @@ impl<'a, H: KeyHash<Cell> + KeyHash<Tuple>> Folding<'a, H> {
         count
     }
 
-    /// The rows that went into another folding of the same plan, behind those that are there. Both have rows of the table
-    /// that the plan was checked for. Where none went in here, it is the other one; else the groups of both are copied, and
-    /// those of one tuple put together. The only error is that a growth was refused.
+    /// The rows that went into another folding of the same plan, behind those that are there: at most 4,294,967,296
+    /// together. Where none went in here, it is the other one; else the groups of both are copied, and those of one tuple
+    /// put together. The only error is that a growth was refused.
     pub fn join(self, alloc: Global, other: Folding<'a, H>) -> Result<Folding<'a, H>, AllocError>
         requires { MayJoin self other }
         ensures { (plan : PlanTree) (xs ys : List RowValue) → Folds plan xs self.entry → Folds plan ys other.entry →
             IfOk result (Folds plan (xs ++ ys)) }
     {
-        rows_fit_columns();
         if self.groups() == 0 {
             return Ok(other);
         }
@@ -150,7 +147,6 @@ impl<'a, H: KeyHash<Cell> + KeyHash<Tuple>> Folding<'a, H> {
         ensures { (plan : PlanTree) (rows : List RowValue) → Folds plan rows self.entry →
             IfOk result (λ p. Stands H.KeyHash-2.hash_of plan rows p) }
     {
-        rows_fit_columns();
         let Folding {
             plan,
             aggregations,

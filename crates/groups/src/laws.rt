@@ -1,33 +1,21 @@
 //! Laws of reports and of partial results, and worked reports: functions that do nothing, whose clauses say them.
-ghost use Rattle.std.specs.Prelude.{◌≡◌, List, [], ◌++◌};
+ghost use Rattle.std.specs.Prelude.{◌≡◌, List, []};
 ghost use Rattle.std.specs.List.Sorted.{IsPermutation};
 ghost use Rattle.aggs.specs.declared.acc.Acc.{Acc};
 ghost use Rattle.cells.specs.Values.{RowValue};
 ghost use Rattle.cells.specs.declared.cell.Cell.{Cell};
-ghost use Rattle.groups.specs.Groups.{kept, report_rows};
-ghost use Rattle.groups.specs.Partials.{MayFold, MayJoinRows, Stands};
+ghost use Rattle.groups.specs.Groups.{report_rows};
+ghost use Rattle.groups.specs.Partials.{Stands};
 ghost use Rattle.groups.specs.Worked.{by_having, by_region, by_two, nothing_by_region, sales, sales_by_having, sales_by_region, sales_by_two};
 ghost use Rattle.query.specs.Plans.{PlanTree};
 
 use cells::{Cell, KeyHash, Tuple};
 
-/// The order of the rows does not count: the report is the same, what stands for rows stands for them in any order, and
-/// rows that may be folded may be folded in any order.
+/// The order of the rows does not count: the report is the same, and what stands for rows stands for them in any order.
 pub fn any_order<H: KeyHash<Cell> + KeyHash<Tuple>>()
     ensures report { (plan : PlanTree) (xs ys : List RowValue) → IsPermutation xs ys → report_rows plan xs ≡ report_rows plan ys }
     ensures stands { (plan : PlanTree) (xs ys : List RowValue) (partial : List (List (List Cell × List (Acc H)))) →
         IsPermutation xs ys → Stands H.KeyHash-2.hash_of plan xs partial → Stands H.KeyHash-2.hash_of plan ys partial }
-    ensures fold { (plan : PlanTree) (xs ys : List RowValue) → IsPermutation xs ys → MayFold plan xs → MayFold plan ys }
-{}
-
-/// Parts of rows that may be folded may be folded each, what is kept of the parts is what is kept of the whole, and it
-/// may be put together again.
-pub fn parts_may_meet()
-    ensures first { (plan : PlanTree) (xs ys : List RowValue) → MayFold plan (xs ++ ys) → MayFold plan xs }
-    ensures second { (plan : PlanTree) (xs ys : List RowValue) → MayFold plan (xs ++ ys) → MayFold plan ys }
-    ensures kept { (plan : PlanTree) (xs ys : List RowValue) → kept plan.condition (xs ++ ys) ≡ kept plan.condition xs ++ kept plan.condition ys }
-    ensures meet { (plan : PlanTree) (xs ys : List RowValue) → MayFold plan (xs ++ ys) →
-        MayJoinRows plan (kept plan.condition xs) (kept plan.condition ys) }
 {}
 
 /// Worked reports, computed by the definitions: four sales by ROLLUP of their region, which is NULL in one of them, the

@@ -93,7 +93,7 @@ fn made_at_once<H: KeyHash<Cell> + KeyHash<Tuple>>(
     // These do nothing: they are the trie's laws, by which as many entries as groups are those of as many tuples.
     entries_are_a_map::<Tuple, Accumulators<H>, H>();
     let pairs = copies(alloc, groups)?;
-    let trie: Trie<Tuple, Accumulators<H>, H> = Trie::from_pairs(alloc, pairs, &mut Ticks::new())?;
+    let trie: Trie<Tuple, Accumulators<H>, H> = Trie::from_pairs(alloc, pairs)?;
     trie.keys_rise();
     if trie.len() < groups.len() as u64 {
         return Ok(None);

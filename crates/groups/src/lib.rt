@@ -29,6 +29,6 @@ mod tuples;
 mod visiting;
 
 pub use folding::Folding;
-pub use laws::{any_order, parts_may_meet, worked_reports};
+pub use laws::{any_order, worked_reports};
 pub use partial::Partial;
 pub use report_row::ReportRow;

@@ -1,8 +1,9 @@
 //! Partial results.
-ghost use Rattle.std.specs.Prelude.{◌≡◌, List, [], ◌++◌, IfOk};
+ghost use Rattle.std.specs.Prelude.{◌≡◌, ◌≤◌, List, [], ◌++◌, IfOk, length};
+ghost use Rattle.aggs.specs.Room.{cell_limit};
 ghost use Rattle.cells.specs.Values.{RowValue};
 ghost use Rattle.groups.specs.Groups.{kept, rows_over};
-ghost use Rattle.groups.specs.Partials.{MayFold, MayMeet, Stands, rows_of};
+ghost use Rattle.groups.specs.Partials.{MayMeet, Stands, rows_of};
 ghost use Rattle.query.specs.Plans.{PlanTree};
 
 use crate::accumulators::Accumulators;
@@ -55,14 +56,14 @@ impl<H: KeyHash<Cell> + KeyHash<Tuple>> Partial<H> {
         Ok(Partial { tries })
     }
 
-    /// The partial result of the rows of the piece for which the plan's WHERE is true. The piece's rows are of the table
-    /// that the plan was checked for.
+    /// The partial result of the rows of the piece for which the plan's WHERE is true. The piece has at most 4,294,967,296
+    /// rows.
     pub fn of_piece(
         alloc: Global,
         plan: &Plan,
         piece: &Piece<Cell, Row, H>,
     ) -> Result<Partial<H>, AllocError>
-        requires { MayFold plan.now (rows_of piece.now) }
+        requires { length piece.now ≤ cell_limit }
         ensures { IfOk result (λ p. Stands H.KeyHash-2.hash_of plan.now (kept plan.now.condition (rows_of piece.now)) p) }
     {
         let mut folding = Folding::new(alloc, plan)?;
@@ -70,7 +71,7 @@ impl<H: KeyHash<Cell> + KeyHash<Tuple>> Partial<H> {
         folding.into_partial(alloc)
     }
 
-    /// The partial result of both lists of rows together. Both are of one plan.
+    /// The partial result of both lists of rows together, which are at most 4,294,967,296. Both are of one plan.
     pub fn join(&self, alloc: Global, other: &Partial<H>) -> Result<Partial<H>, AllocError>
         requires { MayMeet H.KeyHash-2.hash_of self.now other.now }
         ensures { (plan : PlanTree) (xs ys : List RowValue) → Stands H.KeyHash-2.hash_of plan xs self.now → Stands H.KeyHash-2.hash_of plan ys other.now →

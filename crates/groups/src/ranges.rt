@@ -3,9 +3,8 @@ ghost use Rattle.std.specs.Prelude.{◌≡◌, ◌+◌, ◌<◌, ◌≤◌, ◌^
 ghost use Rattle.std.specs.List.{AllByRecursion, range_with_len};
 ghost use Rattle.cells.specs.Values.{RowValue};
 ghost use Rattle.columns.specs.Columns.{Hold};
-ghost use Rattle.groups.specs.Columnar.{MayCount};
 ghost use Rattle.groups.specs.Groups.{kept};
-ghost use Rattle.groups.specs.Numbered.{picked_rows};
+ghost use Rattle.groups.specs.Numbered.{HaveRows, picked_rows};
 ghost use Rattle.groups.specs.Pools.{IsPool, sets_of};
 ghost use Rattle.groups.specs.Ranges.{rows_from};
 
@@ -26,7 +25,7 @@ pub fn sources_from<H: KeyHash<Cell>>(
     rows: &[u32],
     sources: &[SetBag<H>],
 ) -> Result<Option<Vec<SetBag<H>>>, AllocError>
-    requires { MayCount aggregations.now columns.now rows.now }
+    requires { HaveRows columns.now rows.now }
     ensures sets { IfOk result (λ made. IfSome made (λ v. sets_of v.items ≡ sets_of sources.now)) }
     ensures pool { (all : List RowValue) → Hold all columns.now →
         IfOk result (λ made. IfSome made (λ v. IsPool aggregations.now (picked_rows all rows.now) v.items)) }

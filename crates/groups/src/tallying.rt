@@ -7,7 +7,7 @@ ghost use Rattle.cells.specs.declared.cell.Cell.{Cell};
 ghost use Rattle.columns.specs.Columns.{decoded};
 ghost use Rattle.groups.specs.Numbered.{HasRows};
 ghost use Rattle.groups.specs.Parting.{codes_at};
-ghost use Rattle.groups.specs.Tallying.{AreTallied, MayTally};
+ghost use Rattle.groups.specs.Tallying.{AreTallied};
 
 use crate::differing::tallied_different;
 use aggs::{Acc, Kind};
@@ -27,7 +27,6 @@ pub fn tallied<H: KeyHash<Cell>>(
 ) -> Result<Vec<Acc<H>>, AllocError>
     requires rows { HasRows column.now rows.now }
     requires numbers { (length numbers.now ≡ length rows.now) × AllByRecursion (λ n. n < count) numbers.now }
-    requires may { MayTally kind (decoded column.now.cells (codes_at column.now.by_row rows.now)) }
     ensures { IfOk result (λ v. AreTallied kind count numbers.now (decoded column.now.cells (codes_at column.now.by_row rows.now)) v.items) }
 {
     if let Kind::CountDistinct = kind {
@@ -49,7 +48,6 @@ fn stepped<H: KeyHash<Cell>>(
 ) -> Result<Vec<Acc<H>>, AllocError>
     requires rows { HasRows column.now rows.now }
     requires numbers { (length numbers.now ≡ length rows.now) × AllByRecursion (λ n. n < count) numbers.now }
-    requires may { MayTally kind (decoded column.now.cells (codes_at column.now.by_row rows.now)) }
     ensures { IfOk result (λ v. AreTallied kind count numbers.now (decoded column.now.cells (codes_at column.now.by_row rows.now)) v.items) }
 {
     let codes = column.codes();

@@ -1,6 +1,6 @@
 //! Tuples made of some of the cells of a row, or of a finer tuple.
-ghost use Rattle.std.specs.Prelude.{◌≡◌, ◌↔◌, IfOk, IsTrue, length};
-ghost use Rattle.groups.specs.Bags.{AreWithin, picked};
+ghost use Rattle.std.specs.Prelude.{◌≡◌, ◌↔◌, IfOk, IsTrue};
+ghost use Rattle.groups.specs.Bags.{picked};
 
 use cells::{Cell, Tuple};
 use std::alloc::{AllocError, Global};
@@ -8,28 +8,28 @@ use std::alloc::{AllocError, Global};
 /// An odd number of 64 bits whose ones and zeros follow no pattern: 2^64 divided by the golden ratio.
 const SPREAD: u64 = 11_400_714_819_323_198_485;
 
-/// The tuple of the cells at the places.
+/// The tuple of the cells at the places, with NULL where there is no such place.
 pub fn tuple_of(alloc: Global, cells: &[Cell], places: &[usize]) -> Result<Tuple, AllocError>
-    requires { AreWithin (length cells.now) places.now }
     ensures { IfOk result (λ t. t ≡ picked places.now cells.now) }
 {
     let mut tuple = Vec::new(alloc);
     for place in places {
-        tuple.push(cells[*place].clone()?)?;
+        let cell = cells.get(*place).unwrap_or(&Cell::Null);
+        tuple.push(cell.clone()?)?;
     }
     Ok(Tuple::new(tuple))
 }
 
 /// Whether the tuple is that of the cells at the places. It takes no memory.
 pub fn is_tuple_of(tuple: &[Cell], cells: &[Cell], places: &[usize]) -> bool
-    requires { AreWithin (length cells.now) places.now }
     ensures { IsTrue result ↔ (tuple.now ≡ picked places.now cells.now) }
 {
     if tuple.len() != places.len() {
         return false;
     }
     for (i, place) in places.iter().enumerate() {
-        if tuple[i] != cells[*place] {
+        let cell = cells.get(*place).unwrap_or(&Cell::Null);
+        if tuple[i] != *cell {
             return false;
         }
     }
@@ -38,12 +38,10 @@ pub fn is_tuple_of(tuple: &[Cell], cells: &[Cell], places: &[usize]) -> bool
 
 /// A hash of the cells at the places, of which nothing is asked but speed: a cell costs as many steps as it has words of
 /// eight bytes. It takes no memory.
-pub fn hash_of(cells: &[Cell], places: &[usize]) -> u64
-    requires { AreWithin (length cells.now) places.now }
-{
+pub fn hash_of(cells: &[Cell], places: &[usize]) -> u64 {
     let mut hash = 0u64;
     for place in places {
-        hash = with_cell(hash, &cells[*place]);
+        hash = with_cell(hash, cells.get(*place).unwrap_or(&Cell::Null));
     }
     // A product has its best bits at the top.
     hash ^ (hash >> 32)

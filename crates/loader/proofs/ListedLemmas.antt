@@ -10,7 +10,7 @@ use Rattle.cells.specs.Values.{RowValue, Table}
 use Rattle.cells.specs.declared.cell.Cell.{Cell}
 use Rattle.trie.specs.Maps.{map_of}
 use Rattle.loader.specs.Tries.{HoldsShares}
-use Rattle.loader.specs.Listed.{AreRead, Lists}
+use Rattle.loader.specs.Listed.{AreRead}
 use Rattle.loader.specs.Loads.{Held, IsRead, Loads, ReadsPart}
 use Rattle.loader.specs.Parts.{FaultyRecord, Part, and_parts, rows_of_part, rows_of_parts}
 use Rattle.loader.specs.Shares.{AreSpread, Pairs}
@@ -67,13 +67,6 @@ listed_more hash_of t said part old new shares more all so_far took read joined 
       ∙ rows_before part.0 so_far.rs read.rs (rows_of_parts t new);
 }
 
--- one part was taken, which has a faulty record
-pub listed_fault : (hash_of : Cell → ℕ) (t : Table) (said : Result (List RowValue) FaultyRecord) (part : Part) (old new : List Part) (shares : List Pairs) (entry : ℕ) →
-    Listed hash_of t said old shares → old ≡ part ∷ new → rows_of_part t part.1 ≡ Err entry → said ≡ Err (record { part = part.0; entry = entry })
-listed_fault hash_of t said part old new shares entry so_far took bad =
-    so_far.is ∙ ap (λ left. before so_far.rs (rows_of_parts t left)) took
-    ∙ ap (λ o. before so_far.rs (and_parts part.0 o (rows_of_parts t new))) bad
-
 -- all parts were taken
 pub listed_end : (hash_of : Cell → ℕ) (t : Table) (said : Result (List RowValue) FaultyRecord) (left : List Part) (shares : List Pairs) → Listed hash_of t said left shares → left ≡ [] →
     IsRead hash_of t said shares
@@ -94,12 +87,6 @@ module _ (hash_of : Cell → ℕ) (t : Table) (said : Result (List RowValue) Fau
 
   pub all_fit : (all : Held) → HoldsShares hash_of shares all → AreRowsOf t (map_of cell_cmp all)
   all_fit all held = (held t read.rs read.spread read.fit).fit
-
--- where there are no rows, nothing is loaded, for the same fault
-pub none_loaded : (hash_of : Cell → ℕ) (t : Table) (said : Result (List RowValue) FaultyRecord) (fault : PartFault) → Lists hash_of t said (Err fault) → Loads said (Err fault)
-none_loaded hash_of t said (Bad part entry) lists = lists
-none_loaded hash_of t said OutOfMemory lists = tt
-none_loaded hash_of t said NoWorker lists = tt
 
 -- ---- what was found, part by part
 

@@ -72,13 +72,6 @@ reached_end hash_of t said number left shares reached none = record {
   fit = reached.fit;
 }
 
--- one record was read, which spells no row
-pub reached_fault : (hash_of : Cell → ℕ) (t : Table) (said : Result (List RowValue) ℕ) (number : ℕ) (old new : List (List (List ℕ))) (fields : List (List ℕ)) (shares : List Pairs) →
-    Reached hash_of t said number old shares → old ≡ fields ∷ new → row_of t fields ≡ None → said ≡ Err number
-reached_fault hash_of t said number old new fields shares reached took bad =
-    reached.is ∙ ap (λ left. behind reached.rs (rows_from t number left)) took
-    ∙ ap (λ o. behind reached.rs (and_rows number o (rows_from t (number + 1) new))) bad
-
 -- ---- the header
 
 -- what is read behind the header is read from the whole part

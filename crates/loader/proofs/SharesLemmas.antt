@@ -87,9 +87,6 @@ pub record AppendedBelow (old behind new : List Pairs) (share : ℕ) : Type 0 wh
   pub done : (i : ℕ) → i < share → get_or new i [] ≡ get_or old i [] ++ get_or behind i []
   pub left : (i : ℕ) → share ≤ i → get_or new i [] ≡ get_or old i []
 
-pub appended_none : (old behind : List Pairs) → AppendedBelow old behind old 0
-appended_none old behind = record { many = refl; done = λ i within. absurd (omega arith); left = λ i from. refl }
-
 appended_one : (old behind now : List Pairs) (share : ℕ) (more : Pairs) → AppendedBelow old behind now share → share < length old → more ≡ get_or behind share [] →
     AppendedBelow old behind (set now share (get_or now share [] ++ more)) (share + 1)
 appended_one old behind now share more so_far within is = record {
@@ -129,12 +126,3 @@ next_list [] (suc share) more rest took = absurd (cc)
 next_list (first ∷ part) zero more rest took = (ap (λ list. list.items) (sym (cons_same first more part rest took).0), sym (cons_same first more part rest took).1)
 next_list (first ∷ part) (suc share) more rest took =
     let next = next_list part share more rest took in (next.0, next.1 ∙ ap (λ n. drop n (first ∷ part)) {x = suc (share + 1)} {y = suc share + 1} (omega arith))
-
--- all of them are behind those that were there
-pub spread_appended : (hash_of : Cell → ℕ) (pairs behind : Pairs) (old part new : List Pairs) → AreSpread hash_of pairs old → AreSpread hash_of behind part →
-    AppendedBelow old part new share_count → AreSpread hash_of (pairs ++ behind) new
-spread_appended hash_of pairs behind old part new first second all = record {
-  many = all.many ∙ first.many;
-  each = λ share within. all.done share within ∙ ap₂ (λ (front back : Pairs). front ++ back) (first.each share within) (second.each share within)
-      ∙ sym (filter-append (λ pair. share_of (hash_of pair.0) == share) pairs behind);
-}

@@ -3,7 +3,7 @@ ghost use Rattle.std.specs.Prelude.{◌≡◌, ◌<◌, ◌≤◌, ℕ, IfOk, Li
 ghost use Rattle.std.specs.Borrow.{Bor};
 ghost use Rattle.std.specs.List.{AllZip};
 ghost use Rattle.cells.specs.CellOrder.{cell_cmp};
-ghost use Rattle.crew.specs.Limits.{piece_limit, seat_limit};
+ghost use Rattle.crew.specs.Limits.{piece_limit};
 ghost use Rattle.crew.specs.Shares.{AreShared};
 ghost use Rattle.trie.specs.Maps.{map_of};
 ghost use Rattle.loader.specs.Limits.{listed_limit};
@@ -32,13 +32,13 @@ use trie::Trie;
 /// [`MAX_PIECES`](crew::MAX_PIECES) places in the list, with at most [`MAX_LISTED_BYTES`](crate::MAX_LISTED_BYTES) bytes
 /// together.
 ///
-/// As many workers as the smaller of `workers`, which is 1 to [`MAX_SEATS`](crew::MAX_SEATS), and the number of places
-/// read the parts, each worker in a thread of its own; what is read depends neither on their number nor on which worker
-/// reads which part. The gate is told of each place before its part is read. Where no record is faulty, a trie is then made
-/// of the rows, in two runs where there are two places or more, or in as many as there are workers, if these are more. One
-/// worker makes one run after another; more of them make a run each, in threads of their own. The gate is told of the first
-/// run before it is made, as of place 0, and of the one in the middle, as of the middle of the list. This waits for all
-/// threads that it starts, however it ends.
+/// As many workers as the smaller of `workers`, taken as 1 at least and [`MAX_SEATS`](crew::MAX_SEATS) at most, and the
+/// number of places read the parts, each worker in a thread of its own; what is read depends neither on their number nor
+/// on which worker reads which part. The gate is told of each place before its part is read. Where no record is faulty, a
+/// trie is then made of the rows, in two runs where there are two places or more, or in as many as there are workers, if
+/// these are more. One worker makes one run after another; more of them make a run each, in threads of their own. The gate
+/// is told of the first run before it is made, as of place 0, and of the one in the middle, as of the middle of the list.
+/// This waits for all threads that it starts, however it ends.
 ///
 /// [`PartFault::NoWorker`] where a thread could not be started; otherwise [`PartFault::OutOfMemory`] where there was no
 /// memory, here or for a worker; otherwise [`PartFault::Bad`] where a part has a faulty record, with the first listed
@@ -53,7 +53,6 @@ pub fn load<H: KeyHash<Cell> + Send + Sync, G: Gate, R: Threads + Wait>(
 ) -> Result<Trie<Cell, Row, H>, PartFault>
     requires many { length parts.now ≤ piece_limit }
     requires bytes { sum_by part_len (map part_of parts.now) ≤ listed_limit }
-    requires workers { (1 ≤ workers) × (workers ≤ seat_limit) }
     ensures loaded { Loads (rows_of_parts schema.now (map part_of parts.now)) result }
     ensures fits { IfOk result (λ trie. AreRowsOf schema.now (map_of cell_cmp trie)) }
 {
@@ -104,13 +103,9 @@ impl<'a, G: Gate, H: KeyHash<Cell> + Send + Sync> Task for Reading<'a, G, H> {
 
     type Made = Vec<Found>;
 
-    type Given = Vec<Found>;
-
     ghost count = { λ task. length task.parts.now };
 
     ghost makes = { λ task places made. AllZip (IsFound H.hash_of task.schema.now (map part_of task.parts.now)) places made.items };
-
-    ghost gives = { λ task places given. AllZip (IsFound H.hash_of task.schema.now (map part_of task.parts.now)) places given.items };
 
     fn begin(&self, alloc: Global) -> Result<Vec<Found>, AllocError> {
         Ok(Vec::new(alloc))
@@ -121,10 +116,6 @@ impl<'a, G: Gate, H: KeyHash<Cell> + Send + Sync> Task for Reading<'a, G, H> {
         // A faulty record is a result as any other, so that the parts of all places are read.
         let content = read_part::<H>(alloc, self.bytes(place), self.schema)?;
         Ok(made.push(Found { place, content })?)
-    }
-
-    fn end(&self, _alloc: Global, made: Vec<Found>) -> Result<Vec<Found>, AllocError> {
-        Ok(made)
     }
 }
 

@@ -222,7 +222,7 @@ fn trie_of<H: KeyHash<Cell>>(
     ensures { IfOk result (HoldsAll rows.items) }
 {
     entries_are_a_map::<Cell, Row, H>();
-    Trie::from_pairs(alloc, rows, &mut Ticks::new())
+    Trie::from_pairs(alloc, rows)
 }
 
 /// The rows of two tries, where those of the second lie over those of the first.

@@ -1,5 +1,5 @@
 -- Files read one after another.
-use Rattle.std.proofs.Common.{ℕ, ◌+◌, ◌≡◌, List, [], ◌∷◌, ◌++◌, ◌<◌, Option, ap, append_assoc, drop, length, map, refl, slice_index_or, suc, sym, ◌∙◌, take}
+use Rattle.std.proofs.Common.{ℕ, ◌+◌, ◌≡◌, List, [], ◌∷◌, ◌++◌, ◌<◌, Option, ap, append_assoc, drop, length, refl, slice_index_or, sym, ◌∙◌, take}
 use Rattle.std.proofs.lemmas.List.{take-append-drop, take_more}
 use Rattle.std.specs.List.{AllByRecursion}
 use Rattle.olap.specs.Folders.{AreTold, IsFirstUnread, Tells}
@@ -50,8 +50,3 @@ first_unread_alone P names name = record { before = []; later = names; parted = 
 pub first_unread_behind : (P : List ℕ → Type 0) (names : List (List ℕ)) (first name : List ℕ) → P first → IsFirstUnread P names name → IsFirstUnread P (first ∷ names) name
 first_unread_behind P names first name one f =
     record { before = first ∷ f.before; later = f.later; parted = ap (λ ns. first ∷ ns) f.parted; read = (one, f.read) }
-
--- as many as before
-pub length_each : {X Y : Type 0} (f : X → Y) (xs : List X) → length (map f xs) ≡ length xs
-length_each f [] = refl
-length_each f (x ∷ xs) = ap suc (length_each f xs)

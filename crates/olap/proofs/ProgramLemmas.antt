@@ -7,9 +7,10 @@ use Rattle.std.proofs.KnownBytes.{Appends-kept}
 use Rattle.clap.specs.Words.{Text}
 use Rattle.script.specs.Endings.{BeginsToWrite, Writes}
 use Rattle.script.specs.Hows.{hash_of_choice}
+use Rattle.script.specs.Viewers.{IsWritten}
 use Rattle.olap.specs.Folders.{AreTold, Tells}
 use Rattle.olap.specs.Jobs.{Ask}
-use Rattle.olap.specs.Programs.{AskToWrite, IsOutputOfJob, IsWhole}
+use Rattle.olap.specs.Programs.{AskToWrite, IsOutputOfJob}
 use Rattle.report.specs.Taken.{TakesBeginning}
 use Rattle.olap.specs.declared.job.Job.{Job}
 
@@ -33,7 +34,7 @@ begins_closed IsWhole a b c (Err e) all part k = record { whole = part.whole; is
 -- the output of a job, from what was read
 pub output_of_job : (file : List ℕ → Option (List ℕ)) (job : Job) (script : List ℕ) (parts : List (List ℕ)) →
     Tells (file job.script) script → AreTold file job.parts.items parts → (whole : List ℕ) →
-    IsWhole (hash_of_choice job.hash) (record { limit = job.how.rows; parts = parts }) job.live script whole → IsOutputOfJob file job whole
+    IsWritten (hash_of_choice job.hash) (record { limit = job.how.rows; parts = parts }) job.live script whole → IsOutputOfJob file job whole
 output_of_job file job script parts s p whole is = record { script = script; script_told = s; parts = parts; parts_told = p; is_output = is }
 
 -- the output that the words ask for, from that of their job

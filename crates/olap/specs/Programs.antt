@@ -1,26 +1,18 @@
 -- What the program does with its words, its files and its standard input.
-use Rattle.std.specs.Prelude.{◌⊎◌, ℕ, List, [], Option, Some, None}
+use Rattle.std.specs.Prelude.{◌⊎◌, ℕ, List, [], Option}
 use Rattle.clap.specs.Words.{IsAmong, Text, fault_of}
 use Rattle.clap.specs.declared.error.kind.ErrorKind.TheVariants.{DisplayHelp, DisplayVersion}
 use Rattle.script.specs.Hows.{default_hash, default_settings, hash_of_choice}
-use Rattle.script.specs.Givens.{Givens}
 use Rattle.script.specs.Output.{IsOutput}
-use Rattle.script.specs.Tails.{IsLive}
-use Rattle.cells.specs.declared.cell.Cell.{Cell}
+use Rattle.script.specs.Viewers.{IsWritten}
 use Rattle.olap.specs.CommandLine.{olap}
 use Rattle.olap.specs.Folders.{AreTold, Tells}
 use Rattle.olap.specs.Jobs.{Ask}
 use Rattle.olap.specs.declared.job.Job.{Job}
-use Rattle.olap.specs.declared.live.Live.{Live}
 
 -- the words ask for help or for the version
 abbrev pub AskForHelp : List Text → Type 0
 AskForHelp words = IsAmong DisplayHelp (fault_of olap words) ⊎ IsAmong DisplayVersion (fault_of olap words)
-
--- this is what a run writes, or one with viewers
-abbrev pub IsWhole : (Cell → ℕ) → Givens → Option Live → List ℕ → List ℕ → Type 0
-IsWhole hash givens None script whole = IsOutput hash givens script whole
-IsWhole hash givens (Some live) script whole = IsLive hash givens (record { query = live.query; viewers = live.viewers; shots = live.shots }) script whole
 
 -- this is the output of a job, whose files hold what is told
 pub record IsOutputOfJob (file : Text → Option (List ℕ)) (job : Job) (whole : List ℕ) : Type 0 where
@@ -28,7 +20,7 @@ pub record IsOutputOfJob (file : Text → Option (List ℕ)) (job : Job) (whole 
   pub script_told : Tells (file job.script) script
   pub parts : List (List ℕ)
   pub parts_told : AreTold file job.parts.items parts
-  pub is_output : IsWhole (hash_of_choice job.hash) (record { limit = job.how.rows; parts = parts }) job.live script whole
+  pub is_output : IsWritten (hash_of_choice job.hash) (record { limit = job.how.rows; parts = parts }) job.live script whole
 
 -- the words ask for a run over these files, and this is its output
 pub record AskToWrite (file : Text → Option (List ℕ)) (words : List Text) (whole : List ℕ) : Type 0 where

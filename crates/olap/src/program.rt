@@ -1,21 +1,21 @@
 //! The program's whole deed over any files, reader and writers: `main` calls it with those of the system.
-ghost use Rattle.std.specs.Prelude.{◌≡◌, ◌⊎◌, ◌+◌, ◌<◌, ◌^◌, [], map, option_copied, string_bytes};
+ghost use Rattle.std.specs.Prelude.{◌≡◌, ◌⊎◌, [], map, string_bytes};
 ghost use Rattle.std.specs.Io.Buffered.{writer_buffer, writer_contents};
 ghost use Rattle.std.specs.Io.KnownBytes.{Keeps};
-ghost use Rattle.script.specs.Endings.{BeginsToWrite, Delivers, Writes};
+ghost use Rattle.script.specs.Endings.{BeginsToWrite, Writes};
 ghost use Rattle.script.specs.Givens.{givens};
 ghost use Rattle.script.specs.Hows.{hash_of_choice};
+ghost use Rattle.script.specs.Viewers.{IsWritten, asked_of};
 ghost use Rattle.olap.specs.Jobs.{IsHelp};
-ghost use Rattle.olap.specs.Programs.{AskForHelp, AskToWrite, IsOutputOf, IsOutputOfJob, IsWhole};
+ghost use Rattle.olap.specs.Programs.{AskForHelp, AskToWrite, IsOutputOf, IsOutputOfJob};
 
 use crate::close::{NOTHING_RUN, WRITTEN, close_run};
 use crate::input::{Folder, Input, read_input};
 use crate::job::{Job, WordsFault};
-use crate::live::Live;
 use crate::words::job_of;
 use crew::Open;
-use report::{Out, Pour};
-use script::{Ended, HashChoice, How, live_last, run_last};
+use report::Pour;
+use script::{HashChoice, How, Setup, Viewing, run_last};
 use std::alloc::Global;
 use std::io::{BufWriter, Read, Write};
 use std::sync::Wait;
@@ -72,7 +72,7 @@ fn run_job<F: Folder, W: Write + Drop, E: Write, R: Threads + Wait + Sync>(
             alloc,
             &job.how,
             job.hash,
-            job.live.as_ref(),
+            job.viewing(),
             &input,
             out,
             err,
@@ -115,67 +115,40 @@ pub fn run_standard_input<I: Read + Drop, W: Write + Drop, E: Write, R: Threads 
     )
 }
 
-/// Runs the script over the parts, flushes what it wrote, and gives the program's status and the
-/// writer back: 0 where the output was written whole and none of it waits in the buffer, and 3 where a
+/// Runs the script over the parts, with viewers beside it where there are some, flushes what it wrote, and gives the program's
+/// status and the writer back: 0 where the output was written whole and none of it waits in the buffer, and 3 where a
 /// beginning of it was written, and why it ended is on `err`. The memory of the run's table is left to the system.
-pub fn run_input<W: Write + Drop, E: Write, R: Threads + Wait + Sync>(
-    rt: &R,
+pub fn run_input<'a, W: Write + Drop, E: Write, R: Threads + Wait + Sync>(
+    rt: &'a R,
     alloc: Global,
-    how: &How,
+    how: &'a How,
     hash: HashChoice,
-    live: Option<&Live>,
-    input: &Input,
+    viewing: Option<Viewing<&'a str>>,
+    input: &'a Input,
     out: BufWriter<W>,
     err: &mut E,
 ) -> (u8, BufWriter<W>)
     ensures status { (result.0 ≡ 0) ⊎ (result.0 ≡ 3) }
-    ensures written { result.0 ≡ 0 → Writes (IsWhole (hash_of_choice hash) (givens how.now.rows input.now.parts.items) (option_copied live.entry) input.now.script.items)
+    ensures written { result.0 ≡ 0 → Writes (IsWritten (hash_of_choice hash) (givens how.now.rows input.now.parts.items) (asked_of viewing.entry) input.now.script.items)
         (writer_contents W.contents out) (writer_contents W.contents result.1) }
     ensures flushed { result.0 ≡ 0 → writer_buffer result.1 ≡ [] }
-    ensures beginning { BeginsToWrite (IsWhole (hash_of_choice hash) (givens how.now.rows input.now.parts.items) (option_copied live.entry) input.now.script.items)
+    ensures beginning { BeginsToWrite (IsWritten (hash_of_choice hash) (givens how.now.rows input.now.parts.items) (asked_of viewing.entry) input.now.script.items)
         (writer_contents W.contents out) (writer_contents W.contents result.1) }
     ensures quiet { result.0 ≡ 0 → err.new ≡ err.old }
 {
     let mut pour = Pour::new(out);
-    let ended = run_for(rt, alloc, how, hash, live, input, &mut pour);
+    let setup = Setup {
+        rt,
+        alloc,
+        how,
+        parts: input.parts.as_slice(),
+        viewing,
+        gate: &Open,
+    };
+    let ended = run_last(&setup, hash, input.script.as_slice(), &mut pour);
     let mut out = pour.into_inner();
     let status = close_run(ended, &mut out, err);
     (status, out)
-}
-
-/// Runs the script over the parts, with viewers beside it where there are some. The memory of the run's table is left
-/// to the system.
-fn run_for<O: Out, R: Threads + Wait + Sync>(
-    rt: &R,
-    alloc: Global,
-    how: &How,
-    hash: HashChoice,
-    live: Option<&Live>,
-    input: &Input,
-    out: &mut O,
-) -> Result<(), Ended>
-    requires { O.faults out.old + 1 < 2 ^ 64 }
-    ensures delivered { Delivers O.taken O.faults out.old out.new
-        (IsWhole (hash_of_choice hash) (givens how.now.rows input.now.parts.items) (option_copied live.entry) input.now.script.items) result }
-{
-    let script = input.script.as_slice();
-    let parts = input.parts.as_slice();
-    match live {
-        None => run_last(rt, alloc, hash, script, parts, how, &Open, out),
-        Some(live) => live_last(
-            rt,
-            alloc,
-            hash,
-            script,
-            parts,
-            how,
-            live.viewers,
-            live.shots,
-            live.query.as_str(),
-            &Open,
-            out,
-        ),
-    }
 }
 
 /// Says which file can't be read.

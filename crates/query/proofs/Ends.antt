@@ -1,13 +1,15 @@
 -- The parts of a query that end its tokens: what each rule turns into.
-use Rattle.std.proofs.Common.{◌≡◌, ◌≢◌, ℕ, Bool, false, List, [], ◌∷◌, Option, Some, None, refl, sym, ap, ◌∙◌, subst}
-use Rattle.std.specs.Prelude.{bytes_eq, codes}
+use Rattle.std.proofs.Common.{◌≡◌, ◌≢◌, ℕ, Bool, false, List, [], ◌∷◌, Option, Some, None, Result, Ok, Err, inr, refl, sym, ap, ◌∙◌, subst}
+use Rattle.std.specs.Prelude.{MatchResult, bytes_eq, codes}
+use Rattle.cells.specs.declared.refused.Refused.{Refused}
+use Rattle.cells.specs.declared.refused.Refused.TheVariants.{QuerySyntax}
 use Rattle.cells.specs.declared.token.Token.{Token}
 use Rattle.cells.specs.declared.token.Token.TheVariants.{Word}
 use Rattle.query.specs.Trees.{ElementTree, PredicateTree}
 use Rattle.query.specs.Values.{FromTree, GroupedTree, GroupsTree, HavingTree, QueryTree, all_rows, from_tree, no_having, query_tree}
 use Rattle.query.specs.Grammar.{Separated, SpellsItem, SpellsName, SpellsElement, SpellsPredicate, SpellsWhere, no_where, where_predicate, SpellsGroups, no_groups, group_by, SpellsHaving, without_having, having, SpellsMark, SpellsQuery, query, comma, BY, DISTINCT, FROM, GROUP, HAVING, SELECT, WHERE}
 use Rattle.query.specs.Having.{having_of}
-use Rattle.query.specs.Reading.{AfterOr, Any, BeginsNot, Ends, Marked, Starts, Found, Nothing}
+use Rattle.query.specs.Reading.{AfterOr, Any, BeginsNot, Ends, Marked, ReadsPhrase, Starts, Found, Nothing}
 use Rattle.query.specs.Ends.{SpellsBy, SpellsEnd, SpellsFrom, SpellsGrouped, SpellsLast, SpellsTail, Whole}
 use Rattle.query.specs.declared.item.Item.{Item}
 use Rattle.query.specs.declared.test.Test.{Test}
@@ -65,6 +67,11 @@ module _ (ts : List Token) where
 
   pub predicate_no_end : (p : H) (rest : List Token) → Found (Starts (SpellsPredicate SpellsItem) AfterOr ts) p rest → rest ≢ [] → Nothing (Whole SpellsLast ts)
   predicate_no_end p rest found other = record { none = λ q r s. other (sym (found.only q [] (record { spells = s.spells; apart = after_or at_end })).1) }
+
+  pub last_reads : (p : H) (rest : List Token) (r : Result H Refused) → Found (Starts (SpellsPredicate SpellsItem) AfterOr ts) p rest
+      → MatchResult r (λ q. (q ≡ p) × (rest ≡ [])) (λ e. (e ≡ QuerySyntax) × (rest ≢ [])) → ReadsPhrase (λ q. (q, [])) (Whole SpellsLast ts) r
+  last_reads p rest (Ok q) found h = subst (λ x. Found (Whole SpellsLast ts) x []) (sym h.0) (predicate_end p rest found h.1)
+  last_reads p rest (Err e) found h = inr (h.0, predicate_no_end p rest found h.1)
 
   pub predicate_none : Nothing (Starts (SpellsPredicate SpellsItem) AfterOr ts) → Nothing (Whole SpellsLast ts)
   predicate_none nothing = record { none = λ q r s. nothing.none q [] (record { spells = s.spells; apart = after_or at_end }) }

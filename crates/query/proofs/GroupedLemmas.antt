@@ -94,7 +94,7 @@ module _ (n : List ℕ) where
     some_of_each NoElements h k = absurd h
     some_of_each (MoreElements e es) h k = let a = some_sets e k.0 in let b = length-append (sets_of e) (sets_of_each es) in omega arith
 
-  pub some_grouping : (es : List ElementTree) → AreFilled es → 0 < length (grouping_sets es)
+  some_grouping : (es : List ElementTree) → AreFilled es → 0 < length (grouping_sets es)
   some_grouping [] h = omega arith
   some_grouping (e ∷ es) h = positive (length (sets_of e)) (length (grouping_sets es)) (some_sets e h.0) (some_grouping es h.1) (length-sets e es) where
     positive : (a b : ℕ) {c : ℕ} → 0 < a → 0 < b → c ≡ a * b → 0 < c

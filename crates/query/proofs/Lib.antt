@@ -7,9 +7,7 @@ pub mod HavingLemmas
 pub mod HeadingsLemmas
 pub mod NamingLemmas
 pub mod PlacesLemmas
-pub mod PlansLemmas
 pub mod ShortLemmas
-pub mod PlanLawsLemmas
 pub mod TypesLemmas
 pub mod Trees
 pub mod Lists

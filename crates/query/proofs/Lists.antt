@@ -51,9 +51,6 @@ beside_reads {S = S} join view value (Err f) (Err e) turns fault h =
     subst (λ g. (g ≡ OutOfMemory) ⊎ ((g ≡ QuerySyntax) × Nothing S)) same (turn_err turns fault)
 
 -- up to a token that ends it
-abbrev pub Until : {X : Type 0} → Token → (X → List Token → Type 0) → X → List Token → Type 0
-Until t S x rest = S x (t ∷ rest)
-
 module _ {X : Type 0} {Sp : List Token → X → List Token → Type 0} {Apart : List Token → Type 0} (t : Token) (ts : List Token) (apart : (r : List Token) → Apart (t ∷ r)) where
   pub closed : {x : X} {behind : List Token} → Found (Starts Sp Apart ts) x behind → (rest : List Token) → behind ≡ t ∷ rest → Found (λ y r. Sp ts y (t ∷ r)) x rest
   closed {x} {behind} found rest e = record {

@@ -1,5 +1,5 @@
 -- Grouping sets as marks, column by column.
-use Rattle.std.proofs.Common.{◌≡◌, ℕ, ◌+◌, ◌-◌, ◌<◌, ◌≤◌, Bool, true, false, cond, ◌||◌, append-nil, append_assoc, drop, get_or, length, take, List, [], ◌∷◌, ◌++◌, map, ◌⊎◌, if◌then◌else◌, inl, inr, refl, sym, ap, ap₂, ◌∙◌}
+use Rattle.std.proofs.Common.{◌≡◌, ℕ, ◌+◌, ◌-◌, ◌<◌, ◌≤◌, Bool, ◌||◌, append-nil, append_assoc, drop, get_or, length, take, List, [], ◌∷◌, ◌++◌, map, ◌⊎◌, if◌then◌else◌, inl, inr, refl, sym, ap, ap₂, ◌∙◌}
 use Rattle.std.proofs.lemmas.List.{at_drop_more, map-append, take_all, take_more}
 use Rattle.std.proofs.lemmas.Grind.{flat_map-append}
 use Rattle.std.proofs.lemmas.List.Folds.{list_any-append}
@@ -60,15 +60,6 @@ pub sets_step : (cs : List Column) (es : List ElementTree) (left : ℕ) (e : Ele
 sets_step cs es left e some within is sets new made n =
     n ∙ ap (λ s. flat_map (λ f. map (joined f) s) (map (marks cs) (sets_of e))) made ∙ sym (marks_sets cs e (drop left es))
     ∙ ap (λ v. map (marks cs) (grouping_sets v)) (sym (drop_back es left e some within is))
-
-pub places_step : (bs : List Bool) (i : ℕ) (b : Bool) (found new : List ℕ) → i < length bs → b ≡ get_or bs i b → marked_from 0 bs ≡ found ++ marked_from i (drop i bs)
-    → new ≡ cond b (found ++ i ∷ []) found → marked_from 0 bs ≡ new ++ marked_from (i + 1) (drop (i + 1) bs)
-places_step bs i true found new within is kept n =
-    kept ∙ ap (λ l. found ++ l) (at_drop_more (marked_from i) bs i true within ∙ ap (λ b. marked_from i (b ∷ drop (i + 1) bs)) (sym is))
-    ∙ sym (append_assoc found (i ∷ []) (marked_from (i + 1) (drop (i + 1) bs))) ∙ ap (λ l. l ++ marked_from (i + 1) (drop (i + 1) bs)) (sym n)
-places_step bs i false found new within is kept n =
-    kept ∙ ap (λ l. found ++ l) (at_drop_more (marked_from i) bs i false within ∙ ap (λ b. marked_from i (b ∷ drop (i + 1) bs)) (sym is))
-    ∙ ap (λ l. l ++ marked_from (i + 1) (drop (i + 1) bs)) (sym n)
 
 -- the places that are marked are those of the columns that the set names
 marked_places : (cs : List Column) (k : ℕ) (g : Names) → marked_from k (marks cs g) ≡ places_from k cs g

@@ -83,9 +83,6 @@ module _ {C : Type 0} {Leaf : List Token → C → List Token → Type 0} where
           (b.1, ap (λ l. (l, b.1)) same.0, record { spells = subst (λ v. SpellsOperand Leaf v b.1 r) same.1 s.2; apart = tt });
     }
 
-    pub no_bounds : Nothing (λ l r. SpellsOperand Leaf us l (AND ∷ r)) → Nothing (BoundsAt Leaf us)
-    no_bounds nothing = record { none = λ b r s. nothing.none b.0 s.0 s.1 }
-
   module _ (a : Operand C) (us : List Token) where
     -- BETWEEN and IN
     module _ (not : Bool) where

@@ -1,17 +1,13 @@
 -- Plans: queries with the places of columns for their names.
-use Rattle.std.specs.Prelude.{◌≡◌, ℕ, ◌<◌, ◌≤◌, List, [], ◌∷◌, Option, Some, None, Result, Ok, Err, bytes_eq, length, map, option_map, ⊤}
-use Rattle.std.specs.List.{AllByRecursion, position_or_len, slice_get}
+use Rattle.std.specs.Prelude.{ℕ, List, Option, Some, None, Result, Ok, Err, bytes_eq, map, option_map}
+use Rattle.std.specs.List.{position_or_len}
 use Rattle.cells.specs.Values.{Table}
 use Rattle.cells.specs.declared.refused.Refused.{Refused}
 use Rattle.cells.specs.declared.schema.Column.{Column}
-use Rattle.cells.specs.declared.schema.ColumnType.{ColumnType}
-use Rattle.cells.specs.declared.schema.ColumnType.TheVariants.{Int}
 use Rattle.query.specs.Checks.{fault_of}
 use Rattle.query.specs.Headings.{heading}
-use Rattle.query.specs.Limits.{set_limit}
 use Rattle.query.specs.Sets.{placed_sets}
 use Rattle.query.specs.Trees.{PredicateTree, Or, And, Not, Holds, PredicateTrees, NoPredicates, MorePredicates}
-use Rattle.query.specs.Truth.{IsOver}
 use Rattle.query.specs.Values.{QueryTree, items_of}
 use Rattle.query.specs.declared.item.Item.{Item}
 use Rattle.query.specs.declared.item.Item.TheVariants as item
@@ -84,43 +80,3 @@ checked_by (Some fault) plan = Err fault
 
 abbrev pub checked : Table → QueryTree → Result PlanTree Refused
 checked table query = checked_by (fault_of table query) (plan_of table query)
-
--- ---- what holds of each plan for a table
-
--- each place is below those after it
-abbrev pub PlacesRise : List ℕ → Type 0
-PlacesRise [] = ⊤
-PlacesRise (p ∷ ps) = AllByRecursion (λ q. p < q) ps × PlacesRise ps
-
--- the type of the column at the place, if there is one
-abbrev pub type_at : List Column → ℕ → Option ColumnType
-type_at columns place = option_map (λ c. c.kind) (slice_get columns place)
-
--- each place is that of a column, in SUM of an INT column
-abbrev pub IsItemOf : List Column → Item ℕ → Type 0
-IsItemOf columns (item.Column p) = p < length columns
-IsItemOf columns (item.Grouping ps) = AllByRecursion (λ p. p < length columns) ps
-IsItemOf columns item.CountRows = ⊤
-IsItemOf columns (item.Count p) = p < length columns
-IsItemOf columns (item.CountDistinct p) = p < length columns
-IsItemOf columns (item.Sum p) = type_at columns p ≡ Some Int
-IsItemOf columns (item.Min p) = p < length columns
-IsItemOf columns (item.Max p) = p < length columns
-
-abbrev pub IsConditionOf : List Column → Option (PredicateTree (Test ℕ)) → Type 0
-IsConditionOf columns None = ⊤
-IsConditionOf columns (Some p) = IsOver (length columns) p
-
--- places of columns, rising
-pub record IsSetOf (columns : List Column) (set : List ℕ) : Type 0 where
-  pub within : AllByRecursion (λ p. p < length columns) set
-  pub rising : PlacesRise set
-
--- the plan may be carried out over rows of the table
-pub record IsPlanOf (table : Table) (plan : PlanTree) : Type 0 where
-  pub items : AllByRecursion (IsItemOf table.columns) plan.items
-  pub headings : length plan.headings ≤ length plan.items
-  pub condition : IsConditionOf table.columns plan.condition
-  pub sets : AllByRecursion (IsSetOf table.columns) plan.sets
-  pub some : 0 < length plan.sets
-  pub few : length plan.sets ≤ set_limit

@@ -1,6 +1,6 @@
 -- The truth of a predicate over values, those of a row's cells or of a group's items, in three values (ISO/IEC 9075-2:1999,
 -- 8.1 <predicate> and the truth tables of its <boolean value expression>).
-use Rattle.std.specs.Prelude.{ℕ, ◌<◌, Bool, true, false, List, [], ◌∷◌, if◌then◌else◌, slice_index_or, ⊤}
+use Rattle.std.specs.Prelude.{ℕ, Bool, true, false, List, [], ◌∷◌, if◌then◌else◌, slice_index_or}
 use Rattle.std.specs.Ordering.{is_lt, is_le, is_gt, is_ge, is_eq, is_ne}
 use Rattle.std.specs.declared.cmp.Ordering.{Ordering}
 use Rattle.cells.specs.TotalOrder.{total_cmp}
@@ -103,27 +103,3 @@ abbrev mutual
   pub all_truth : PredicateTrees (Test ℕ) → List Total → Truth
   all_truth NoPredicates values = True
   all_truth (MorePredicates p ps) values = and_truth (truth p values) (all_truth ps values)
-
--- The rows that a predicate may be asked of: those that have a cell at each place that it names.
-
-abbrev pub IsWithin : ℕ → Operand ℕ → Type 0
-IsWithin n (operand.Column place) = place < n
-IsWithin n (operand.Literal l) = ⊤
-
-abbrev pub IsTestWithin : ℕ → Test ℕ → Type 0
-IsTestWithin n (Compare a c b) = IsWithin n a × IsWithin n b
-IsTestWithin n (IsNull a not) = IsWithin n a
-IsTestWithin n (Between a low high not) = IsWithin n a × IsWithin n low × IsWithin n high
-IsTestWithin n (In a ls not) = IsWithin n a
-
-abbrev mutual
-  -- all places that the predicate names are below n
-  pub IsOver : ℕ → PredicateTree (Test ℕ) → Type 0
-  IsOver n (Or ps) = AreOver n ps
-  IsOver n (And ps) = AreOver n ps
-  IsOver n (Not p) = IsOver n p
-  IsOver n (Holds t) = IsTestWithin n t
-
-  pub AreOver : ℕ → PredicateTrees (Test ℕ) → Type 0
-  AreOver n NoPredicates = ⊤
-  AreOver n (MorePredicates p ps) = IsOver n p × AreOver n ps

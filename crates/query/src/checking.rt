@@ -1,9 +1,8 @@
 //! Checks a query against the schema of a table.
-ghost use Rattle.std.specs.Prelude.{◌≡◌, IfOk, MatchResult, None, Some};
+ghost use Rattle.std.specs.Prelude.{◌≡◌, MatchResult, None, Some};
 ghost use Rattle.cells.specs.Refusals.{Reads};
 ghost use Rattle.query.specs.Checks.{fault_of, faults_of, first_of, has_too_many_sets};
-ghost use Rattle.query.specs.Plans.{IsPlanOf, checked};
-ghost use Rattle.query.specs.Values.{IsKept};
+ghost use Rattle.query.specs.Plans.{checked};
 
 use crate::counting::set_count;
 use crate::grouped::is_not_grouped;
@@ -25,8 +24,6 @@ use std::alloc::Global;
 pub fn check(alloc: Global, query: Query, schema: &Schema) -> Result<Plan, Refused>
     // The plan of the query exactly where it has no fault, and its first fault where it has one.
     ensures exact { Reads (checked schema.now query) result }
-    // The plan may be carried out over rows of the table.
-    ensures plan { IfOk result (IsPlanOf schema.now) }
 {
     let query = without_fault(query, schema)?;
     let plan = Plan::of(alloc, query, schema)?;
@@ -35,8 +32,7 @@ pub fn check(alloc: Global, query: Query, schema: &Schema) -> Result<Plan, Refus
 
 /// The query, where it has no fault for the table; else its first fault.
 fn without_fault(query: Query, schema: &Schema) -> Result<Query, Refused>
-    ensures first { MatchResult result (λ q. (q ≡ query) × (fault_of schema.now query ≡ None)) (λ e. fault_of schema.now query ≡ Some e) }
-    ensures kept { IsKept query }
+    ensures { MatchResult result (λ q. (q ≡ query) × (fault_of schema.now query ≡ None)) (λ e. fault_of schema.now query ≡ Some e) }
 {
     let fault = Faults::of(&query, schema).first();
     unless(query, fault)

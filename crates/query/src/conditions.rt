@@ -1,48 +1,19 @@
 //! Reads the predicates of WHERE and of HAVING. Chains of OR and of AND are read by loops, so that only parentheses go deep.
 ghost use Rattle.std.specs.Prelude.{◌≡◌, ◌<◌, ◌∷◌, IfOk, List, Some, length};
 ghost use Rattle.cells.specs.declared.token.Token.{Token};
-ghost use Rattle.query.specs.Grammar.{AND, BETWEEN, IN, OR, Separated, SpellsFactor, SpellsLiteral, SpellsOperand, SpellsPredicate, SpellsPrimary, SpellsTerm, SpellsTest, comma, lparen, rparen};
+ghost use Rattle.query.specs.Grammar.{AND, BETWEEN, IN, SpellsFactor, SpellsOperand, SpellsPredicate, SpellsPrimary, SpellsTerm, SpellsTest, lparen, rparen};
 ghost use Rattle.query.specs.Phrases.{BoundsAt, NullAfter, RangeAfter, TestAfter, comparison_at};
 ghost use Rattle.query.specs.Reading.{AfterAnd, AfterOr, Any, Ends, ReadsPhrase, Starts};
 
 use crate::leaf::Leaf;
 use crate::owned::closed;
 use crate::phrases::{
-    after_call, after_mark, after_word, comparison_at, literal, operand, word_mark,
+    after_call, after_mark, after_word, comparison_at, list_in, operand, word_mark,
 };
 use crate::predicate::Predicate;
-use crate::test::{Comparison, Literal, Literals, Operand, Test};
+use crate::test::{Comparison, Literals, Operand, Test};
 use cells::{Mark, Refused, Token};
 use std::alloc::Global;
-
-/// The literals at the front, with commas between, and what follows them.
-fn literals(alloc: Global, tokens: &[Token]) -> Result<(Vec<Literal>, &[Token]), Refused>
-    ensures reads { ReadsPhrase (λ x. (x.0.items, x.1.now)) (Starts (Separated comma SpellsLiteral) (Ends comma Any) tokens.now) result }
-    ensures shorter { IfOk result (λ x. length x.1.now < length tokens.now) }
-{
-    let mut found = Vec::new(alloc);
-    let mut rest = tokens;
-    loop {
-        let (literal, behind) = literal(rest)?;
-        found.push(literal)?;
-        let Some(more) = after_mark(behind, Mark::Comma) else {
-            return Ok((found, behind));
-        };
-        rest = more;
-    }
-}
-
-/// The literals up to the `)` behind them, and what follows it.
-fn literals_in(alloc: Global, tokens: &[Token]) -> Result<(Vec<Literal>, &[Token]), Refused>
-    ensures reads { ReadsPhrase (λ x. (x.0.items, x.1.now)) (λ ls r. Separated comma SpellsLiteral tokens.now ls (rparen ∷ r)) result }
-    ensures shorter { IfOk result (λ x. length x.1.now < length tokens.now) }
-{
-    let (literals, rest) = literals(alloc, tokens)?;
-    let Some(behind) = after_mark(rest, Mark::RightParen) else {
-        return Err(Refused::QuerySyntax);
-    };
-    Ok((literals, behind))
-}
 
 /// The operand up to the AND behind it, and what follows it.
 fn operand_and<C: Leaf + Drop>(
@@ -121,7 +92,7 @@ fn in_test<C: Leaf + Drop>(
     ensures reads { ReadsPhrase (λ x. (x.0, x.1.now)) (RangeAfter C.spells left negated (IN ∷ lparen ∷ tokens.now)) result }
     ensures shorter { IfOk result (λ x. length x.1.now < length tokens.now) }
 {
-    let (literals, rest) = literals_in(alloc, tokens)?;
+    let (literals, rest) = list_in(alloc, tokens)?;
     let test = Test::In {
         operand: left,
         list: Literals::new(literals),
@@ -224,28 +195,7 @@ fn factor<C: Leaf + Drop>(
     primary(alloc, tokens)
 }
 
-/// The factors at the front, with AND between, and what follows them.
-#[cycle(reader)]
-fn factors<C: Leaf + Drop>(
-    alloc: Global,
-    tokens: &[Token],
-) -> Result<(Vec<Predicate<C>>, &[Token]), Refused>
-    ensures reads { ReadsPhrase (λ x. (x.0.items, x.1.now)) (Starts (Separated AND (SpellsFactor C.spells)) AfterAnd tokens.now) result }
-    ensures shorter { IfOk result (λ x. length x.1.now < length tokens.now) }
-{
-    let mut found = Vec::new(alloc);
-    let mut rest = tokens;
-    loop {
-        let (factor, behind) = factor(alloc, rest)?;
-        found.push(factor)?;
-        let Some(more) = after_word(behind, "AND") else {
-            return Ok((found, behind));
-        };
-        rest = more;
-    }
-}
-
-/// The term at the front, and what follows it.
+/// The term at the front, which is its factors with AND between, and what follows it.
 #[cycle(reader)]
 fn term<C: Leaf + Drop>(
     alloc: Global,
@@ -254,26 +204,13 @@ fn term<C: Leaf + Drop>(
     ensures reads { ReadsPhrase (λ x. (x.0, x.1.now)) (Starts (SpellsTerm C.spells) AfterAnd tokens.now) result }
     ensures shorter { IfOk result (λ x. length x.1.now < length tokens.now) }
 {
-    let (factors, rest) = factors(alloc, tokens)?;
-    Ok((Predicate::all_of(factors), rest))
-}
-
-/// The terms at the front, with OR between, and what follows them.
-#[cycle(reader)]
-fn terms<C: Leaf + Drop>(
-    alloc: Global,
-    tokens: &[Token],
-) -> Result<(Vec<Predicate<C>>, &[Token]), Refused>
-    ensures reads { ReadsPhrase (λ x. (x.0.items, x.1.now)) (Starts (Separated OR (SpellsTerm C.spells)) AfterOr tokens.now) result }
-    ensures shorter { IfOk result (λ x. length x.1.now < length tokens.now) }
-{
-    let mut found = Vec::new(alloc);
+    let mut factors = Vec::new(alloc);
     let mut rest = tokens;
     loop {
-        let (term, behind) = term(alloc, rest)?;
-        found.push(term)?;
-        let Some(more) = after_word(behind, "OR") else {
-            return Ok((found, behind));
+        let (factor, behind) = factor(alloc, rest)?;
+        factors.push(factor)?;
+        let Some(more) = after_word(behind, "AND") else {
+            return Ok((Predicate::all_of(factors), behind));
         };
         rest = more;
     }
@@ -288,8 +225,16 @@ pub fn predicate<C: Leaf + Drop>(
     ensures reads { ReadsPhrase (λ x. (x.0, x.1.now)) (Starts (SpellsPredicate C.spells) AfterOr tokens.now) result }
     ensures shorter { IfOk result (λ x. length x.1.now < length tokens.now) }
 {
-    let (terms, rest) = terms(alloc, tokens)?;
-    Ok((Predicate::any_of(terms), rest))
+    let mut terms = Vec::new(alloc);
+    let mut rest = tokens;
+    loop {
+        let (term, behind) = term(alloc, rest)?;
+        terms.push(term)?;
+        let Some(more) = after_word(behind, "OR") else {
+            return Ok((Predicate::any_of(terms), behind));
+        };
+        rest = more;
+    }
 }
 
 /// The predicate up to the `)` behind it, and what follows it.

@@ -1,12 +1,12 @@
 //! Whether the columns of a select list and of HAVING are in the grouping sets. No set is made for it.
 ghost use Rattle.std.specs.Prelude.{◌≡◌, bytes_eq, not};
-ghost use Rattle.std.specs.List.{flat_map, list_any};
+ghost use Rattle.std.specs.List.{list_any};
 ghost use Rattle.query.specs.Checks.{is_in_some, is_not_grouped, is_ungrouped};
-ghost use Rattle.query.specs.Names.{element_names};
 ghost use Rattle.query.specs.Sets.{grouping_sets};
 ghost use Rattle.query.specs.Values.{AreFilled};
 
-use crate::element::{Element, ElementForm, Unit};
+use crate::element::Element;
+use crate::finding::{Finder, is_in_elements};
 use crate::item::Item;
 use crate::query::Query;
 use cells::Text;
@@ -61,63 +61,24 @@ fn has_ungrouped_name(elements: &[Element], names: &[Text]) -> bool
     false
 }
 
+/// Looks for names that are this one.
+#[derive(Clone, Copy, Drop)]
+struct SameName<'a> {
+    name: &'a Text,
+}
+
+impl Finder<Text> for SameName<'_> {
+    ghost finds = { λ f other. bytes_eq f.name.now other };
+
+    fn finds(&self, other: &Text) -> bool {
+        *self.name == *other
+    }
+}
+
 /// Whether some grouping set of the elements has the name: it has exactly where some element names it.
 fn is_grouped(elements: &[Element], name: &Text) -> bool
     requires { AreFilled elements.now }
     ensures { result ≡ is_in_some (grouping_sets elements.now) name.now }
 {
-    is_named_in(elements, name)
-}
-
-/// Whether some element names the name.
-fn is_named_in(elements: &[Element], name: &Text) -> bool
-    ensures { result ≡ list_any (bytes_eq name.now) (flat_map element_names elements.now) }
-{
-    for element in elements {
-        if is_named(element, name) {
-            return true;
-        }
-    }
-    false
-}
-
-/// Whether the element names the name.
-fn is_named(element: &Element, name: &Text) -> bool
-    ensures { result ≡ list_any (bytes_eq name.now) (element_names element.now) }
-{
-    match &element.form {
-        ElementForm::Empty => false,
-        ElementForm::Unit(unit) => is_of_unit(unit, name),
-        ElementForm::Rollup(units) | ElementForm::Cube(units) => is_of_units(
-            units.as_slice(),
-            name,
-        ),
-        ElementForm::Sets(elements) => {
-            for inner in elements {
-                if is_named(inner, name) {
-                    return true;
-                }
-            }
-            false
-        }
-    }
-}
-
-/// Whether some unit has the name.
-fn is_of_units(units: &[Unit], name: &Text) -> bool
-    ensures { result ≡ list_any (bytes_eq name.now) (flat_map (λ u. u) units.now) }
-{
-    for unit in units {
-        if is_of_unit(unit, name) {
-            return true;
-        }
-    }
-    false
-}
-
-/// Whether the unit has the name.
-fn is_of_unit(unit: &Unit, name: &Text) -> bool
-    ensures { result ≡ list_any (bytes_eq name.now) unit.now }
-{
-    unit.names().iter().any(|other| *name == *other)
+    is_in_elements(&SameName { name }, elements)
 }

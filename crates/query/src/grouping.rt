@@ -1,84 +1,27 @@
 //! Reads the elements of GROUP BY. Lists are read by loops, so that only a nested GROUPING SETS goes deep.
 ghost use Rattle.std.specs.Prelude.{◌≡◌, ◌≢◌, ◌<◌, ◌∷◌, List, IfOk, MatchOption, length};
 ghost use Rattle.cells.specs.declared.token.Token.{Token};
-ghost use Rattle.query.specs.Grammar.{CUBE, GROUPING, ROLLUP, SETS, Separated, SpellsElement, SpellsName, SpellsUnit, comma, lparen, rparen};
+ghost use Rattle.query.specs.Grammar.{CUBE, GROUPING, ROLLUP, SETS, Separated, SpellsElement, SpellsUnit, comma, lparen, rparen};
 ghost use Rattle.query.specs.Phrases.{IsPlain};
 ghost use Rattle.query.specs.Reading.{Any, Ends, ReadsPhrase, Starts};
 
 use crate::element::{Element, Unit};
-use crate::phrases::{after_call, after_mark, after_word, name};
+use crate::phrases::{Phrase, after_call, after_mark, after_word, list_in};
 use cells::{Mark, Refused, Text, Token};
 use std::alloc::Global;
 
-/// The names at the front, with commas between, and what follows them.
-fn names(alloc: Global, tokens: &[Token]) -> Result<(Vec<Text>, &[Token]), Refused>
-    ensures reads { ReadsPhrase (λ x. (x.0.items, x.1.now)) (Starts (Separated comma SpellsName) (Ends comma Any) tokens.now) result }
-    ensures shorter { IfOk result (λ x. length x.1.now < length tokens.now) }
-{
-    let mut found = Vec::new(alloc);
-    let mut rest = tokens;
-    loop {
-        let (name, behind) = name(rest)?;
-        found.push(name)?;
-        let Some(more) = after_mark(behind, Mark::Comma) else {
-            return Ok((found, behind));
-        };
-        rest = more;
+/// A unit by the rule of the grammar.
+impl Phrase for Unit {
+    ghost spells = { SpellsUnit };
+
+    fn read(alloc: Global, tokens: &[Token]) -> Result<(Unit, &[Token]), Refused> {
+        if let Some(more) = after_mark(tokens, Mark::LeftParen) {
+            let (names, rest) = list_in(alloc, more)?;
+            return Ok((Unit::new(names), rest));
+        }
+        let (name, rest) = Text::read(alloc, tokens)?;
+        Ok((Unit::one(alloc, name)?, rest))
     }
-}
-
-/// The names up to the `)` behind them, and what follows it.
-pub fn names_in(alloc: Global, tokens: &[Token]) -> Result<(Vec<Text>, &[Token]), Refused>
-    ensures reads { ReadsPhrase (λ x. (x.0.items, x.1.now)) (λ ns r. Separated comma SpellsName tokens.now ns (rparen ∷ r)) result }
-    ensures shorter { IfOk result (λ x. length x.1.now < length tokens.now) }
-{
-    let (names, rest) = names(alloc, tokens)?;
-    let Some(behind) = after_mark(rest, Mark::RightParen) else {
-        return Err(Refused::QuerySyntax);
-    };
-    Ok((names, behind))
-}
-
-/// The unit at the front, and what follows it.
-fn unit(alloc: Global, tokens: &[Token]) -> Result<(Unit, &[Token]), Refused>
-    ensures reads { ReadsPhrase (λ x. (x.0, x.1.now)) (Starts SpellsUnit Any tokens.now) result }
-    ensures shorter { IfOk result (λ x. length x.1.now < length tokens.now) }
-{
-    if let Some(more) = after_mark(tokens, Mark::LeftParen) {
-        let (names, rest) = names_in(alloc, more)?;
-        return Ok((Unit::new(names), rest));
-    }
-    let (name, rest) = name(tokens)?;
-    Ok((Unit::one(alloc, name)?, rest))
-}
-
-/// The units at the front, with commas between, and what follows them.
-fn units(alloc: Global, tokens: &[Token]) -> Result<(Vec<Unit>, &[Token]), Refused>
-    ensures reads { ReadsPhrase (λ x. (x.0.items, x.1.now)) (Starts (Separated comma SpellsUnit) (Ends comma Any) tokens.now) result }
-    ensures shorter { IfOk result (λ x. length x.1.now < length tokens.now) }
-{
-    let mut found = Vec::new(alloc);
-    let mut rest = tokens;
-    loop {
-        let (unit, behind) = unit(alloc, rest)?;
-        found.push(unit)?;
-        let Some(more) = after_mark(behind, Mark::Comma) else {
-            return Ok((found, behind));
-        };
-        rest = more;
-    }
-}
-
-/// The units up to the `)` behind them, and what follows it.
-fn units_in(alloc: Global, tokens: &[Token]) -> Result<(Vec<Unit>, &[Token]), Refused>
-    ensures reads { ReadsPhrase (λ x. (x.0.items, x.1.now)) (λ us r. Separated comma SpellsUnit tokens.now us (rparen ∷ r)) result }
-    ensures shorter { IfOk result (λ x. length x.1.now < length tokens.now) }
-{
-    let (units, rest) = units(alloc, tokens)?;
-    let Some(behind) = after_mark(rest, Mark::RightParen) else {
-        return Err(Refused::QuerySyntax);
-    };
-    Ok((units, behind))
 }
 
 /// What follows `GROUPING SETS (`, where the tokens begin with it.
@@ -102,7 +45,7 @@ fn rollup_element(alloc: Global, tokens: &[Token]) -> Result<(Element, &[Token])
     ensures reads { ReadsPhrase (λ x. (x.0, x.1.now)) (Starts SpellsElement Any (ROLLUP ∷ lparen ∷ tokens.now)) result }
     ensures shorter { IfOk result (λ x. length x.1.now < length tokens.now) }
 {
-    let (units, rest) = units_in(alloc, tokens)?;
+    let (units, rest) = list_in(alloc, tokens)?;
     Ok((Element::rollup(units), rest))
 }
 
@@ -111,7 +54,7 @@ fn cube_element(alloc: Global, tokens: &[Token]) -> Result<(Element, &[Token]), 
     ensures reads { ReadsPhrase (λ x. (x.0, x.1.now)) (Starts SpellsElement Any (CUBE ∷ lparen ∷ tokens.now)) result }
     ensures shorter { IfOk result (λ x. length x.1.now < length tokens.now) }
 {
-    let (units, rest) = units_in(alloc, tokens)?;
+    let (units, rest) = list_in(alloc, tokens)?;
     Ok((Element::cube(units), rest))
 }
 
@@ -120,7 +63,7 @@ fn unit_element(alloc: Global, tokens: &[Token]) -> Result<(Element, &[Token]), 
     ensures reads { IsPlain tokens.now → ReadsPhrase (λ x. (x.0, x.1.now)) (Starts SpellsElement Any tokens.now) result }
     ensures shorter { IfOk result (λ x. length x.1.now < length tokens.now) }
 {
-    let (unit, rest) = unit(alloc, tokens)?;
+    let (unit, rest) = Unit::read(alloc, tokens)?;
     Ok((Element::unit(unit), rest))
 }
 

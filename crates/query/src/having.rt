@@ -5,6 +5,7 @@ ghost use Rattle.query.specs.Names.{leaves_of, operand_leaves, test_leaves};
 ghost use Rattle.query.specs.declared.test.Test.TheVariants.{Between, Compare};
 
 use crate::item::Item;
+use crate::owned::beside;
 use crate::predicate::{Predicate, PredicateForm};
 use crate::test::{Comparison, Operand, Test};
 use cells::Text;
@@ -88,8 +89,8 @@ fn numbered_comparison(
     ensures places { IfOk result (λ t. t ≡ numbered_test (length leaves.old.items) (Compare left comparison right)) }
     ensures leaves { IfOk result (λ _. leaves.new.items ≡ leaves.old.items ++ test_leaves (Compare left comparison right)) }
 {
-    let left = numbered_operand(left, leaves)?;
-    let right = numbered_operand(right, leaves)?;
+    let (right, left) = beside(numbered_operand(left, leaves), right)?;
+    let (left, right) = beside(numbered_operand(right, leaves), left)?;
     Ok(Test::Compare(left, comparison, right))
 }
 
@@ -103,10 +104,9 @@ fn numbered_between(
     ensures places { IfOk result (λ t. t ≡ numbered_test (length leaves.old.items) (Between operand bounds.0 bounds.1 negated)) }
     ensures leaves { IfOk result (λ _. leaves.new.items ≡ leaves.old.items ++ test_leaves (Between operand bounds.0 bounds.1 negated)) }
 {
-    let (low, high) = bounds;
-    let operand = numbered_operand(operand, leaves)?;
-    let low = numbered_operand(low, leaves)?;
-    let high = numbered_operand(high, leaves)?;
+    let ((low, high), operand) = beside(numbered_operand(operand, leaves), bounds)?;
+    let ((operand, high), low) = beside(numbered_operand(low, leaves), (operand, high))?;
+    let ((operand, low), high) = beside(numbered_operand(high, leaves), (operand, low))?;
     Ok(Test::Between {
         operand,
         low,

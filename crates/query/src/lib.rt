@@ -6,6 +6,7 @@ mod conditions;
 mod counting;
 mod depth;
 mod element;
+mod finding;
 mod grouped;
 mod grouping;
 mod having;
@@ -38,9 +39,7 @@ pub use limits::{
     MAX_GROUPING_COLUMNS, MAX_ITEMS, MAX_OPEN_PARENTHESES, MAX_QUERY_BYTES, MAX_SETS,
 };
 pub use plan::Plan;
-pub use plan_laws::{
-    predicates_fit_rows, rows_fit_columns, truth_by_columns, worked_sets, worked_truths,
-};
+pub use plan_laws::{truth_by_columns, worked_sets, worked_truths};
 pub use predicate::{Predicate, PredicateForm};
 pub use query::Query;
 pub use reading::read;

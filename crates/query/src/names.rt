@@ -1,10 +1,10 @@
 //! Whether the names in a query are those of columns.
-ghost use Rattle.std.specs.Prelude.{◌≡◌, bytes_eq};
+ghost use Rattle.std.specs.Prelude.{◌≡◌, bytes_eq, not};
 ghost use Rattle.std.specs.List.{flat_map, list_any};
 ghost use Rattle.query.specs.Checks.{has_unknown, is_column, is_unknown};
-ghost use Rattle.query.specs.Names.{element_names, item_names, operand_leaves, test_leaves, tests_of};
+ghost use Rattle.query.specs.Names.{item_names, operand_leaves, test_leaves, tests_of};
 
-use crate::element::{Element, ElementForm, Unit};
+use crate::finding::{Finder, is_in_elements};
 use crate::item::Item;
 use crate::predicate::{Predicate, PredicateForm};
 use crate::query::Query;
@@ -30,7 +30,21 @@ pub fn is_unknown(query: &Query, schema: &Schema) -> bool
             return true;
         }
     }
-    has_unknown_element(columns, query.elements())
+    is_in_elements(&NoColumn { columns }, query.elements())
+}
+
+/// Looks for names that are no column's.
+#[derive(Clone, Copy, Drop)]
+struct NoColumn<'a> {
+    columns: &'a [Column],
+}
+
+impl Finder<Text> for NoColumn<'_> {
+    ghost finds = { λ f name. not (is_column f.columns.now name) };
+
+    fn finds(&self, name: &Text) -> bool {
+        !is_column(self.columns, name)
+    }
 }
 
 /// Whether there is a column of the name.
@@ -124,58 +138,6 @@ fn is_unknown_operand(columns: &[Column], operand: &Operand<Text>) -> bool
         Operand::Column(name) => !is_column(columns, name),
         Operand::Literal(_) => false,
     }
-}
-
-/// Whether some element names no column.
-fn has_unknown_element(columns: &[Column], elements: &[Element]) -> bool
-    ensures { result ≡ has_unknown columns.now (flat_map element_names elements.now) }
-{
-    for element in elements {
-        if is_unknown_element(columns, element) {
-            return true;
-        }
-    }
-    false
-}
-
-/// Whether the element names no column.
-fn is_unknown_element(columns: &[Column], element: &Element) -> bool
-    ensures { result ≡ has_unknown columns.now (element_names element.now) }
-{
-    match &element.form {
-        ElementForm::Empty => false,
-        ElementForm::Unit(unit) => is_unknown_unit(columns, unit),
-        ElementForm::Rollup(units) | ElementForm::Cube(units) => {
-            has_unknown_unit(columns, units.as_slice())
-        }
-        ElementForm::Sets(elements) => {
-            for inner in elements {
-                if is_unknown_element(columns, inner) {
-                    return true;
-                }
-            }
-            false
-        }
-    }
-}
-
-/// Whether some unit names no column.
-fn has_unknown_unit(columns: &[Column], units: &[Unit]) -> bool
-    ensures { result ≡ has_unknown columns.now (flat_map (λ u. u) units.now) }
-{
-    for unit in units {
-        if is_unknown_unit(columns, unit) {
-            return true;
-        }
-    }
-    false
-}
-
-/// Whether the unit names no column.
-fn is_unknown_unit(columns: &[Column], unit: &Unit) -> bool
-    ensures { result ≡ has_unknown columns.now unit.now }
-{
-    has_unknown_name(columns, unit.names())
 }
 
 /// Whether some name is that of no column.

@@ -1,17 +1,64 @@
-//! The short phrases at the front of tokens: words, signs, names, literals, operands. A reader answers
+//! The short phrases at the front of tokens: words, signs, names, literals, operands, and lists. A reader answers
 //! [`Refused::QuerySyntax`] exactly where the tokens begin with no such phrase, and [`Refused::OutOfMemory`] only
-//! where a growth was refused. Each `.._at` is joined to its rule of the grammar by the function without it.
+//! where a growth was refused. Each `.._at` is joined to its rule of the grammar by the reader that calls it.
 ghost use Rattle.std.specs.Bool.{Decides};
-ghost use Rattle.std.specs.Prelude.{◌≡◌, ◌<◌, ◌≤◌, ◌∷◌, IfOk, IfSome, None, Some, MatchOption, length};
+ghost use Rattle.std.specs.Prelude.{◌≡◌, ◌<◌, ◌≤◌, ◌∷◌, IfOk, IfSome, List, None, Some, MatchOption, length};
 ghost use Rattle.cells.specs.Refusals.{AnswersBy};
-ghost use Rattle.query.specs.Grammar.{SpellsLiteral, SpellsName, SpellsOperand, lparen, word};
+ghost use Rattle.cells.specs.declared.token.Token.{Token};
+ghost use Rattle.query.specs.Grammar.{Separated, SpellsLiteral, SpellsName, SpellsOperand, comma, lparen, rparen, word};
 ghost use Rattle.query.specs.Phrases.{begins_literal, comparison_at, literal_at, name_at};
-ghost use Rattle.query.specs.Reading.{Any, BeginsNot, BeginsNotCall, Marked, ReadsPhrase, Starts, sign};
+ghost use Rattle.query.specs.Reading.{Any, BeginsNot, BeginsNotCall, Ends, Marked, ReadsPhrase, Starts, sign};
 
 use crate::leaf::Leaf;
 use crate::test::{Comparison, Literal, Operand};
 use cells::{Mark, Refused, Text, Token, is_reserved};
 use std::alloc::Global;
+
+/// What is read at the front of tokens, alone or in lists.
+pub trait Phrase {
+    /// How tokens spell it.
+    ghost spells: { List Token → Self → List Token → Type 0 };
+
+    /// The phrase at the front, and what follows it.
+    fn read(alloc: Global, tokens: &[Token]) -> Result<(Self, &[Token]), Refused>
+        ensures reads { ReadsPhrase (λ x. (x.0, x.1.now)) (Starts spells Any tokens.now) result }
+        ensures shorter { IfOk result (λ x. length x.1.now < length tokens.now) };
+}
+
+/// The phrases at the front, with commas between, and what follows them.
+pub fn list<P: Phrase + Drop>(
+    alloc: Global,
+    tokens: &[Token],
+) -> Result<(Vec<P>, &[Token]), Refused>
+    ensures reads { ReadsPhrase (λ x. (x.0.items, x.1.now)) (Starts (Separated comma P.spells) (Ends comma Any) tokens.now) result }
+    ensures shorter { IfOk result (λ x. length x.1.now < length tokens.now) }
+{
+    let mut found = Vec::new(alloc);
+    let mut rest = tokens;
+    loop {
+        let (phrase, behind) = P::read(alloc, rest)?;
+        found.push(phrase)?;
+        let Some(more) = after_mark(behind, Mark::Comma) else {
+            return Ok((found, behind));
+        };
+        rest = more;
+    }
+}
+
+/// The phrases up to the `)` behind them, and what follows it.
+pub fn list_in<P: Phrase + Drop>(
+    alloc: Global,
+    tokens: &[Token],
+) -> Result<(Vec<P>, &[Token]), Refused>
+    ensures reads { ReadsPhrase (λ x. (x.0.items, x.1.now)) (λ ps r. Separated comma P.spells tokens.now ps (rparen ∷ r)) result }
+    ensures shorter { IfOk result (λ x. length x.1.now < length tokens.now) }
+{
+    let (phrases, rest) = list(alloc, tokens)?;
+    let Some(behind) = after_mark(rest, Mark::RightParen) else {
+        return Err(Refused::QuerySyntax);
+    };
+    Ok((phrases, behind))
+}
 
 /// What follows the word, where the tokens begin with it.
 pub fn after_word<'a>(tokens: &'a [Token], expected: &str) -> Option<&'a [Token]>
@@ -68,12 +115,13 @@ fn name_at(tokens: &[Token]) -> Result<(Text, &[Token]), Refused>
     Ok((name.clone()?, rest))
 }
 
-/// The name at the front by the rule of the grammar, and what follows it.
-pub fn name(tokens: &[Token]) -> Result<(Text, &[Token]), Refused>
-    ensures reads { ReadsPhrase (λ x. (x.0, x.1.now)) (Starts SpellsName Any tokens.now) result }
-    ensures shorter { IfOk result (λ x. length x.1.now < length tokens.now) }
-{
-    name_at(tokens)
+/// A name by the rule of the grammar.
+impl Phrase for Text {
+    ghost spells = { SpellsName };
+
+    fn read(_alloc: Global, tokens: &[Token]) -> Result<(Text, &[Token]), Refused> {
+        name_at(tokens)
+    }
 }
 
 /// The literal at the front, and what follows it.
@@ -91,12 +139,13 @@ fn literal_at(tokens: &[Token]) -> Result<(Literal, &[Token]), Refused>
     }
 }
 
-/// The literal at the front by the rule of the grammar, and what follows it.
-pub fn literal(tokens: &[Token]) -> Result<(Literal, &[Token]), Refused>
-    ensures reads { ReadsPhrase (λ x. (x.0, x.1.now)) (Starts SpellsLiteral Any tokens.now) result }
-    ensures shorter { IfOk result (λ x. length x.1.now < length tokens.now) }
-{
-    literal_at(tokens)
+/// A literal by the rule of the grammar.
+impl Phrase for Literal {
+    ghost spells = { SpellsLiteral };
+
+    fn read(_alloc: Global, tokens: &[Token]) -> Result<(Literal, &[Token]), Refused> {
+        literal_at(tokens)
+    }
 }
 
 /// Whether the tokens begin with a literal.
@@ -115,10 +164,10 @@ pub fn operand<C: Leaf + Drop>(
     ensures shorter { IfOk result (λ x. length x.1.now < length tokens.now) }
 {
     if begins_literal(tokens) {
-        let (literal, rest) = literal(tokens)?;
+        let (literal, rest) = Literal::read(alloc, tokens)?;
         return Ok((Operand::Literal(literal), rest));
     }
-    let (leaf, rest) = C::leaf(alloc, tokens)?;
+    let (leaf, rest) = C::read(alloc, tokens)?;
     Ok((Operand::Column(leaf), rest))
 }
 

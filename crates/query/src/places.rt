@@ -1,7 +1,6 @@
 //! The columns of a query, by their places in place of their names.
 ghost use Rattle.std.specs.Prelude.{◌≡◌, ◌++◌, IfOk, map, option_map};
 ghost use Rattle.query.specs.Plans.{place_of, placed_item, placed_operand, placed_predicate, placed_test};
-ghost use Rattle.query.specs.PredicateViews.{predicate_tree};
 ghost use Rattle.query.specs.declared.item.Item.TheVariants.{Grouping};
 ghost use Rattle.query.specs.declared.test.Test.TheVariants.{Between, Compare};
 
@@ -103,6 +102,7 @@ pub fn placed_condition(
 }
 
 /// The predicate with places for names.
+#[cycle(placing)]
 fn placed_predicate(
     alloc: Global,
     columns: &[Column],
@@ -112,29 +112,39 @@ fn placed_predicate(
 {
     match predicate.form {
         PredicateForm::Or(inners) => {
-            let mut placed = Vec::new(alloc);
-            for inner in inners {
-                placed.push(placed_predicate(alloc, columns, inner)?)?;
-            }
+            let placed = placed_each(alloc, columns, inners)?;
             Ok(Predicate {
                 form: PredicateForm::Or(placed),
             })
         }
         PredicateForm::And(inners) => {
-            let mut placed = Vec::new(alloc);
-            for inner in inners {
-                placed.push(placed_predicate(alloc, columns, inner)?)?;
-            }
+            let placed = placed_each(alloc, columns, inners)?;
             Ok(Predicate {
                 form: PredicateForm::And(placed),
             })
         }
-        PredicateForm::Not(inner) => Predicate::not(
-            alloc,
-            placed_predicate(alloc, columns, Box::into_inner(inner))?,
-        ),
+        PredicateForm::Not(inner) => {
+            let inner = placed_predicate(alloc, columns, Box::into_inner(inner))?;
+            Predicate::not(alloc, inner)
+        }
         PredicateForm::Test(test) => Ok(Predicate::test(placed_test(columns, test))),
     }
+}
+
+/// The predicates with places for names.
+#[cycle(placing)]
+fn placed_each(
+    alloc: Global,
+    columns: &[Column],
+    predicates: Vec<Predicate<Text>>,
+) -> Result<Vec<Predicate<usize>>, AllocError>
+    ensures { IfOk result (λ placed. placed.items ≡ map (placed_predicate columns.now) predicates.items) }
+{
+    let mut placed = Vec::new(alloc);
+    for predicate in predicates {
+        placed.push(placed_predicate(alloc, columns, predicate)?)?;
+    }
+    Ok(placed)
 }
 
 /// The test with places for names.

@@ -19,8 +19,8 @@ use std::alloc::{AllocError, Global};
 use std::marker::Model;
 
 /// A query with the places of columns for their names, and with its grouping sets. It is made by
-/// [`check`](crate::check), and may be carried out over rows of the table that it was checked for. No GROUPING in it has more
-/// than [`MAX_GROUPING_COLUMNS`](crate::MAX_GROUPING_COLUMNS).
+/// [`check`](crate::check), for the table that the query was checked for. No GROUPING in it has more than
+/// [`MAX_GROUPING_COLUMNS`](crate::MAX_GROUPING_COLUMNS).
 #[derive(Drop)]
 pub struct Plan {
     items: Vec<Item<usize>>,
@@ -84,7 +84,8 @@ impl Plan {
         let columns = schema.columns();
         let (query, outline) = beside(Outline::of(alloc, columns, &query), query)?;
         let (condition, having) = query.into_predicates();
-        let condition = placed_condition(alloc, columns, condition)?;
+        let condition = placed_condition(alloc, columns, condition);
+        let ((outline, having), condition) = beside(condition, (outline, having))?;
         Ok(Plan {
             items: outline.items,
             headings: outline.headings,

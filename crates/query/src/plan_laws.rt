@@ -1,18 +1,15 @@
-//! Laws of grouping sets, of truth and of plans: functions that do nothing, whose clauses say them.
-ghost use Rattle.std.specs.Prelude.{◌≡◌, ◌≢◌, ◌++◌, ℕ, List, [], ◌∷◌, Some, false, length, map, pos, slice_index_or, true};
-ghost use Rattle.cells.specs.Fitting.{IsRowOf};
-ghost use Rattle.cells.specs.Values.{RowValue, Table};
+//! Laws of grouping sets and of truth: functions that do nothing, whose clauses say them.
+ghost use Rattle.std.specs.Prelude.{◌≡◌, ◌++◌, ℕ, List, [], ◌∷◌, false, map, pos, true};
 ghost use Rattle.query.specs.Naming.{AgreeAt, columns_named};
-ghost use Rattle.query.specs.Plans.{IsPlanOf, PlanTree, type_at};
 ghost use Rattle.query.specs.Trees.{Cube, Empty, MoreElements, NoElements, Not, OneUnit, PredicateTree, Rollup, Sets, Holds};
-ghost use Rattle.query.specs.Truth.{IsOver, truth};
+ghost use Rattle.query.specs.Truth.{truth};
 ghost use Rattle.query.specs.Worked.{A, B, C, both, different_sets_over, either, fails, holds, of_null, sets_over, unknown};
 ghost use Rattle.query.specs.declared.test.Test.{Test as TestTree};
 
 use crate::item::Item;
 use crate::test::{Comparison, Literal, Operand, Test};
 use crate::truth::Truth;
-use cells::{Cell, ColumnType, Total};
+use cells::Total;
 
 /// The grouping sets of examples over a table of the columns A, B and C, computed by the definition.
 pub fn worked_sets()
@@ -66,17 +63,4 @@ pub fn worked_truths()
 /// The truth of a predicate over values is decided by those at the places of the columns that it names.
 pub fn truth_by_columns()
     ensures { (p : PredicateTree (TestTree ℕ)) (xs ys : List Total) → AgreeAt (columns_named p) xs ys → truth p xs ≡ truth p ys }
-{}
-
-/// The predicate of a plan may be asked of each row of the table that the plan is for.
-pub fn predicates_fit_rows()
-    ensures { (table : Table) (plan : PlanTree) (row : RowValue) (predicate : PredicateTree (TestTree ℕ)) →
-        IsPlanOf table plan → plan.condition ≡ Some predicate → IsRowOf table row → IsOver (length row.cells) predicate }
-{}
-
-/// Each row of a table has a cell for each column, and no text in an INT column.
-pub fn rows_fit_columns()
-    ensures cells { (table : Table) (row : RowValue) → IsRowOf table row → length row.cells ≡ length table.columns }
-    ensures integers { (table : Table) (row : RowValue) (place : ℕ) (text : List ℕ) →
-        IsRowOf table row → type_at table.columns place ≡ Some ColumnType.Int → slice_index_or row.cells place Cell.Null ≢ Cell.Text text }
 {}

@@ -18,10 +18,9 @@ use crate::grouping::elements;
 use crate::item::Item;
 use crate::limits::{MAX_GROUPING_COLUMNS, MAX_ITEMS, MAX_QUERY_BYTES};
 use crate::owned::{beside, unless};
-use crate::phrases::{after_word, name, word_mark};
+use crate::phrases::{Phrase, after_word, list, word_mark};
 use crate::predicate::Predicate;
 use crate::query::{Clauses, Grouped, Groups, Having, Query};
-use crate::select_list::items;
 use cells::{Refused, Text, Token, tokens_or};
 use std::alloc::Global;
 
@@ -153,7 +152,7 @@ fn clauses(alloc: Global, tokens: &[Token]) -> Result<Clauses, Refused>
 fn items_from(alloc: Global, tokens: &[Token]) -> Result<(Vec<Item<Text>>, &[Token]), Refused>
     ensures { ReadsPhrase (λ x. (x.0.items, x.1.now)) (λ is r. Separated comma SpellsItem tokens.now is (FROM ∷ r)) result }
 {
-    let (items, rest) = items(alloc, tokens)?;
+    let (items, rest) = list(alloc, tokens)?;
     let Some(behind) = after_word(rest, "FROM") else {
         return Err(Refused::QuerySyntax);
     };
@@ -167,7 +166,7 @@ fn table_and_tail(
 ) -> Result<(Text, Option<Predicate<Text>>, Grouped), Refused>
     ensures { ReadsPhrase (λ x. (from_tree x.0 (x.1, x.2), [])) (Whole SpellsFrom tokens.now) result }
 {
-    let (table, behind) = name(tokens)?;
+    let (table, behind) = Text::read(alloc, tokens)?;
     let (condition, grouped) = tail(alloc, behind)?;
     Ok((table, condition, grouped))
 }
@@ -202,7 +201,7 @@ fn grouped(alloc: Global, tokens: &[Token]) -> Result<Grouped, Refused>
         return grouped_by(alloc, more);
     }
     let having = having(alloc, tokens)?;
-    let groups = Groups::all_rows(alloc)?;
+    let (having, groups) = beside(Groups::all_rows(alloc), having)?;
     Ok(Grouped { groups, having })
 }
 
@@ -243,8 +242,15 @@ fn last_predicate(alloc: Global, tokens: &[Token]) -> Result<Predicate<Item<Text
     ensures { ReadsPhrase (λ p. (p, [])) (Whole SpellsLast tokens.now) result }
 {
     let (predicate, rest) = predicate(alloc, tokens)?;
+    ended(predicate, rest)
+}
+
+/// The value, where no token follows it.
+fn ended<T: Drop>(value: T, rest: &[Token]) -> Result<T, Refused>
+    ensures { MatchResult result (λ x. (x ≡ value) × (rest.now ≡ [])) (λ e. (e ≡ Refused.QuerySyntax) × (rest.now ≢ [])) }
+{
     if is_end(rest) {
-        return Ok(predicate);
+        return Ok(value);
     }
     Err(Refused::QuerySyntax)
 }

@@ -1,51 +1,25 @@
-//! Reads the items of a select list, up to what follows them.
+//! Reads the items of a select list and of HAVING.
 ghost use Rattle.std.specs.Prelude.{◌≡◌, ◌<◌, IfOk, length};
 ghost use Rattle.cells.specs.Refusals.{AnswersBy};
-ghost use Rattle.query.specs.Grammar.{GROUPING, Separated, SpellsItem, comma};
+ghost use Rattle.query.specs.Grammar.{SpellsItem};
 ghost use Rattle.query.specs.Phrases.{call_at, call_of, distinct_at, item_at, named_at, rows_at};
-ghost use Rattle.query.specs.Reading.{Any, BeginsNotCall, Ends, ReadsPhrase, Starts};
 
-use crate::grouping::names_in;
 use crate::item::{GroupingColumns, Item};
-use crate::phrases::{after_call, after_mark};
+use crate::phrases::{Phrase, after_call, list_in};
 use cells::{Mark, Refused, Text, Token, is_reserved};
 use std::alloc::Global;
 
-/// The items at the front, with commas between, and what follows them.
-pub fn items(alloc: Global, tokens: &[Token]) -> Result<(Vec<Item<Text>>, &[Token]), Refused>
-    ensures reads { ReadsPhrase (λ x. (x.0.items, x.1.now)) (Starts (Separated comma SpellsItem) (Ends comma Any) tokens.now) result }
-    ensures shorter { IfOk result (λ x. length x.1.now < length tokens.now) }
-{
-    let mut found = Vec::new(alloc);
-    let mut rest = tokens;
-    loop {
-        let (item, behind) = item(alloc, rest)?;
-        found.push(item)?;
-        let Some(more) = after_mark(behind, Mark::Comma) else {
-            return Ok((found, behind));
-        };
-        rest = more;
-    }
-}
+/// An item by the rule of the grammar.
+impl Phrase for Item<Text> {
+    ghost spells = { SpellsItem };
 
-/// The item at the front by the rule of the grammar, and what follows it.
-pub fn item(alloc: Global, tokens: &[Token]) -> Result<(Item<Text>, &[Token]), Refused>
-    ensures reads { ReadsPhrase (λ x. (x.0, x.1.now)) (Starts SpellsItem Any tokens.now) result }
-    ensures shorter { IfOk result (λ x. length x.1.now < length tokens.now) }
-{
-    if let Some(more) = after_call(tokens, "GROUPING") {
-        let (names, rest) = names_in(alloc, more)?;
-        return Ok((Item::Grouping(GroupingColumns::new(names)), rest));
+    fn read(alloc: Global, tokens: &[Token]) -> Result<(Item<Text>, &[Token]), Refused> {
+        if let Some(more) = after_call(tokens, "GROUPING") {
+            let (names, rest) = list_in(alloc, more)?;
+            return Ok((Item::Grouping(GroupingColumns::new(names)), rest));
+        }
+        item_at(tokens)
     }
-    other_item(tokens)
-}
-
-/// The item at the front, where it is no GROUPING, and what follows it.
-fn other_item(tokens: &[Token]) -> Result<(Item<Text>, &[Token]), Refused>
-    ensures reads { BeginsNotCall GROUPING tokens.now → ReadsPhrase (λ x. (x.0, x.1.now)) (Starts SpellsItem Any tokens.now) result }
-    ensures shorter { IfOk result (λ x. length x.1.now < length tokens.now) }
-{
-    item_at(tokens)
 }
 
 /// The item at the front that is no GROUPING, and what follows it.

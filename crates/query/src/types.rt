@@ -1,10 +1,11 @@
 //! Whether a query puts integers beside texts.
-ghost use Rattle.std.specs.Prelude.{◌≡◌, Bool};
+ghost use Rattle.std.specs.Prelude.{◌≡◌};
 ghost use Rattle.std.specs.List.{list_any};
 ghost use Rattle.query.specs.Checks.{differ, is_mixed, is_text_column, is_text_item, is_text_literal, is_text_operand, is_text_at, is_text_sum, is_text_type, is_wrong_type};
 ghost use Rattle.query.specs.Names.{tests_of, tests_where};
 ghost use Rattle.query.specs.Values.{items_of};
 
+use crate::finding::Finder;
 use crate::item::Item;
 use crate::predicate::{Predicate, PredicateForm};
 use crate::query::Query;
@@ -41,7 +42,7 @@ fn is_mixed_condition(query: &Query, columns: &[Column]) -> bool
     ensures { result ≡ list_any (is_mixed (is_text_column columns.now)) (tests_where query.now.condition) }
 {
     match query.condition() {
-        Some(predicate) => is_mixed_predicate(&ColumnTypes { columns }, predicate),
+        Some(predicate) => is_mixed_predicate(&TextColumns { columns }, predicate),
         None => false,
     }
 }
@@ -52,45 +53,36 @@ fn is_mixed_having(query: &Query, columns: &[Column]) -> bool
 {
     let items = query.having_items();
     match query.having() {
-        Some(predicate) => is_mixed_predicate(&ItemTypes { columns, items }, predicate),
+        Some(predicate) => is_mixed_predicate(&TextItems { columns, items }, predicate),
         None => false,
     }
 }
 
-/// What tells which leaves of a predicate are texts.
-trait Types<C> {
-    ghost is_text: { Self → C → Bool };
-
-    /// Whether the leaf is a text.
-    fn is_text(&self, leaf: &C) -> bool
-        ensures { result ≡ is_text self.now leaf.now };
-}
-
-/// The types of columns by their names.
+/// Looks for the names of TEXT columns.
 #[derive(Clone, Copy, Drop)]
-struct ColumnTypes<'a> {
+struct TextColumns<'a> {
     columns: &'a [Column],
 }
 
-impl Types<Text> for ColumnTypes<'_> {
-    ghost is_text = { λ t name. is_text_column t.columns.now name };
+impl Finder<Text> for TextColumns<'_> {
+    ghost finds = { λ t name. is_text_column t.columns.now name };
 
-    fn is_text(&self, name: &Text) -> bool {
+    fn finds(&self, name: &Text) -> bool {
         is_text_column(self.columns, name)
     }
 }
 
-/// The types of the items that HAVING names, by their places.
+/// Looks for texts among the items that HAVING names, by their places.
 #[derive(Clone, Copy, Drop)]
-struct ItemTypes<'a> {
+struct TextItems<'a> {
     columns: &'a [Column],
     items: &'a [Item<Text>],
 }
 
-impl Types<usize> for ItemTypes<'_> {
-    ghost is_text = { λ t place. is_text_at t.columns.now t.items.now place };
+impl Finder<usize> for TextItems<'_> {
+    ghost finds = { λ t place. is_text_at t.columns.now t.items.now place };
 
-    fn is_text(&self, place: &usize) -> bool {
+    fn finds(&self, place: &usize) -> bool {
         match self.items.get(*place) {
             Some(item) => is_text_item(self.columns, item),
             None => false,
@@ -151,29 +143,29 @@ fn is_text_type(kind: ColumnType) -> bool
 }
 
 /// Whether some test of the predicate puts an integer beside a text.
-fn is_mixed_predicate<C, T: Types<C>>(types: &T, predicate: &Predicate<C>) -> bool
-    ensures { result ≡ list_any (is_mixed (T.is_text types.now)) (tests_of predicate.now) }
+fn is_mixed_predicate<C, F: Finder<C>>(texts: &F, predicate: &Predicate<C>) -> bool
+    ensures { result ≡ list_any (is_mixed (F.finds texts.now)) (tests_of predicate.now) }
 {
     match &predicate.form {
         PredicateForm::Or(inners) | PredicateForm::And(inners) => {
             for inner in inners {
-                if is_mixed_predicate(types, inner) {
+                if is_mixed_predicate(texts, inner) {
                     return true;
                 }
             }
             false
         }
-        PredicateForm::Not(inner) => is_mixed_predicate(types, &**inner),
-        PredicateForm::Test(test) => is_mixed(types, test),
+        PredicateForm::Not(inner) => is_mixed_predicate(texts, &**inner),
+        PredicateForm::Test(test) => is_mixed(texts, test),
     }
 }
 
 /// Whether the test puts an integer beside a text.
-fn is_mixed<C, T: Types<C>>(types: &T, test: &Test<C>) -> bool
-    ensures { result ≡ is_mixed (T.is_text types.now) test.now }
+fn is_mixed<C, F: Finder<C>>(texts: &F, test: &Test<C>) -> bool
+    ensures { result ≡ is_mixed (F.finds texts.now) test.now }
 {
     match test {
-        Test::Compare(a, _, b) => differ(is_text_operand(types, a), is_text_operand(types, b)),
+        Test::Compare(a, _, b) => differ(is_text_operand(texts, a), is_text_operand(texts, b)),
         Test::IsNull { .. } => false,
         Test::Between {
             operand,
@@ -181,24 +173,24 @@ fn is_mixed<C, T: Types<C>>(types: &T, test: &Test<C>) -> bool
             high,
             ..
         } => {
-            let is_text = is_text_operand(types, operand);
-            if differ(is_text, is_text_operand(types, low)) {
+            let is_text = is_text_operand(texts, operand);
+            if differ(is_text, is_text_operand(texts, low)) {
                 return true;
             }
-            differ(is_text, is_text_operand(types, high))
+            differ(is_text, is_text_operand(texts, high))
         }
         Test::In { operand, list, .. } => {
-            has_other(is_text_operand(types, operand), list.as_slice())
+            has_other(is_text_operand(texts, operand), list.as_slice())
         }
     }
 }
 
 /// Whether the operand is a text.
-fn is_text_operand<C, T: Types<C>>(types: &T, operand: &Operand<C>) -> bool
-    ensures { result ≡ is_text_operand (T.is_text types.now) operand.now }
+fn is_text_operand<C, F: Finder<C>>(texts: &F, operand: &Operand<C>) -> bool
+    ensures { result ≡ is_text_operand (F.finds texts.now) operand.now }
 {
     match operand {
-        Operand::Column(leaf) => types.is_text(leaf),
+        Operand::Column(leaf) => texts.finds(leaf),
         Operand::Literal(literal) => is_text_literal(literal),
     }
 }

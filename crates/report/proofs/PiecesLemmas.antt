@@ -7,7 +7,6 @@ use Rattle.std.proofs.lemmas.List.{length-append, length-map, map-append}
 use Rattle.std.proofs.lemmas.List.Sorted.{IsPermutation-map}
 use Rattle.cells.specs.Tables.{AreRowsOf, Rows}
 use Rattle.cells.specs.CellOrder.{cell_cmp, cell_cmp-total}
-use Rattle.cells.specs.Fitting.{IsRowOf}
 use Rattle.cells.specs.Laws.{len_left}
 use Rattle.cells.specs.Tables.{keyed_rows, table}
 use Rattle.cells.specs.Updates.{AreLeft}
@@ -18,7 +17,7 @@ use Rattle.groups.specs.Partials.{rows_of}
 use Rattle.trie.specs.Cuts.{IsPart}
 use Rattle.trie.specs.Maps.{map_of}
 use Rattle.report.specs.Pieces.{HoldRows}
-use Rattle.report.proofs.TableRowsLemmas.{each_held, same_map_moves}
+use Rattle.report.proofs.TableRowsLemmas.{same_map_moves}
 
 rows_of_keyed : (rs : List RowValue) → rows_of (keyed_rows rs) ≡ rs
 rows_of_keyed [] = refl
@@ -44,20 +43,11 @@ few_pieces hash es (piece ∷ pieces) parts = omega (
   length-map piece (λ (e : Cell × RowValue). e.1),
 )
 
--- what holds of the rows of entries
-all_rows : (P : RowValue → Type 0) (es : List (Cell × RowValue)) → AllByRecursion (λ e. P e.1) es → AllByRecursion P (rows_of es)
-all_rows P [] all = tt
-all_rows P (e ∷ es) all = (all.0, all_rows P es all.1)
-
 module _ (rows : Rows) (es : List (Cell × RowValue)) (is : map_of cell_cmp es ≡ rows) (es_once : len (map_of cell_cmp es) ≡ length es) where
   entries_each : (rs : List RowValue) → AreLeft rs → rows ≡ table rs → IsPermutation (rows_of es) rs
   entries_each rs left same = rw (← rows_of_keyed rs)
       (IsPermutation-map (λ (e : Cell × RowValue). e.1) es (keyed_rows rs)
       (same_map_moves cell_cmp-total es (keyed_rows rs) es_once (once rs left) (is ∙ same)))
-
-  entries_fit : (t : Table) → AreRowsOf t rows → AllByRecursion (IsRowOf t) (rows_of es)
-  entries_fit t are = all_rows (IsRowOf t) es
-      (each_held cell_cmp-total (λ e. IsRowOf t e.1) es es_once (λ k r found. are.fit k r (ap (λ (m : Rows). get m k) (sym is) ∙ found)))
 
   -- pieces that are the entries, joined in order
   pub hold_rows : (hash : Cell → ℕ) (pieces : List PieceValue) → AllByRecursion (IsPart hash es) pieces → flat_map (λ piece. piece) pieces ≡ es → HoldRows rows pieces
@@ -66,7 +56,6 @@ module _ (rows : Rows) (es : List (Cell × RowValue)) (is : map_of cell_cmp es �
       record {
         all = record {
           each = λ rs left alike. rw same at (entries_each rs left alike);
-          fit = λ t are. rw same at (entries_fit t are);
           count = ap length (sym same) ∙ length-map es (λ e. e.1) ∙ sym es_once ∙ ap (λ (m : Rows). len m) is;
         };
         few = few_pieces hash es pieces parts;

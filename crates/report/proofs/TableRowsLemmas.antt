@@ -1,16 +1,13 @@
 -- Entries in which no key comes twice, and those of their finite map: the same entries, in another order.
-use Rattle.std.proofs.Common.{◌≡◌, ℕ, ◌+◌, ◌≤◌, suc, Bool, true, false, cond, Option, Some, None, List, [], ◌∷◌, length, inl, inr, refl, sym, ap, ◌∙◌, arith}
+use Rattle.std.proofs.Common.{◌≡◌, ℕ, ◌+◌, ◌≤◌, suc, Bool, true, false, cond, Option, Some, None, List, [], ◌∷◌, length, refl, sym, ap, ◌∙◌, arith}
 use Rattle.std.specs.Prelude.{is_some}
 use Rattle.std.specs.Cmp.{IsTotalOrder}
-use Rattle.std.specs.FinMap.{FinMap, contains_key, empty, entries, entries-insert, find, from_entries, get, get-entries, get-insert, insert, len, len-empty, len-entries, len-insert, put}
-use Rattle.std.specs.FinMap.Entries.{by_order, find_tied}
-use Rattle.std.specs.List.{AllByRecursion}
+use Rattle.std.specs.FinMap.{FinMap, contains_key, empty, entries, entries-insert, find, from_entries, get, get-entries, insert, len, len-empty, len-entries, len-insert, put}
+use Rattle.std.specs.FinMap.Entries.{by_order}
 use Rattle.std.specs.List.Sorted.{IsPermutation}
-use Rattle.std.specs.Ordering.{eq_by_cmp, is_eq}
+use Rattle.std.specs.Ordering.{is_eq}
 use Rattle.std.specs.declared.cmp.Ordering.{Ordering}
 use Rattle.std.specs.declared.cmp.Ordering.TheVariants.{Less, Equal, Greater}
-use Rattle.std.proofs.lemmas.Bool.{cases_Bool}
-use Rattle.std.proofs.lemmas.Cmp.{tied_itself}
 use Rattle.std.proofs.lemmas.List.Sorted.{IsPermutation-append_comm, IsPermutation-append_left, IsPermutation-cons, IsPermutation-refl, IsPermutation-sym, IsPermutation-trans}
 
 no_entry : {A : Type 0} (xs : List A) → length xs ≡ 0 → xs ≡ []
@@ -20,11 +17,6 @@ no_entry (x ∷ xs) is = absurd (omega arith)
 missing : {A : Type 0} (x : Option A) → is_some x ≡ false → x ≡ None
 missing None is = refl
 missing (Some a) is = absurd (cc)
-
-is_Equal : (r : Ordering) → is_eq r ≡ true → r ≡ Equal
-is_Equal Less is = absurd (cc)
-is_Equal Equal is = refl
-is_Equal Greater is = absurd (cc)
 
 -- a map that has a key keeps its length, one that has not gets longer
 at_most : (has : Bool) (m n : ℕ) → m ≤ n → cond has m (m + 1) ≤ suc n
@@ -92,29 +84,3 @@ module _ {K V : Type 0} {R : K → K → Ordering} (o : IsTotalOrder R) where
   same_map_moves es fs es_once fs_once same =
       IsPermutation-trans es (entries (from_entries {R = R} es)) fs (entries_move es es_once)
       (rw same (IsPermutation-sym fs (entries (from_entries {R = R} fs)) (entries_move fs fs_once)))
-
-  tied_get : (m : FinMap R V) (q k : K) → R q k ≡ Equal → get m k ≡ get m q
-  tied_get m q k tied = get-entries m k ∙ find_tied R o q k tied (entries m) ∙ sym (get-entries m q)
-
-  -- another entry of the map stays what it was with the first
-  still_held : (e : K × V) (es : List (K × V)) → IsOnce (e ∷ es) → (k : K) (v : V) → get (from_entries {R = R} es) k ≡ Some v →
-      get (from_entries {R = R} (e ∷ es)) k ≡ Some v
-  still_held e es once k v is =
-      let m = from_entries {R = R} es in
-      elim (cases_Bool (eq_by_cmp R k e.0)) [
-        | inl same ↦
-            let none = first_is_new e es once in
-            let alike = tied_get m k e.0 (is_Equal (R k e.0) same) in
-            absurd (cc)
-        | inr other ↦ get-insert o m e.0 e.1 k ∙ ap (λ b. cond b (Some e.1) (get m k)) other ∙ is
-      ]
-
-  -- what holds of each entry of the map holds of each of the entries
-  pub each_held : (P : K × V → Type 0) (es : List (K × V)) → IsOnce es → ((k : K) (v : V) → get (from_entries {R = R} es) k ≡ Some v → P (k, v)) →
-      AllByRecursion P es
-  each_held P [] once held = tt
-  each_held P (e ∷ es) once held =
-      let m = from_entries {R = R} es in (
-        held e.0 e.1 (get-insert o m e.0 e.1 e.0 ∙ ap (λ r. cond (is_eq r) (Some e.1) (get m e.0)) (tied_itself o e.0)),
-        each_held P es (rest_once e es once) (λ k v is. held k v (still_held e es once k v is)),
-      )

@@ -6,11 +6,11 @@ use Rattle.std.proofs.KnownBytes.{Appends-trans}
 use Rattle.std.specs.Io.KnownBytes.{Appends}
 use Rattle.std.specs.Prelude.{IsErr, OnErr, OnOk}
 use Rattle.board.specs.Editions.{Edition}
-use Rattle.cells.specs.declared.refused.Refused.{Refused}
 use Rattle.query.specs.Plans.{PlanTree}
 use Rattle.report.specs.Laws.{takes_beginning, takes_last, takes_more, takes_start, takes_whole}
 use Rattle.report.specs.Taken.{TakesBeginning, TakesUpTo}
-use Rattle.report.specs.Waiting.{Awaits, Comes, GoesOn, HasAnswer, Heads, IsReportText, TakesFront, UnderWay, Waits, report_first, text_alone}
+use Rattle.report.specs.Waiting.{Awaits, AwaitsThen, Comes, GoesOn, HasAnswer, Heads, IsReportText, TakesFront, UnderWay, Waits, report_first, text_alone}
+use Rattle.report.specs.declared.unwritten.Unwritten.{Unwritten}
 
 pub always_on_err : {T E P : Type 0} (r : Result T E) → P → OnErr r P
 always_on_err (Ok x) p = tt
@@ -36,12 +36,12 @@ module _ (a b c : Option (List ℕ)) (heading answer : List ℕ) (edition : Edit
   pub begins_heading : TakesBeginning a b heading → TakesBeginning a b text
   begins_heading p = rw heads.joined (begins_first a b heading heads.answer p)
 
-  module _ {T : Type 0} (r : Result T Refused) (is : IsReportText edition.rows plan answer) (first : Appends a b heading) where
-    pub writes_heads : OnOk r (Appends b c answer) → OnOk r (Appends a c text)
-    writes_heads = on_ok_weaker r (λ second. rw heads.joined (Appends-trans a b c heading heads.answer first (subst (Appends b c) (heads.has answer is) second)))
+  module _ (is : IsReportText edition.rows plan answer) (first : Appends a b heading) where
+    pub writes_heads : Appends b c answer → Appends a c text
+    writes_heads second = rw heads.joined (Appends-trans a b c heading heads.answer first (subst (Appends b c) (heads.has answer is) second))
 
-    pub begins_heads : OnErr r (TakesBeginning b c answer) → OnErr r (TakesBeginning a c text)
-    begins_heads = on_err_weaker r (λ late. rw heads.joined (begins_second a b c heading heads.answer first (subst (TakesBeginning b c) (heads.has answer is) late)))
+    pub begins_heads : TakesBeginning b c answer → TakesBeginning a c text
+    begins_heads late = rw heads.joined (begins_second a b c heading heads.answer first (subst (TakesBeginning b c) (heads.has answer is) late))
 
 -- what was taken of a text, with more behind it
 pub takes_with : (a b : Option (List ℕ)) (whole rest more : List ℕ) → TakesUpTo a b whole rest → TakesUpTo a b (whole ++ more) (rest ++ more)
@@ -94,7 +94,7 @@ awaits_nothing w none empty = rw (none, empty) text_alone
 
 module _ {T : Type 0} (a b c : Option (List ℕ)) where
   -- what was written goes on
-  pub front_on : (w v : Waits) (text : List ℕ) (r : Result T Refused) (f : TakesFront a b w text) → GoesOn b c v f.rest r → GoesOn a c v text r
+  pub front_on : (w v : Waits) (text : List ℕ) (r : Result T Unwritten) (f : TakesFront a b w text) → GoesOn b c v f.rest r → GoesOn a c v text r
   front_on w v text (Ok x) f on = record {
     front = record {
       rest = on.front.rest;
@@ -107,7 +107,7 @@ module _ {T : Type 0} (a b c : Option (List ℕ)) where
 
 module _ {T : Type 0} (a b : Option (List ℕ)) where
   -- the oldest report was written
-  oldest : (report : UnderWay) (v : Waits) (text : List ℕ) (r : Result T Refused) → Comes v.after (report ∷ v.reports) text →
+  oldest : (report : UnderWay) (v : Waits) (text : List ℕ) (r : Result T Unwritten) → Comes v.after (report ∷ v.reports) text →
       ((answer : List ℕ) → HasAnswer report.edition report.plan answer → OnOk r (Appends a b (report.before ++ answer))) →
       ((answer : List ℕ) → HasAnswer report.edition report.plan answer → OnErr r (TakesBeginning a b (report.before ++ answer))) → GoesOn a b v text r
   oldest report v text (Ok x) (report_first answer rest has comes) written beginning = record {
@@ -123,18 +123,18 @@ module _ {T : Type 0} (a b : Option (List ℕ)) where
     beginning = rw (← append_assoc report.before answer rest) (begins_first a b (report.before ++ answer) rest (beginning answer has));
   }
 
-  pub goes_oldest : (report : UnderWay) (w v : Waits) (text : List ℕ) (r : Result T Refused) → w.reports ≡ report ∷ v.reports → w.after ≡ v.after → Awaits w text →
+  pub goes_oldest : (report : UnderWay) (w v : Waits) (text : List ℕ) (r : Result T Unwritten) → w.reports ≡ report ∷ v.reports → w.after ≡ v.after → Awaits w text →
       ((answer : List ℕ) → HasAnswer report.edition report.plan answer → OnOk r (Appends a b (report.before ++ answer))) →
       ((answer : List ℕ) → HasAnswer report.edition report.plan answer → OnErr r (TakesBeginning a b (report.before ++ answer))) → GoesOn a b v text r
   goes_oldest report w v text r is same awaits written beginning = oldest report v text r (rw (is, same) at awaits) written beginning
 
   -- it ended early behind a beginning
-  pub stops : (v : Waits) (text : List ℕ) (r : Result T Refused) → IsErr r → TakesBeginning a b text → GoesOn a b v text r
+  pub stops : (v : Waits) (text : List ℕ) (r : Result T Unwritten) → IsErr r → TakesBeginning a b text → GoesOn a b v text r
   stops v text (Ok x) bad beginning = absurd cc
   stops v text (Err e) bad beginning = record { front = tt; beginning = beginning }
 
   -- all was written
-  pub goes_whole : (v : Waits) (text : List ℕ) (r : Result T Refused) → OnOk r (Appends a b text) → OnErr r (TakesBeginning a b text) → OnOk r (Awaits v []) → GoesOn a b v text r
+  pub goes_whole : (v : Waits) (text : List ℕ) (r : Result T Unwritten) → OnOk r (Appends a b text) → OnErr r (TakesBeginning a b text) → OnOk r (Awaits v []) → GoesOn a b v text r
   goes_whole v text (Ok x) all beginning nothing = record {
     front = record { rest = []; taken = record { front = text; whole_is = sym (append-nil text); taken = all }; awaits = nothing };
     beginning = tt;
@@ -145,35 +145,50 @@ module _ {T : Type 0} (a b : Option (List ℕ)) where
 pub waits_all : {T : Type 0} (a : Option (List ℕ)) (v : Waits) (text : List ℕ) (x : T) → Awaits v text → GoesOn a a v text (Ok x)
 waits_all a v text x awaits = record { front = record { rest = text; taken = takes_start a text; awaits = awaits }; beginning = tt }
 
--- a report waits behind all that was left
-pub front_report : {T : Type 0} (a b : Option (List ℕ)) (w middle v : Waits) (waiting heading answer : List ℕ) (edition : Edition) (plan : PlanTree) (x : T) → TakesFront a b w waiting →
-    middle.reports ≡ w.reports → middle.after ≡ w.after ++ heading →
-    v.reports ≡ middle.reports ++ record { before = middle.after; edition = edition; plan = plan } ∷ [] → v.after ≡ [] → HasAnswer edition plan answer →
-    GoesOn a b v (waiting ++ (heading ++ answer)) (Ok x)
-front_report a b w middle v waiting heading answer edition plan x f same more is none has = record {
-  front = record {
-    rest = f.rest ++ (heading ++ answer);
-    taken = takes_with a b waiting f.rest (heading ++ answer) f.taken;
-    awaits = subst (Awaits v) (append_assoc f.rest heading answer)
-        (awaits_report middle v (f.rest ++ heading) answer edition plan is none has (awaits_text w middle f.rest heading same more f.awaits));
-  };
+-- a heading waits behind all that was left
+pub front_heading : {T : Type 0} (a b : Option (List ℕ)) (w v : Waits) (waiting heading : List ℕ) (x : T) → TakesFront a b w waiting → v.reports ≡ w.reports → v.after ≡ w.after ++ heading →
+    GoesOn a b v (waiting ++ heading) (Ok x)
+front_heading a b w v waiting heading x f same more = record {
+  front = record { rest = f.rest ++ heading; taken = takes_with a b waiting f.rest heading f.taken; awaits = awaits_text w v f.rest heading same more f.awaits };
   beginning = tt;
 }
+
+-- and then the answer of a report
+module _ (waits : Waits) (heading : List ℕ) (edition : Edition) (plan : PlanTree) (text : List ℕ) (p : AwaitsThen waits (Heads heading edition plan) text) where
+  pub before_answer : AwaitsThen waits (λ more. heading ≡ more) (p.waiting ++ heading)
+  before_answer = record { waiting = p.waiting; more = heading; awaits = p.awaits; is_more = refl; joined = refl }
+
+  behind_heading : text ≡ (p.waiting ++ heading) ++ p.is_more.answer
+  behind_heading = p.joined ∙ ap (λ more. p.waiting ++ more) p.is_more.joined ∙ sym (append_assoc p.waiting heading p.is_more.answer)
+
+  pub begins_answer : (a b : Option (List ℕ)) → TakesBeginning a b (p.waiting ++ heading) → TakesBeginning a b text
+  begins_answer a b early = rw behind_heading (begins_first a b (p.waiting ++ heading) p.is_more.answer early)
+
+  pub front_answer : {T : Type 0} (a b : Option (List ℕ)) (w v : Waits) (x : T) → TakesFront a b w (p.waiting ++ heading) →
+      v.reports ≡ w.reports ++ record { before = w.after; edition = edition; plan = plan } ∷ [] → v.after ≡ [] → GoesOn a b v text (Ok x)
+  front_answer a b w v x f is none = rw behind_heading (record {
+    front = record {
+      rest = f.rest ++ p.is_more.answer;
+      taken = takes_with a b (p.waiting ++ heading) f.rest p.is_more.answer f.taken;
+      awaits = awaits_report w v f.rest p.is_more.answer edition plan is none p.is_more.has f.awaits;
+    };
+    beginning = tt;
+  })
 
 -- ---- the end
 
 module _ {U : Type 0} (a b c : Option (List ℕ)) where
   -- what was written, and then an early end
-  pub ends_early : {T : Type 0} (w v : Waits) (text : List ℕ) (e : Refused) (r : Result U Refused) (f : TakesFront a b w text) → GoesOn {T = T} b c v f.rest (Err e) → OnErr r (TakesBeginning a c text)
+  pub ends_early : {T : Type 0} (w v : Waits) (text : List ℕ) (e : Unwritten) (r : Result U Unwritten) (f : TakesFront a b w text) → GoesOn {T = T} b c v f.rest (Err e) → OnErr r (TakesBeginning a c text)
   ends_early w v text e r f on = always_on_err r (takes_last a b c text f.rest f.taken on.beginning)
 
   -- what was written, and the text behind all reports
-  pub wholly : (w : Waits) (text : List ℕ) (r : Result U Refused) → w.reports ≡ [] → TakesFront a b w text → OnOk r (Appends b c w.after) → OnOk r (Appends a c text)
+  pub wholly : (w : Waits) (text : List ℕ) (r : Result U Unwritten) → w.reports ≡ [] → TakesFront a b w text → OnOk r (Appends b c w.after) → OnOk r (Appends a c text)
   wholly w text r none f = on_ok_weaker r (λ last.
       let all : f.rest ≡ w.after = awaits_only_text w f.rest none f.awaits in
       takes_whole a c text (takes_more a b c text f.rest [] (rw append-nil f.taken) (subst (Appends b c) (sym all) last)))
 
-  pub begins_wholly : (w : Waits) (text : List ℕ) (r : Result U Refused) → w.reports ≡ [] → TakesFront a b w text → OnErr r (TakesBeginning b c w.after) → OnErr r (TakesBeginning a c text)
+  pub begins_wholly : (w : Waits) (text : List ℕ) (r : Result U Unwritten) → w.reports ≡ [] → TakesFront a b w text → OnErr r (TakesBeginning b c w.after) → OnErr r (TakesBeginning a c text)
   begins_wholly w text r none f = on_err_weaker r (λ late.
       let all : f.rest ≡ w.after = awaits_only_text w f.rest none f.awaits in
       takes_last a b c text f.rest f.taken (subst (TakesBeginning b c) (sym all) late))

@@ -1,5 +1,5 @@
 -- What viewers have reported, while what they know grows.
-use Rattle.std.proofs.Common.{◌≡◌, ℕ, zero, suc, ◌+◌, ◌<◌, ◌≤◌, true, false, Option, Some, Result, Ok, Err, List, [], ◌∷◌, ◌++◌, inl, inr, length, map, get_or, refl, sym, ap, subst, ◌∙◌, arith, length-append}
+use Rattle.std.proofs.Common.{◌≡◌, ℕ, zero, suc, ◌+◌, ◌<◌, ◌≤◌, true, false, Some, Result, Ok, Err, List, [], ◌∷◌, ◌++◌, inl, inr, length, map, get_or, refl, sym, ap, subst, ◌∙◌, arith, length-append}
 use mathlib.Core.List.{IsPrefix}
 use Rattle.std.proofs.Math.Seq.{get_or-append_seam}
 use Rattle.std.proofs.lemmas.Bool.{cases_Bool}
@@ -11,10 +11,10 @@ use Rattle.std.specs.Prelude.{IfOk, nat_lt}
 use Rattle.board.specs.Editions.{Edition, Editions, History, IsLastOf, Known, Learns, Looks, Note, last_rows}
 use Rattle.board.specs.Editions as keeper
 use Rattle.cells.specs.Tables.{Rows}
-use Rattle.cells.specs.declared.refused.Refused.{Refused}
 use Rattle.query.specs.Plans.{PlanTree}
 use Rattle.report.specs.Waiting.{IsReportText}
-use Rattle.report.specs.Watching.{AreShots, GoUpTo, IsLastEdition, IsShot, Sight, Watching, at_last, before_last, no_shot, shot_first, up_to}
+use Rattle.report.specs.Watching.{AreShots, GoUpTo, HasWatched, IsLastEdition, IsLastShot, IsShot, Sight, Watching, at_last, before_last, no_shot, shot_first, up_to}
+use Rattle.report.specs.declared.want.Want.{Want}
 
 module _ {A : Type 0} where
   prefix_length : (xs ys : List A) → IsPrefix xs ys → length xs ≤ length ys
@@ -110,39 +110,46 @@ learnt_of before note after seen learns looks =
     let within : length before.told < length after.told = omega (arith, ap length learns.told, length-append before.told (note.history ∷ [])) in
     subst (λ (h : History). IsPrefix h seen.history) at (looks.learnt (length before.told) [] within)
 
--- a viewer that has made so many reports more
-pub record Watched (before : Watching) (viewer : Known) (made : List Sight) (count : ℕ) : Type 0 where
-  pub board : viewer.board ≡ before.viewer.board
-  pub schema : viewer.schema ≡ before.viewer.schema
-  pub shots : AreShots viewer.history before.plan 0 made
-  pub many : length made ≡ length before.shots + count
+-- a viewer that makes no reports more, and one more behind so many
+pub watched_none : (before : Watching) → HasWatched (record { before = before; count = 0 }) before
+watched_none before = record { board = refl; schema = refl; plan = refl; many = omega arith }
 
-pub watched_more : (before : Watching) (viewer after : Known) (made : List Sight) (shot : Sight) (count : ℕ) → Watched before viewer made count → Looks viewer after → IsShot after.history before.plan shot →
-    length after.history ≡ shot.edition + 1 → Watched before after (made ++ shot ∷ []) (count + 1)
-watched_more before viewer after made shot count watched looks is long = record {
-  board = looks.board ∙ watched.board;
-  schema = looks.schema ∙ watched.schema;
-  shots = shots_more after.history shot looks.seen long (omega arith) is watched.shots;
-  many = omega (arith, watched.many, length-append made (shot ∷ []));
+pub watched_more : (before middle after : Watching) (count : ℕ) → HasWatched (record { before = before; count = count }) middle → HasWatched (record { before = middle; count = 1 }) after →
+    HasWatched (record { before = before; count = count + 1 }) after
+watched_more before middle after count watched once = record {
+  board = once.board ∙ watched.board;
+  schema = once.schema ∙ watched.schema;
+  plan = once.plan ∙ watched.plan;
+  many = omega (arith, watched.many, once.many);
 }
 
-shots_longer : {h : History} {plan : PlanTree} {least : ℕ} {shots : List Sight} (more : History) → IsPrefix h more → AreShots h plan least shots → AreShots more plan least shots
+-- what it made stays so, whatever it sees
+pub shots_longer : {h : History} {plan : PlanTree} {least : ℕ} {shots : List Sight} (more : History) → IsPrefix h more → AreShots h plan least shots → AreShots more plan least shots
 shots_longer more begins no_shot = no_shot
 shots_longer {h = h} {plan = plan} more begins (shot_first {shot = first} higher is rest) = shot_first higher (shot_longer h more plan first begins is) (shots_longer more begins rest)
 
 -- a report on the snapshot that was taken
-pub looked : (r : Result Sight Refused) (h : History) (plan : PlanTree) (seen : Edition) → IsLastOf h seen.number seen.rows → IfOk r (λ shot. shot.edition ≡ seen.number) →
+pub looked : (r : Result Sight Want) (h : History) (plan : PlanTree) (seen : Edition) → IsLastOf h seen.number seen.rows → IfOk r (λ shot. shot.edition ≡ seen.number) →
     IfOk r (λ shot. IsReportText seen.rows plan shot.text) → IfOk r (λ shot. IsShot h plan shot × (length h ≡ shot.edition + 1))
 looked (Ok shot) h plan seen last same is = (shot_on_last h plan shot seen.number seen.rows last same is, last.long ∙ ap (λ n. n + 1) (sym same))
 looked (Err e) h plan seen last same is = tt
 
--- the reports of a viewer, and the one on the keeper's last edition
-pub finished : (k : Editions) (before : Watching) (viewer : Known) (seen : Edition) (last : Sight) (all : List Sight) → IsPrefix before.viewer.history viewer.history → IsPrefix (keeper.history k) viewer.history →
-    IsLastOf (keeper.history k) (keeper.edition k) (keeper.published k) → IsLastEdition k seen → last.edition ≡ seen.number → IsReportText seen.rows before.plan last.text →
+-- the report on the keeper's last edition
+pub looked_last : (r : Result Sight Want) (k : Editions) (plan : PlanTree) (seen : Edition) → IsLastOf (keeper.history k) (keeper.edition k) (keeper.published k) → IsLastEdition k seen →
+    IfOk r (λ shot. shot.edition ≡ seen.number) → IfOk r (λ shot. IsReportText seen.rows plan shot.text) → IfOk r (IsLastShot k plan)
+looked_last (Ok shot) k plan seen mine is_last same text =
+    let at : shot.edition ≡ keeper.edition k = same ∙ is_last.number in
+    record {
+      number = at;
+      long = mine.long;
+      is = shot_on_last (keeper.history k) plan shot (keeper.edition k) (keeper.published k) mine at (subst (λ (rs : Rows). IsReportText rs plan shot.text) is_last.rows text);
+    }
+looked_last (Err e) k plan seen mine is_last same text = tt
+
+-- the reports of a viewer, and that one
+pub finished : (k : Editions) (before : Watching) (more : History) (last : Sight) (all : List Sight) → IsPrefix before.viewer.history more → IsPrefix (keeper.history k) more → IsLastShot k before.plan last →
     AreShots before.viewer.history before.plan 0 before.shots → all ≡ map (up_to last) before.shots ++ last ∷ [] →
     GoUpTo (keeper.history k) before.plan (keeper.edition k) 0 (length before.shots) all
-finished k before viewer seen last all old learnt mine is_last same text shots is =
-    let at : last.edition ≡ keeper.edition k = same ∙ is_last.number in
-    let shot = shot_on_last (keeper.history k) before.plan last (keeper.edition k) (keeper.published k) mine at (subst (λ (rs : Rows). IsReportText rs before.plan last.text) is_last.rows text) in
-    rw is (subst (λ n. GoUpTo (keeper.history k) before.plan n 0 (length before.shots) (map (up_to last) before.shots ++ last ∷ [])) at
-    (goes_up_to before.shots (keeper.history k) last learnt (mine.long ∙ ap (λ n. n + 1) (sym at)) (omega arith) shot (shots_longer viewer.history old shots)))
+finished k before more last all old learnt shot shots is =
+    rw is (subst (λ n. GoUpTo (keeper.history k) before.plan n 0 (length before.shots) (map (up_to last) before.shots ++ last ∷ [])) shot.number
+    (goes_up_to before.shots (keeper.history k) last learnt (shot.long ∙ ap (λ n. n + 1) (sym shot.number)) (omega arith) shot.is (shots_longer more old shots)))

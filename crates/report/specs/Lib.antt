@@ -7,4 +7,5 @@ pub mod Standing
 pub mod Taken
 pub mod Tapes
 pub mod Waiting
+pub mod Wants
 pub mod Watching

@@ -1,29 +1,21 @@
 -- Text that waits to be written behind reports that are under way.
-use Rattle.std.specs.Prelude.{◌≡◌, ◌<◌, ◌⊎◌, ℕ, List, [], ◌∷◌, ◌++◌, Option, Result, IfErr, IsErrOf, OnErr, OnOk}
+use Rattle.std.specs.Prelude.{◌≡◌, ◌<◌, ℕ, List, [], ◌∷◌, ◌++◌, Option, Result, IsErrOf, OnErr, OnOk}
 use Rattle.std.specs.Io.KnownBytes.{Appends}
 use Rattle.board.specs.Editions.{Edition}
 use Rattle.cells.specs.Tables.{Rows, table}
 use Rattle.cells.specs.Updates.{AreLeft}
 use Rattle.cells.specs.Values.{RowValue}
-use Rattle.cells.specs.declared.refused.Refused.{Refused}
-use Rattle.cells.specs.declared.refused.Refused.TheVariants.{NoWorker, OutOfMemory, WriteFailed}
 use Rattle.groups.specs.Groups.{report_rows}
 use Rattle.query.specs.Plans.{PlanTree}
 use Rattle.report.specs.Reports.{report_text}
 use Rattle.report.specs.Taken.{TakesBeginning, TakesUpTo}
 use Rattle.report.specs.declared.backlog.Pending.{Pending}
+use Rattle.report.specs.declared.unwritten.Unwritten.{Unwritten}
+use Rattle.report.specs.declared.unwritten.Unwritten.TheVariants.{WriteFailed}
 
 -- the text is the plan's report over these rows, in whatever order they are listed
 pub record IsReportText (rows : Rows) (plan : PlanTree) (text : List ℕ) : Type 0 where
   pub is : (rs : List RowValue) → AreLeft rs → rows ≡ table rs → text ≡ report_text plan (report_rows plan rs)
-
--- why a report may have no answer: want of memory, or of a thread
-abbrev pub IsUnmade : Refused → Type 0
-IsUnmade e = (e ≡ NoWorker) ⊎ (e ≡ OutOfMemory)
-
--- why writing may end early: that, or a writer that failed
-abbrev pub IsLate : Refused → Type 0
-IsLate e = IsUnmade e ⊎ (e ≡ WriteFailed)
 
 -- a report under way: the text before it, the edition that it is on, and what it answers
 pub record UnderWay : Type 0 where
@@ -75,22 +67,20 @@ pub record TakesFront (old new : Option (List ℕ)) (waits : Waits) (text : List
   pub awaits : Awaits waits rest
 
 -- a call goes on with the text: it writes up to what waits, or ends early behind a beginning
-pub record GoesOn {T : Type 0} (old new : Option (List ℕ)) (waits : Waits) (text : List ℕ) (result : Result T Refused) : Type 0 where
+pub record GoesOn {T : Type 0} (old new : Option (List ℕ)) (waits : Waits) (text : List ℕ) (result : Result T Unwritten) : Type 0 where
   pub front : OnOk result (TakesFront old new waits text)
   pub beginning : OnErr result (TakesBeginning old new text)
 
--- The call goes on with each text that is so, and has no fault more at Ok; it ends early for want of memory or of a worker, or where the
--- writer failed in the call. `taken` and `faults` are what a writer tells, `old` and `new` the writer before and after.
-pub record WritesOn {W T : Type 0} (taken : W → Option (List ℕ)) (faults : W → ℕ) (old new : W) (waits : Waits) (Is : List ℕ → Type 0) (result : Result T Refused) : Type 0 where
+-- The call goes on with each text that is so, and has no fault more at Ok; it ends for the writer's sake only where the writer failed in the
+-- call. `taken` and `faults` are what a writer tells, `old` and `new` the writer before and after.
+pub record WritesOn {W T : Type 0} (taken : W → Option (List ℕ)) (faults : W → ℕ) (old new : W) (waits : Waits) (Is : List ℕ → Type 0) (result : Result T Unwritten) : Type 0 where
   pub written : (text : List ℕ) → Is text → GoesOn (taken old) (taken new) waits text result
   pub sound : OnOk result (faults new ≡ faults old)
-  pub refused : IfErr result IsLate
   pub fault : IsErrOf result WriteFailed → faults old < faults new
 
 -- the same, where it writes all of the text
-pub record WritesAll {W T : Type 0} (taken : W → Option (List ℕ)) (faults : W → ℕ) (old new : W) (Is : List ℕ → Type 0) (result : Result T Refused) : Type 0 where
+pub record WritesAll {W T : Type 0} (taken : W → Option (List ℕ)) (faults : W → ℕ) (old new : W) (Is : List ℕ → Type 0) (result : Result T Unwritten) : Type 0 where
   pub written : (text : List ℕ) → Is text → OnOk result (Appends (taken old) (taken new) text)
   pub beginning : (text : List ℕ) → Is text → OnErr result (TakesBeginning (taken old) (taken new) text)
   pub sound : OnOk result (faults new ≡ faults old)
-  pub refused : IfErr result IsLate
   pub fault : IsErrOf result WriteFailed → faults old < faults new

@@ -1,12 +1,12 @@
 -- Viewers that report in threads of their own, and what they have reported.
-use Rattle.std.specs.Prelude.{◌≡◌, ◌≤◌, ◌+◌, ℕ, suc, List, [], ◌∷◌, Some, Result, IfErr, IfOk, length, nat_lt, if◌then◌else◌}
+use Rattle.std.specs.Prelude.{◌≡◌, ◌≤◌, ◌+◌, ℕ, suc, List, [], ◌∷◌, Some, Result, IfOk, length, nat_lt, if◌then◌else◌}
 use Rattle.std.specs.List.{slice_get}
 use Rattle.board.specs.Editions.{Edition, Editions, History, Known}
 use Rattle.board.specs.Editions as keeper
 use Rattle.cells.specs.Tables.{Rows}
-use Rattle.cells.specs.declared.refused.Refused.{Refused}
 use Rattle.query.specs.Plans.{PlanTree}
-use Rattle.report.specs.Waiting.{IsReportText, IsUnmade}
+use Rattle.report.specs.Waiting.{IsReportText}
+use Rattle.report.specs.declared.want.Want.{Want}
 
 -- a report of a viewer: the number of its edition, and its text
 pub record Sight : Type 0 where
@@ -54,11 +54,10 @@ pub record HasWatched (watch : Watch) (after : Watching) : Type 0 where
   pub many : length after.shots ≡ length watch.before.shots + watch.count
 
 -- the first of those that were started came back
-pub record ComesBack (old new : List Watch) (result : Result Watching Refused) : Type 0 where
+pub record ComesBack (old new : List Watch) (result : Result Watching Want) : Type 0 where
   pub watch : Watch
   pub first : old ≡ watch ∷ new
   pub watched : IfOk result (HasWatched watch)
-  pub unmade : IfErr result IsUnmade
 
 -- the viewer is one of the keeper's board and table
 pub record IsOf (k : Editions) (viewer : Known) : Type 0 where
@@ -70,6 +69,12 @@ pub record IsLastEdition (k : Editions) (edition : Edition) : Type 0 where
   pub number : edition.number ≡ keeper.edition k
   pub rows : edition.rows ≡ keeper.published k
   pub schema : edition.schema ≡ keeper.schema k
+
+-- it is the report on that edition
+pub record IsLastShot (k : Editions) (plan : PlanTree) (shot : Sight) : Type 0 where
+  pub number : shot.edition ≡ keeper.edition k
+  pub long : length (keeper.history k) ≡ keeper.edition k + 1
+  pub is : IsShot (keeper.history k) plan shot
 
 -- the report on the last edition, in place of one on an edition above it
 abbrev pub up_to : Sight → Sight → Sight

@@ -1,14 +1,12 @@
 //! The threads of viewers.
-ghost use Rattle.std.specs.Prelude.{◌≡◌, ◌≤◌, ◌++◌, ◌∷◌, [], IfErr, IfOk, IfSome, IsNone, OnOk};
-ghost use Rattle.query.specs.Plans.{IsPlanOf};
-ghost use Rattle.report.specs.Limits.{worker_limit};
-ghost use Rattle.report.specs.Waiting.{IsUnmade};
+ghost use Rattle.std.specs.Prelude.{◌≡◌, ◌++◌, ◌∷◌, [], IfOk, IfSome, IsNone, OnOk};
 ghost use Rattle.report.specs.Watching.{ComesBack, HasWatched, watch_from};
 
 use crate::starting::Starter;
-use crate::watching::{Answering, Watcher};
+use crate::want::Want;
+use crate::watching::Watcher;
 use board::{Viewer, viewers_cross_threads};
-use cells::{Cell, KeyHash, Refused, Tuple};
+use cells::{Cell, KeyHash, Tuple};
 use crew::Gate;
 use query::Plan;
 use std::alloc::Global;
@@ -26,19 +24,17 @@ struct WatchOf<H: KeyHash<Cell>> {
     count: u64,
 }
 
-impl<H: KeyHash<Cell>> Promise<Result<Watcher<H>, Refused>> for WatchOf<H> {
-    ghost use Rattle.std.specs.Prelude.{IfErr, IfOk};
-    ghost use Rattle.report.specs.Waiting.{IsUnmade};
+impl<H: KeyHash<Cell>> Promise<Result<Watcher<H>, Want>> for WatchOf<H> {
+    ghost use Rattle.std.specs.Prelude.{IfOk};
     ghost use Rattle.report.specs.Watching.{HasWatched, watch_from};
 
-    ghost kept_by = { λ promise result.
-        IfOk result (HasWatched (watch_from promise.viewer.value promise.plan.value promise.count)) × IfErr result IsUnmade };
+    ghost kept_by = { λ promise result. IfOk result (HasWatched (watch_from promise.viewer.value promise.plan.value promise.count)) };
 }
 
 /// A viewer's thread, which was started.
 #[derive(Drop)]
 struct Started<H: KeyHash<Cell>> {
-    handle: PromisedHandle<Result<Watcher<H>, Refused>, WatchOf<H>>,
+    handle: PromisedHandle<Result<Watcher<H>, Want>, WatchOf<H>>,
 }
 
 /// Viewers that report in threads of their own, in the order of their numbers.
@@ -76,20 +72,17 @@ impl<H: KeyHash<Cell>> Audience<H> {
     /// The gate is told of each snapshot before the answer on it, with the viewer's number, which counts from 1 those
     /// that were started here.
     ///
-    /// [`Refused::NoWorker`] where the thread can't be started, [`Refused::OutOfMemory`] where a growth was refused.
+    /// [`Want::Worker`] where the thread can't be started, [`Want::Memory`] where a growth was refused.
     pub fn begin<'s, 'e: 's, R: Threads + Wait + Sync, G: Gate>(
         &mut self,
         starter: &Starter<'_, 's, 'e, R, G>,
         viewer: Viewer<H>,
         plan: Plan,
         count: u64,
-    ) -> Result<(), Refused>
+    ) -> Result<(), Want>
     where
         H: KeyHash<Tuple> + Send + Sync + 's,
-        requires planned { IsPlanOf viewer.schema plan }
-        requires workers { 1 ≤ starter.now.workers × (starter.now.workers ≤ worker_limit) }
         ensures watching { OnOk result (self.new ≡ self.old ++ watch_from viewer plan count ∷ []) }
-        ensures refused { IfErr result IsUnmade }
     {
         let number = self.started.len() as u64 + 1;
         let handle = start(starter, viewer, plan, number, count)?;
@@ -99,7 +92,7 @@ impl<H: KeyHash<Cell>> Audience<H> {
 
     /// Waits for the viewer of the least number that is still here. It has made its reports, or met want of memory or of a
     /// worker. None where nobody is left.
-    pub fn next<R: Threads>(&mut self, rt: &R) -> Option<Result<Watcher<H>, Refused>>
+    pub fn next<R: Threads>(&mut self, rt: &R) -> Option<Result<Watcher<H>, Want>>
         ensures some { IfSome result (ComesBack self.old self.new) }
         ensures none { IsNone result → self.old ≡ [] }
     {
@@ -128,13 +121,10 @@ fn start<
     plan: Plan,
     number: u64,
     count: u64,
-) -> Result<PromisedHandle<Result<Watcher<H>, Refused>, WatchOf<H>>, Refused>
-    requires planned { IsPlanOf viewer.schema plan }
-    requires workers { 1 ≤ starter.now.workers × (starter.now.workers ≤ worker_limit) }
+) -> Result<PromisedHandle<Result<Watcher<H>, Want>, WatchOf<H>>, Want>
     ensures viewer { IfOk result (λ handle. handle.promise.viewer.value ≡ viewer) }
     ensures plan { IfOk result (λ handle. handle.promise.plan.value ≡ plan) }
     ensures count { IfOk result (λ handle. handle.promise.count ≡ count) }
-    ensures refused { IfErr result (λ e. e ≡ Refused.NoWorker) }
 {
     // The law by which a viewer may be moved to the thread; it does nothing.
     viewers_cross_threads::<H>();
@@ -143,29 +133,12 @@ fn start<
         plan: snapshot::Snapshot::of(&plan),
         count,
     };
-    let rt = starter.rt;
-    let alloc = starter.alloc;
-    let workers = starter.workers;
-    let cutting = starter.cutting;
-    let columns_from = starter.columns_from;
-    let gate = starter.gate;
-    let job = move || -> Result<Watcher<H>, Refused>
-        requires { IsPlanOf viewer.schema plan × (1 ≤ workers) × (workers ≤ worker_limit) }
-        ensures watched { IfOk result (HasWatched (watch_from viewer plan count)) }
-        ensures refused { IfErr result IsUnmade }
-    {
-        let answering = Answering {
-            rt,
-            alloc,
-            workers,
-            cutting,
-            columns_from,
-            gate,
-        };
-        Watcher::new(alloc, viewer, plan).watch(&answering, number, count)
-    };
+    let answering = starter.answering;
+    let job = move || -> Result<Watcher<H>, Want>
+        ensures { IfOk result (HasWatched (watch_from viewer plan count)) }
+    { Watcher::new(answering.alloc, viewer, plan).watched(&answering, number, count) };
     match starter.scope.spawn_with(promise, job) {
         Ok(handle) => Ok(handle),
-        Err(_) => Err(Refused::NoWorker),
+        Err(_) => Err(Want::Worker),
     }
 }

@@ -1,16 +1,20 @@
 //! Text that waits to be written behind reports that are under way.
-ghost use Rattle.std.specs.Prelude.{◌≡◌, ◌⊎◌, ℕ, ◌+◌, ◌<◌, ◌≤◌, ◌^◌, ◌++◌, ◌∷◌, [], List, length, IfErr, IfOk, IsErrOf, OnErr, OnOk};
+ghost use Rattle.std.specs.Prelude.{◌≡◌, ℕ, ◌+◌, ◌<◌, ◌≤◌, ◌^◌, ◌++◌, ◌∷◌, [], List, length, IfErr, IsErrOf, OnErr, OnOk};
 ghost use Rattle.std.specs.Io.KnownBytes.{Appends};
-ghost use Rattle.query.specs.Plans.{IsPlanOf};
-ghost use Rattle.report.specs.Limits.{under_way_limit, worker_limit};
+ghost use Rattle.report.specs.Limits.{under_way_limit};
 ghost use Rattle.report.specs.Taken.{TakesBeginning};
-ghost use Rattle.report.specs.Waiting.{Awaits, AwaitsThen, Heads, IsUnmade, WritesAll, WritesOn};
+ghost use Rattle.report.specs.Waiting.{Awaits, AwaitsThen, Heads, WritesAll, WritesOn};
+ghost use Rattle.report.specs.declared.unwritten.Unwritten.TheVariants as unwritten;
+ghost use Rattle.report.specs.declared.want.Want.{Want as Wanted};
+ghost use Rattle.report.specs.declared.want.Want.TheVariants as want;
 
 use crate::limits::MAX_REPORTS;
 use crate::out::{Out, write_whole};
 use crate::starting::{AnswerOf, Starter};
+use crate::unwritten::Unwritten;
+use crate::want::Want;
 use board::Snapshot;
-use cells::{Cell, KeyHash, Refused, Tuple};
+use cells::{Cell, KeyHash, Tuple};
 use crew::Gate;
 use query::Plan;
 use std::alloc::{AllocError, Global};
@@ -24,7 +28,7 @@ use std::thread::{PromisedHandle, Threads};
 #[derive(Drop)]
 struct Pending<H: KeyHash<Cell>> {
     before: Vec<u8>,
-    answer: PromisedHandle<Result<Vec<u8>, Refused>, AnswerOf<H>>,
+    answer: PromisedHandle<Result<Vec<u8>, Want>, AnswerOf<H>>,
 }
 
 /// What waits to be written, in order: the answers of reports that are under way, of which there are at most
@@ -84,7 +88,7 @@ impl<H: KeyHash<Cell>> Backlog<H> {
     /// The report waits behind all the rest.
     fn push_report(
         &mut self,
-        answer: PromisedHandle<Result<Vec<u8>, Refused>, AnswerOf<H>>,
+        answer: PromisedHandle<Result<Vec<u8>, Want>, AnswerOf<H>>,
     ) -> Result<(), AllocError>
         requires { length self.old.reports < under_way_limit }
         ensures reports { OnOk result (self.new.reports ≡ self.old.reports ++ record { before = self.old.after; edition = answer.promise.edition.value; plan = answer.promise.plan.value } ∷ []) }
@@ -96,7 +100,7 @@ impl<H: KeyHash<Cell>> Backlog<H> {
     }
 
     /// Waits for the oldest report, and writes what waited up to its end.
-    fn write_oldest<O: Out, R: Threads>(&mut self, rt: &R, out: &mut O) -> Result<(), Refused>
+    fn write_oldest<O: Out, R: Threads>(&mut self, rt: &R, out: &mut O) -> Result<(), Unwritten>
         requires some { 0 < length self.old.reports }
         requires faults { O.faults out.old + 1 < 2 ^ 64 }
         ensures fewer { length self.new.reports + 1 ≡ length self.old.reports }
@@ -109,7 +113,7 @@ impl<H: KeyHash<Cell>> Backlog<H> {
     }
 
     /// Makes room for a report: where as many as may be are under way, the oldest is waited for.
-    fn make_room<O: Out, R: Threads>(&mut self, rt: &R, out: &mut O) -> Result<(), Refused>
+    fn make_room<O: Out, R: Threads>(&mut self, rt: &R, out: &mut O) -> Result<(), Unwritten>
         requires { O.faults out.old + 1 < 2 ^ 64 }
         ensures room { OnOk result (length self.new.reports < under_way_limit) }
         ensures early { length self.old.reports < under_way_limit → self.new ≡ self.old }
@@ -121,32 +125,50 @@ impl<H: KeyHash<Cell>> Backlog<H> {
         self.write_oldest(rt, out)
     }
 
+    /// Makes room for a report, whose heading waits behind all the rest.
+    fn make_way<O: Out, R: Threads>(
+        &mut self,
+        rt: &R,
+        out: &mut O,
+        heading: &[u8],
+    ) -> Result<(), Unwritten>
+        requires { O.faults out.old + 1 < 2 ^ 64 }
+        ensures room { OnOk result (length self.new.reports < under_way_limit) }
+        ensures goes_on { WritesOn O.taken O.faults out.old out.new self.new (AwaitsThen self.old (λ more. heading.now ≡ more)) result }
+    {
+        self.make_room(rt, out)?;
+        self.push_text(heading)?;
+        Ok(())
+    }
+
     /// Writes what waits behind the last report. No report is under way.
-    fn write_after<O: Out>(&mut self, out: &mut O) -> Result<(), Refused>
+    fn write_after<O: Out>(&mut self, out: &mut O) -> Result<(), Unwritten>
         requires idle { self.old.reports ≡ [] }
         requires faults { O.faults out.old + 1 < 2 ^ 64 }
         ensures idle { self.new.reports ≡ [] }
         ensures nothing { OnOk result (self.new.after ≡ []) }
         ensures written { OnOk result (Appends (O.taken out.old) (O.taken out.new) self.old.after) }
         ensures sound { OnOk result (O.faults out.new ≡ O.faults out.old) }
-        ensures refused { IfErr result (λ e. e ≡ Refused.WriteFailed) }
+        ensures only { IfErr result (λ why. why ≡ unwritten.WriteFailed) }
         ensures fault { OnErr result (O.faults out.new ≡ O.faults out.old + 1) }
         ensures beginning { OnErr result (TakesBeginning (O.taken out.old) (O.taken out.new) self.old.after) }
     {
-        write_whole(out, self.after.as_slice())?;
+        let Ok(()) = write_whole(out, self.after.as_slice()) else {
+            return Err(Unwritten::WriteFailed);
+        };
         self.after.clear();
         Ok(())
     }
 
     /// The text is written once all that waits is: at once where no report is under way.
     ///
-    /// [`Refused::OutOfMemory`] where there is no room for the text, [`Refused::WriteFailed`] where the writer failed.
-    pub fn say<O: Out>(&mut self, out: &mut O, text: &[u8]) -> Result<(), Refused>
+    /// It wants memory where there is no room for the text, and no worker.
+    pub fn say<O: Out>(&mut self, out: &mut O, text: &[u8]) -> Result<(), Unwritten>
         requires { O.faults out.old + 1 < 2 ^ 64 }
         ensures goes_on { WritesOn O.taken O.faults out.old out.new self.new (AwaitsThen self.old (λ more. text.now ≡ more)) result }
         ensures at_once { self.old.reports ≡ [] → OnOk result (self.new.after ≡ []) }
         ensures reports { length self.new.reports ≡ length self.old.reports }
-        ensures refused { IfErr result (λ e. (e ≡ Refused.OutOfMemory) ⊎ (e ≡ Refused.WriteFailed)) }
+        ensures worker { IsErrOf result (unwritten.Want want.Worker) → ⊥ }
     {
         self.push_text(text)?;
         if self.len() > 0 {
@@ -158,9 +180,8 @@ impl<H: KeyHash<Cell>> Backlog<H> {
     /// Starts a report in a thread of its own. The heading and then the answer are written once all that waits is.
     /// Where [`MAX_REPORTS`] are under way, the oldest is waited for first, and written.
     ///
-    /// [`Refused::NoWorker`] where a thread can't be started, or the report that was waited for met that;
-    /// [`Refused::OutOfMemory`] where a growth was refused, here or in it; [`Refused::WriteFailed`] where the writer
-    /// failed. A report that is waited for ends before anything is written for it.
+    /// It wants a worker where a thread can't be started, or the report that was waited for met that, and memory where a
+    /// growth was refused, here or in it. A report that is waited for ends before anything is written for it.
     pub fn begin<'s, 'e: 's, O: Out, R: Threads + Wait + Sync, G: Gate>(
         &mut self,
         starter: &Starter<'_, 's, 'e, R, G>,
@@ -168,16 +189,13 @@ impl<H: KeyHash<Cell>> Backlog<H> {
         heading: &[u8],
         snapshot: Snapshot<H>,
         plan: Plan,
-    ) -> Result<(), Refused>
+    ) -> Result<(), Unwritten>
     where
         H: KeyHash<Tuple> + Send + Sync + 's,
-        requires planned { IsPlanOf snapshot.schema plan }
-        requires workers { 1 ≤ starter.now.workers × (starter.now.workers ≤ worker_limit) }
         requires faults { O.faults out.old + 1 < 2 ^ 64 }
         ensures { WritesOn O.taken O.faults out.old out.new self.new (AwaitsThen self.old (Heads heading.now snapshot plan)) result }
     {
-        self.make_room(starter.rt, out)?;
-        self.push_text(heading)?;
+        self.make_way(starter.answering.rt, out, heading)?;
         let answer = starter.start(snapshot, plan)?;
         self.push_report(answer)?;
         Ok(())
@@ -185,12 +203,11 @@ impl<H: KeyHash<Cell>> Backlog<H> {
 
     /// Waits for all reports, one after another, and writes all that waits.
     ///
-    /// [`Refused::NoWorker`] and [`Refused::OutOfMemory`] where a report met that, [`Refused::WriteFailed`] where the
-    /// writer failed: then later reports may still be under way.
-    pub fn finish<O: Out, R: Threads>(&mut self, rt: &R, out: &mut O) -> Result<(), Refused>
+    /// At an error later reports may still be under way. What is wanted, a report wanted.
+    pub fn finish<O: Out, R: Threads>(&mut self, rt: &R, out: &mut O) -> Result<(), Unwritten>
         requires { O.faults out.old + 1 < 2 ^ 64 }
         ensures whole { WritesAll O.taken O.faults out.old out.new (Awaits self.old) result }
-        ensures worker { IsErrOf result Refused.NoWorker → 0 < length self.old.reports }
+        ensures worker { IsErrOf result (unwritten.Want want.Worker) → 0 < length self.old.reports }
     {
         while self.len() > 0 {
             self.write_oldest(rt, out)?;
@@ -208,14 +225,19 @@ impl<H: KeyHash<Cell>> Backlog<H> {
 
 impl<H: KeyHash<Cell>> Pending<H> {
     /// Waits for the report, and then writes what waits with it and its answer.
-    fn write<O: Out, R: Threads>(self, rt: &R, out: &mut O) -> Result<(), Refused>
+    fn write<O: Out, R: Threads>(self, rt: &R, out: &mut O) -> Result<(), Unwritten>
         requires { O.faults out.old + 1 < 2 ^ 64 }
         ensures whole { WritesAll O.taken O.faults out.old out.new (Heads self.before.items self.answer.promise.edition.value self.answer.promise.plan.value) result }
-        ensures waited { IfErr result (λ e. (e ≡ Refused.WriteFailed) ⊎ (IsUnmade e × (O.taken out.new ≡ O.taken out.old))) }
+        ensures waited { (wanted : Wanted) → IsErrOf result (unwritten.Want wanted) → O.taken out.new ≡ O.taken out.old }
     {
         let Pending { before, answer } = self;
         let answer = answer.join(rt)?;
-        write_whole(out, before.as_slice())?;
-        write_whole(out, answer.as_slice())
+        let Ok(()) = write_whole(out, before.as_slice()) else {
+            return Err(Unwritten::WriteFailed);
+        };
+        let Ok(()) = write_whole(out, answer.as_slice()) else {
+            return Err(Unwritten::WriteFailed);
+        };
+        Ok(())
     }
 }

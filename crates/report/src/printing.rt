@@ -51,9 +51,8 @@ fn push_headings(text: &mut Vec<u8>, headings: &[Text]) -> Result<(), AllocError
 }
 
 /// The text with the line of a row behind it.
-fn push_row(alloc: Global, text: &mut Vec<u8>, totals: &[Total]) -> Result<(), Refused>
-    ensures text { OnOk result (text.new.items ≡ text.old.items ++ row_text totals.now) }
-    ensures refused { IfErr result (λ e. e ≡ Refused.OutOfMemory) }
+fn push_row(alloc: Global, text: &mut Vec<u8>, totals: &[Total]) -> Result<(), AllocError>
+    ensures { OnOk result (text.new.items ≡ text.old.items ++ row_text totals.now) }
 {
     if let Some((first, rest)) = totals.split_first() {
         push_literal(alloc, text, first)?;
@@ -64,9 +63,8 @@ fn push_row(alloc: Global, text: &mut Vec<u8>, totals: &[Total]) -> Result<(), R
 }
 
 /// The text with the values behind it, each after a separator.
-fn push_literals(alloc: Global, text: &mut Vec<u8>, totals: &[Total]) -> Result<(), Refused>
-    ensures text { OnOk result (text.new.items ≡ text.old.items ++ flat_map (λ total. separator ++ literal_of total) totals.now) }
-    ensures refused { IfErr result (λ e. e ≡ Refused.OutOfMemory) }
+fn push_literals(alloc: Global, text: &mut Vec<u8>, totals: &[Total]) -> Result<(), AllocError>
+    ensures { OnOk result (text.new.items ≡ text.old.items ++ flat_map (λ total. separator ++ literal_of total) totals.now) }
 {
     for total in totals {
         text.extend_from_slice(SEPARATOR)?;
@@ -76,11 +74,12 @@ fn push_literals(alloc: Global, text: &mut Vec<u8>, totals: &[Total]) -> Result<
 }
 
 /// The text with a value behind it.
-fn push_literal(alloc: Global, text: &mut Vec<u8>, total: &Total) -> Result<(), Refused>
-    ensures text { OnOk result (text.new.items ≡ text.old.items ++ literal_of total.now) }
-    ensures refused { IfErr result (λ e. e ≡ Refused.OutOfMemory) }
+fn push_literal(alloc: Global, text: &mut Vec<u8>, total: &Total) -> Result<(), AllocError>
+    ensures { OnOk result (text.new.items ≡ text.old.items ++ literal_of total.now) }
 {
-    let value = literal(alloc, total)?;
+    let Ok(value) = literal(alloc, total) else {
+        return Err(AllocError);
+    };
     text.extend_from_slice(value.as_bytes())?;
     Ok(())
 }

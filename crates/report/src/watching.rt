@@ -1,22 +1,20 @@
 //! Viewers that report in threads of their own while the keeper goes on.
-ghost use Rattle.std.specs.Prelude.{◌≡◌, ◌≤◌, ◌+◌, ◌++◌, ◌∷◌, [], length, map, IfErr, IfOk};
+ghost use Rattle.std.specs.Prelude.{◌≡◌, ◌+◌, ◌++◌, ◌∷◌, [], length, map, IfOk, OnOk};
 ghost use mathlib.Core.List.{IsPrefix};
 ghost use Rattle.board.specs.Editions.{IsLastOf, Looks, edition, history, published};
-ghost use Rattle.query.specs.Plans.{IsPlanOf};
-ghost use Rattle.report.specs.Limits.{worker_limit};
-ghost use Rattle.report.specs.Waiting.{IsReportText, IsUnmade};
-ghost use Rattle.report.specs.Watching.{GoUpTo, HasWatched, IsLastEdition, IsOf, IsShot, up_to as up_to_last};
+ghost use Rattle.report.specs.Waiting.{IsReportText};
+ghost use Rattle.report.specs.Watching.{GoUpTo, HasWatched, IsLastEdition, IsLastShot, IsOf, IsShot, up_to as up_to_last};
 
-use crate::answering::answer_from;
+use crate::answering::Answering;
+use crate::want::Want;
 use board::{Keeper, Snapshot, Viewer};
-use cells::{Cell, KeyHash, Refused, Tuple};
+use cells::{Cell, KeyHash, Tuple};
 use crew::Gate;
 use query::Plan;
 use std::alloc::{AllocError, Global};
 use std::marker::Model;
 use std::sync::Wait;
 use std::thread::Threads;
-use trie::Cutting;
 
 /// A report of a viewer: the number of the edition that it is on, and its text.
 #[derive(Drop)]
@@ -46,7 +44,6 @@ impl<H: KeyHash<Cell>> Model for Watcher<H> {
     ghost use Rattle.std.specs.Coded.{codes};
     ghost use Rattle.board.specs.Editions.{coded_known};
     ghost use Rattle.query.specs.Codes.{coded_predicate};
-    ghost use Rattle.query.specs.Plans.{IsPlanOf};
     ghost use Rattle.report.specs.Watching.{AreShots, Watching};
 
     ghost Value = { Watching };
@@ -55,18 +52,7 @@ impl<H: KeyHash<Cell>> Model for Watcher<H> {
 
     ghost view = { λ w. record { viewer = w.viewer; plan = w.plan; shots = w.shots.items } };
 
-    ghost invariant = { λ w. IsPlanOf w.viewer.schema w.plan × AreShots w.viewer.history w.plan 0 w.shots.items };
-}
-
-/// What each report of a viewer is answered with, as of [`answer_from`](crate::answer_from).
-#[derive(Drop)]
-pub struct Answering<'a, R, G> {
-    pub rt: &'a R,
-    pub alloc: Global,
-    pub workers: u64,
-    pub cutting: Cutting,
-    pub columns_from: u64,
-    pub gate: &'a G,
+    ghost invariant = { λ w. AreShots w.viewer.history w.plan 0 w.shots.items };
 }
 
 impl<'a, R: Threads + Wait, G: Gate> Answering<'a, R, G> {
@@ -75,23 +61,11 @@ impl<'a, R: Threads + Wait, G: Gate> Answering<'a, R, G> {
         &self,
         snapshot: &Snapshot<H>,
         plan: &Plan,
-    ) -> Result<Shot, Refused>
-        requires planned { IsPlanOf snapshot.now.schema plan.now }
-        requires workers { 1 ≤ self.now.workers × (self.now.workers ≤ worker_limit) }
+    ) -> Result<Shot, Want>
         ensures edition { IfOk result (λ shot. shot.edition ≡ snapshot.now.number) }
         ensures text { IfOk result (λ shot. IsReportText snapshot.now.rows plan.now shot.text) }
-        ensures refused { IfErr result IsUnmade }
     {
-        let text = answer_from(
-            self.rt,
-            self.alloc,
-            snapshot,
-            plan,
-            self.workers,
-            &self.cutting,
-            self.columns_from,
-            self.gate,
-        )?;
+        let text = self.text(snapshot, plan)?;
         Ok(Shot {
             edition: snapshot.edition(),
             text,
@@ -102,7 +76,6 @@ impl<'a, R: Threads + Wait, G: Gate> Answering<'a, R, G> {
 impl<H: KeyHash<Cell>> Watcher<H> {
     /// The viewer before its first report. It takes no memory.
     pub(crate) fn new(alloc: Global, viewer: Viewer<H>, plan: Plan) -> Watcher<H>
-        requires { IsPlanOf viewer.schema plan }
         ensures { result ≡ record { viewer = viewer; plan = plan; shots = [] } }
     {
         Watcher {
@@ -114,59 +87,88 @@ impl<H: KeyHash<Cell>> Watcher<H> {
 }
 
 impl<H: KeyHash<Cell> + KeyHash<Tuple> + Send + Sync> Watcher<H> {
-    /// Makes so many reports more, each on a snapshot that is taken then.
-    pub(crate) fn watch<R: Threads + Wait, G: Gate>(
+    /// The viewer once it has made so many reports more, each on a snapshot that is taken then.
+    pub(crate) fn watched<R: Threads + Wait, G: Gate>(
         self,
         answering: &Answering<'_, R, G>,
         number: u64,
         count: u64,
-    ) -> Result<Watcher<H>, Refused>
-        requires workers { 1 ≤ answering.now.workers × (answering.now.workers ≤ worker_limit) }
-        ensures watched { IfOk result (HasWatched (record { before = self; count = count })) }
-        ensures refused { IfErr result IsUnmade }
+    ) -> Result<Watcher<H>, Want>
+        ensures { IfOk result (HasWatched (record { before = self; count = count })) }
     {
-        let Watcher {
-            mut viewer,
-            plan,
-            mut shots,
-        } = self;
+        let mut watcher = self;
+        watcher.watch(answering, number, count)?;
+        Ok(watcher)
+    }
+
+    /// Makes so many reports more.
+    fn watch<R: Threads + Wait, G: Gate>(
+        &mut self,
+        answering: &Answering<'_, R, G>,
+        number: u64,
+        count: u64,
+    ) -> Result<(), Want>
+        ensures { OnOk result (HasWatched (record { before = self.old; count = count }) self.new) }
+    {
         for _ in 0..count {
-            let shot = look(answering, &mut viewer, &plan, number)?;
-            shots.push(shot)?;
+            self.watch_once(answering, number)?;
         }
-        Ok(Watcher {
-            viewer,
-            plan,
-            shots,
-        })
+        Ok(())
+    }
+
+    /// Makes one report more.
+    fn watch_once<R: Threads + Wait, G: Gate>(
+        &mut self,
+        answering: &Answering<'_, R, G>,
+        number: u64,
+    ) -> Result<(), Want>
+        ensures { OnOk result (HasWatched (record { before = self.old; count = 1 }) self.new) }
+    {
+        let shot = look(answering, &mut self.viewer, &self.plan, number)?;
+        self.shots.push(shot)?;
+        Ok(())
     }
 
     /// The reports of the viewer with its last one, which the keeper's thread makes here: the viewer learns what the
     /// keeper tells, and so the report is on the last edition. The number of each edition is compared with that of the
     /// last one, and in place of a report on a higher one stands the last report.
     ///
-    /// [`Refused::NoWorker`] where a thread can't be started, [`Refused::OutOfMemory`] where a growth was refused.
+    /// [`Want::Worker`] where a thread can't be started, [`Want::Memory`] where a growth was refused.
     pub fn finish<R: Threads + Wait, G: Gate>(
         self,
         answering: &Answering<'_, R, G>,
         keeper: &mut Keeper<H>,
-    ) -> Result<Vec<Shot>, Refused>
+    ) -> Result<Vec<Shot>, Want>
         requires own { IsOf keeper.old self.viewer }
-        requires workers { 1 ≤ answering.now.workers × (answering.now.workers ≤ worker_limit) }
         ensures same { keeper.new ≡ keeper.old }
         ensures shots { IfOk result (λ shots. GoUpTo (history keeper.old) self.plan (edition keeper.old) 0 (length self.shots) shots.items) }
-        ensures refused { IfErr result IsUnmade }
     {
         let Watcher {
             mut viewer,
             plan,
             shots,
         } = self;
-        let snapshot = last_edition(&mut viewer, keeper)?;
-        let last = answering.shot(&snapshot, &plan)?;
-        drop(snapshot);
-        ended(answering.alloc, shots, last)
+        let last = last_look(answering, &mut viewer, &plan, keeper);
+        drop(viewer);
+        drop(plan);
+        Ok(ended(answering.alloc, shots, last?)?)
     }
+}
+
+/// The report on the last edition of the keeper, once the viewer has learnt what the keeper tells.
+fn last_look<H: KeyHash<Cell> + KeyHash<Tuple> + Send + Sync, R: Threads + Wait, G: Gate>(
+    answering: &Answering<'_, R, G>,
+    viewer: &mut Viewer<H>,
+    plan: &Plan,
+    keeper: &mut Keeper<H>,
+) -> Result<Shot, Want>
+    requires own { IsOf keeper.old viewer.old }
+    ensures same { keeper.new ≡ keeper.old }
+    ensures learnt { IsPrefix viewer.old.history viewer.new.history × IsPrefix (history keeper.old) viewer.new.history }
+    ensures last { IfOk result (IsLastShot keeper.old plan.now) }
+{
+    let snapshot = last_edition(viewer, keeper)?;
+    answering.shot(&snapshot, plan)
 }
 
 /// A report on a snapshot that the viewer takes now. The gate is told of the snapshot before it is answered.
@@ -175,12 +177,9 @@ fn look<H: KeyHash<Cell> + KeyHash<Tuple> + Send + Sync, R: Threads + Wait, G: G
     viewer: &mut Viewer<H>,
     plan: &Plan,
     number: u64,
-) -> Result<Shot, Refused>
-    requires planned { IsPlanOf viewer.old.schema plan.now }
-    requires workers { 1 ≤ answering.now.workers × (answering.now.workers ≤ worker_limit) }
+) -> Result<Shot, Want>
     ensures looks { Looks viewer.old viewer.new }
     ensures shot { IfOk result (λ shot. IsShot viewer.new.history plan.now shot × (length viewer.new.history ≡ shot.edition + 1)) }
-    ensures refused { IfErr result IsUnmade }
 {
     let snapshot = viewer.snapshot()?;
     answering.gate.viewing(number, snapshot.edition());
@@ -192,29 +191,27 @@ fn look<H: KeyHash<Cell> + KeyHash<Tuple> + Send + Sync, R: Threads + Wait, G: G
 fn last_edition<H: KeyHash<Cell>>(
     viewer: &mut Viewer<H>,
     keeper: &mut Keeper<H>,
-) -> Result<Snapshot<H>, Refused>
+) -> Result<Snapshot<H>, Want>
     requires own { IsOf keeper.old viewer.old }
     ensures same { keeper.new ≡ keeper.old }
     ensures seen { IsPrefix viewer.old.history viewer.new.history }
     ensures learnt { IsPrefix (history keeper.old) viewer.new.history }
     ensures last { IfOk result (IsLastEdition keeper.old) }
     ensures ended { IsLastOf (history keeper.old) (edition keeper.old) (published keeper.old) }
-    ensures refused { IfErr result (λ e. e ≡ Refused.OutOfMemory) }
 {
     // The law by which the keeper's history ends with its last edition; it does nothing.
     keeper.rows_fit();
     viewer.learn(keeper.tell());
     let seen = viewer.snapshot()?;
     if seen.edition() > keeper.edition() {
-        return keeper.snapshot();
+        return Ok(keeper.snapshot()?);
     }
     Ok(seen)
 }
 
 /// The reports up to the last edition, and then the last report.
-fn ended(alloc: Global, shots: Vec<Shot>, last: Shot) -> Result<Vec<Shot>, Refused>
-    ensures shots { IfOk result (λ all. all.items ≡ map (up_to_last last) shots.items ++ last ∷ []) }
-    ensures refused { IfErr result (λ e. e ≡ Refused.OutOfMemory) }
+fn ended(alloc: Global, shots: Vec<Shot>, last: Shot) -> Result<Vec<Shot>, AllocError>
+    ensures { IfOk result (λ all. all.items ≡ map (up_to_last last) shots.items ++ last ∷ []) }
 {
     let mut all = Vec::new(alloc);
     for shot in shots {

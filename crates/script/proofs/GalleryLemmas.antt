@@ -9,20 +9,19 @@ use Rattle.cells.specs.declared.refused.Refused.{Refused}
 use Rattle.cells.specs.declared.refused.Refused.TheVariants as refused
 use Rattle.query.specs.Plans.{PlanTree}
 use Rattle.report.specs.Laws.{takes_nothing}
-use Rattle.report.specs.Waiting.{IsUnmade}
+use Rattle.report.specs.declared.want.Want.{Want}
 use Rattle.report.specs.Watching.{ComesBack, GoUpTo, IsOf, Sight, Watch, Watching}
 use Rattle.script.specs.Desks.{Keeps}
-use Rattle.script.specs.Endings.{BeginsToWrite, Delivers, EndsBy}
+use Rattle.script.specs.Endings.{BeginsToWrite, Delivers}
 use Rattle.script.specs.Givens.{Givens}
 use Rattle.script.specs.Output.{edition, editions}
 use Rattle.script.specs.Says.{IsRefused, MeansPlan}
 use Rattle.script.specs.Tails.{AreViewers, AreViews, Viewing}
-use Rattle.script.specs.Viewers.{Attend, HasAttended, HasViewers, IsStarted, IsUnstarted, begun, turned, view_block}
+use Rattle.script.specs.Viewers.{Attend, HasAttended, HasViewers, IsStarted, begun, turned, view_block}
 use Rattle.script.specs.declared.ended.Ended.{Ended}
-use Rattle.script.specs.declared.ended.Ended.TheVariants.{OutOfMemory, WriteFailed}
+use Rattle.script.specs.declared.ended.Ended.TheVariants.{WriteFailed}
 use Rattle.script.specs.declared.stage.Stage.{Stage}
 use Rattle.script.specs.declared.stage.Stage.TheVariants.{Begun, Expected, Turned}
-use Rattle.script.proofs.ProgressLemmas.{delivers_refused}
 use Rattle.script.proofs.TailsLemmas.{SoFar, begins_more, some_view, some_viewers, views_of}
 
 abbrev Lines : Type 0
@@ -41,13 +40,8 @@ pub turned_all : (viewing : Viewing) (k : Editions) (fault : Refused) (watches :
 turned_all viewing k fault watches none memory (inl late) = absurd (memory late)
 turned_all viewing k fault watches none memory (inr says) = subst (Attend viewing (Some k) (Turned fault)) (sym none) (turned (says []))
 
--- what was met where viewers are started
-pub unstarted : (late : Refused) (e : Ended) → IsUnmade late → EndsBy late e → IsUnstarted e
-unstarted late e (inl worker) ends = inr (inl (ends.worker worker))
-unstarted late e (inr memory) ends = inl (ends.memory memory)
-
 -- they attend once they were started or turned away
-pub attended_begun : {T : Type 0} (asked : Option Viewing) (viewing : Viewing) (desk : Option Editions) (k : Editions) (stage : Stage) (watches : List Watch) (result : Result T Ended) →
+pub attended_begun : {T E : Type 0} (asked : Option Viewing) (viewing : Viewing) (desk : Option Editions) (k : Editions) (stage : Stage) (watches : List Watch) (result : Result T E) →
     asked ≡ Some viewing → desk ≡ Some k → OnOk result (Attend viewing (Some k) stage watches) → OnOk result (stage ≡ Expected → ⊥) → OnOk result (HasAttended asked desk stage watches)
 attended_begun None viewing desk k stage watches result same there attend late = absurd cc
 attended_begun (Some other) viewing None k stage watches result same there attend late = absurd cc
@@ -66,16 +60,6 @@ has_viewers (Some other) viewing same = tt
 
 -- ---- how one is written
 
-unmade_writer : (late : Refused) → IsUnmade late → late ≡ refused.WriteFailed → ⊥
-unmade_writer late (inl worker) is = absurd cc
-unmade_writer late (inr memory) is = absurd cc
-
--- memory or a worker was wanting behind a beginning
-pub delivers_unmade : {W T : Type 0} (taken : W → Option (List ℕ)) (faults : W → ℕ) (old new : W) (IsWhole : List ℕ → Type 0) (late : Refused) (e : Ended) (result : Result T Ended) →
-    BeginsToWrite IsWhole (taken old) (taken new) → IsUnmade late → EndsBy late e → result ≡ Err e → Delivers taken faults old new IsWhole result
-delivers_unmade taken faults old new IsWhole late e result beginning why ends is =
-    delivers_refused taken faults old new IsWhole late e result beginning (inl why) ends (λ writer. absurd (unmade_writer late why writer)) is
-
 -- the blocks of the reports up to the last edition
 pub blocks_of : (givens : Givens) (before : Lines) (k : Editions) (query : List ℕ) (plan : PlanTree) (viewer count n : ℕ) (shots : List Sight) (text : List ℕ) → MeansPlan (keeper.schema k) query plan → Keeps givens before k →
     n ≡ count → GoUpTo (keeper.history k) plan (keeper.edition k) 0 n shots → text ≡ flat_map (view_block viewer) shots →
@@ -93,7 +77,7 @@ pub record CameBack (viewing : Viewing) (k : Editions) (watcher : Watching) : Ty
   pub plan : MeansPlan (keeper.schema k) viewing.query watcher.plan
   pub many : length watcher.shots ≡ viewing.shots
 
-pub came_back : (viewing : Viewing) (k : Editions) (old new : List Watch) (result : Result Watching Refused) → ComesBack old new result → AllByRecursion (IsStarted viewing k) old →
+pub came_back : (viewing : Viewing) (k : Editions) (old new : List Watch) (result : Result Watching Want) → ComesBack old new result → AllByRecursion (IsStarted viewing k) old →
     IfOk result (CameBack viewing k)
 came_back viewing k old new result back all =
     let started = (subst (AllByRecursion (IsStarted viewing k)) back.first all).0 in
@@ -104,12 +88,12 @@ came_back viewing k old new result back all =
     }) back.watched
 
 -- one fewer is left, and each of them was started
-pub left_back : (viewing : Viewing) (k : Editions) (old new : List Watch) (result : Result Watching Refused) → ComesBack old new result → AllByRecursion (IsStarted viewing k) old →
+pub left_back : (viewing : Viewing) (k : Editions) (old new : List Watch) (result : Result Watching Want) → ComesBack old new result → AllByRecursion (IsStarted viewing k) old →
     AllByRecursion (IsStarted viewing k) new × (length old ≡ suc (length new))
 left_back viewing k old new result back all = ((subst (AllByRecursion (IsStarted viewing k)) back.first all).1, ap length back.first)
 
 -- blocks that any of them might have
-pub some_back : (givens : Givens) (before : Lines) (viewing : Viewing) (k : Editions) (old new : List Watch) (result : Result Watching Refused) → Keeps givens before k → ComesBack old new result → AllByRecursion (IsStarted viewing k) old →
+pub some_back : (givens : Givens) (before : Lines) (viewing : Viewing) (k : Editions) (old new : List Watch) (result : Result Watching Want) → Keeps givens before k → ComesBack old new result → AllByRecursion (IsStarted viewing k) old →
     (viewer count : ℕ) → (bytes : List ℕ) × AreViewers (keeper.schema k) (editions givens before) (keeper.edition k) viewing viewer count bytes
 some_back givens before viewing k old new result keeps back all =
     let plan = back.watch.before.plan in
@@ -137,16 +121,6 @@ delivers_more {S = S} taken faults old middle new givens before viewing k number
 -- nothing was written yet of what might be
 pub nothing_yet : (IsWhole : List ℕ → Type 0) (told : Option (List ℕ)) (whole : List ℕ) → IsWhole whole → BeginsToWrite IsWhole told told
 nothing_yet IsWhole told whole is = record { whole = whole; is_whole = is; beginning = takes_nothing told whole }
-
--- memory was wanting behind a beginning
-pub for_memory : {W T : Type 0} (taken : W → Option (List ℕ)) (faults : W → ℕ) (old new : W) (IsWhole : List ℕ → Type 0) (e : Ended) (result : Result T Ended) →
-    BeginsToWrite IsWhole (taken old) (taken new) → e ≡ OutOfMemory → result ≡ Err e → Delivers taken faults old new IsWhole result
-for_memory taken faults old new IsWhole e result beginning memory is = rw (is, memory) (record { output = tt; beginning = beginning; fault = λ late. absurd cc; sound = tt })
-
--- what is so of the error that came
-pub err_so : {T E : Type 0} (r : Result T E) (e : E) (P : E → Type 0) → IfErr r P → r ≡ Err e → P e
-err_so (Ok x) e P p is = absurd cc
-err_so (Err f) e P p is = let same : f ≡ e = cc in subst P same p
 
 -- what is so is so of any error
 pub if_err_any : {T E : Type 0} (r : Result T E) (P : Type 0) → P → IfErr r (λ _. P)

@@ -1,5 +1,5 @@
 -- The numbers of a listing, and the parts that they number.
-use Rattle.std.proofs.Common.{◌≡◌, ◌≢◌, ◌≤◌, ◌<◌, ℕ, zero, suc, ◌+◌, ◌==◌, Bool, true, false, ◌&&◌, cond, Option, Some, None, List, [], ◌∷◌, ◌++◌, Bor, length, map, option_map, get_or, refl, sym, ap, ◌∙◌, arith, append_assoc}
+use Rattle.std.proofs.Common.{◌≡◌, ◌≢◌, ◌≤◌, ◌<◌, ℕ, zero, suc, ◌+◌, ◌==◌, Bool, true, false, cond, Option, Some, None, List, [], ◌∷◌, ◌++◌, Bor, length, map, option_map, get_or, refl, sym, ap, ◌∙◌, arith}
 use Rattle.std.proofs.lemmas.Bool.Decides.{nat_tests}
 use Rattle.std.proofs.lemmas.Grind.{common_steps}
 use Rattle.std.specs.Prelude.{is_some, nat_lt, option_and_then, slice_get}
@@ -84,20 +84,6 @@ left_len left = option_map_or (λ t. length t.now + 1) left 0
 pub record IsAllLeft (text : List ℕ) (left : Left) : Type 0 where
   pub same : are_numbers text ≡ list_all is_number (parts_left left)
 
-pub all_left_first : (text : Bor (List ℕ)) → IsAllLeft text.now (Some text)
-all_left_first text = record { same = refl }
-
-same_all : (parts qs : List (List ℕ)) (number : List ℕ) (b : Bool) → parts ≡ number ∷ qs → is_number number ≡ b → list_all is_number parts ≡ (b && list_all is_number qs)
-same_all parts qs number b parted is = ap (list_all is_number) parted ∙ ap (λ c. c && list_all is_number qs) is
-
-pub all_left_next : (text : List ℕ) (here : Bor (List ℕ)) (behind : Left) (number : List ℕ) → IsAllLeft text (Some here) →
-    between_spaces here.now ≡ number ∷ parts_left behind → is_number number ≡ true → IsAllLeft text behind
-all_left_next text here behind number so_far parted is = record { same = so_far.same ∙ same_all (between_spaces here.now) (parts_left behind) number true parted is }
-
-pub not_all : (text : List ℕ) (here : Bor (List ℕ)) (behind : Left) (number : List ℕ) → IsAllLeft text (Some here) →
-    between_spaces here.now ≡ number ∷ parts_left behind → is_number number ≡ false → are_numbers text ≡ false
-not_all text here behind number so_far parted is = so_far.same ∙ same_all (between_spaces here.now) (parts_left behind) number false parted is
-
 -- ---- the parts that are numbered
 abbrev pub all_spelt : List (List ℕ) → List (List ℕ) → Option (List Part)
 all_spelt parts texts = all_there (map (part_spelt parts) texts)
@@ -106,49 +92,3 @@ all_spelt parts texts = all_there (map (part_spelt parts) texts)
 pub record IsFound (parts : List (List ℕ)) (text : List ℕ) (found : List Part) (left : Left) : Type 0 where
   pub whole : all_spelt parts (between_spaces text) ≡ option_map (λ more. found ++ more) (all_spelt parts (parts_left left))
   pub few : length found + left_len left ≤ length text + 1
-
-pub found_first : (parts : List (List ℕ)) (text : Bor (List ℕ)) → IsFound parts text.now [] (Some text)
-found_first parts text = record { whole = sym (same (all_spelt parts (between_spaces text.now))); few = omega arith } where
-  same : (o : Option (List Part)) → option_map (λ more. [] ++ more) o ≡ o
-  same None = refl
-  same (Some more) = refl
-
-moved : (found : List Part) (part : Part) (o : Option (List Part)) →
-    option_map (λ more. found ++ more) (option_map (λ more. part ∷ more) o) ≡ option_map (λ more. (found ++ part ∷ []) ++ more) o
-moved found part None = refl
-moved found part (Some more) = ap Some (sym (append_assoc found (part ∷ []) more))
-
-spelt_next : (parts texts rest : List (List ℕ)) (text : List ℕ) (o : Option Part) → texts ≡ text ∷ rest → part_spelt parts text ≡ o →
-    all_spelt parts texts ≡ all_there (o ∷ map (part_spelt parts) rest)
-spelt_next parts texts rest text o parted is = ap (all_spelt parts) parted ∙ ap (λ p. all_there (p ∷ map (part_spelt parts) rest)) is
-
-left_shorter : (behind : Left) (n : ℕ) → ((t : Bor (List ℕ)) → behind ≡ Some t → length t.now < n) → left_len behind ≤ n
-left_shorter None n shorter = omega arith
-left_shorter (Some t) n shorter = let less = shorter t refl in omega (arith, less)
-
-pub found_next : (parts : List (List ℕ)) (text : List ℕ) (found new : List Part) (part : Part) (here : Bor (List ℕ)) (behind : Left) (number : List ℕ) → IsFound parts text found (Some here) →
-    between_spaces here.now ≡ number ∷ parts_left behind → ((t : Bor (List ℕ)) → behind ≡ Some t → length t.now < length here.now) →
-    Some part ≡ part_spelt parts number → new ≡ found ++ part ∷ [] → IsFound parts text new behind
-found_next parts text found new part here behind number so_far parted shorter is more = record {
-  whole = so_far.whole
-      ∙ ap (option_map (λ rest. found ++ rest)) (spelt_next parts (between_spaces here.now) (parts_left behind) number (Some part) parted (sym is))
-      ∙ moved found part (all_spelt parts (parts_left behind))
-      ∙ ap (λ xs. option_map (λ rest. xs ++ rest) (all_spelt parts (parts_left behind))) (sym more);
-  few = let less = left_shorter behind (length here.now) shorter in
-      let longer = ap length more ∙ length_more found part in
-      omega (arith, so_far.few, less, longer);
-} where
-  length_more : (xs : List Part) (x : Part) → length (xs ++ x ∷ []) ≡ length xs + 1
-  length_more [] x = refl
-  length_more (y ∷ xs) x = let rest = length_more xs x in omega (arith, rest)
-
-pub none_spelt : (parts : List (List ℕ)) (text : List ℕ) (found : List Part) (here : Bor (List ℕ)) (behind : Left) (number : List ℕ) → IsFound parts text found (Some here) →
-    between_spaces here.now ≡ number ∷ parts_left behind → None ≡ part_spelt parts number → all_spelt parts (between_spaces text) ≡ None
-none_spelt parts text found here behind number so_far parted is =
-    so_far.whole ∙ ap (option_map (λ rest. found ++ rest)) (spelt_next parts (between_spaces here.now) (parts_left behind) number None parted (sym is))
-
-pub all_found : (parts : List (List ℕ)) (text : List ℕ) (found : List Part) → IsFound parts text found None → all_spelt parts (between_spaces text) ≡ Some found
-all_found parts text found so_far = so_far.whole ∙ ap Some (no_more found) where
-  no_more : (xs : List Part) → xs ++ [] ≡ xs
-  no_more [] = refl
-  no_more (x ∷ xs) = ap (λ ys. x ∷ ys) (no_more xs)

@@ -6,31 +6,25 @@ use Rattle.std.proofs.lemmas.List.Sums.{count_by-le-length}
 use Rattle.std.proofs.KnownBytes.{Appends-nil, Appends-trans}
 use Rattle.std.specs.Io.KnownBytes.{Appends}
 use Rattle.std.specs.List.{AllByRecursion, onto_first, slice_split}
-use Rattle.std.specs.Prelude.{◌==◌, IsErrOf, slice_index}
+use Rattle.std.specs.Prelude.{◌==◌, slice_index}
 use Rattle.std.specs.Str.Lines.{lines, lines_of_parts, strip_carriage_return}
 use Rattle.board.specs.Editions.{Editions}
 use Rattle.cells.specs.declared.cell.Cell.{Cell}
-use Rattle.cells.specs.declared.refused.Refused.{Refused}
-use Rattle.cells.specs.declared.refused.Refused.TheVariants as refused
-use Rattle.cells.specs.declared.refused.Refused.TheVariants.{Limit}
 use Rattle.script.specs.Blocks.{Foretells, IsAsked, Steps}
-use Rattle.script.specs.Deeds.{Deed, deed}
-use Rattle.script.specs.Endings.{AsksForWorkers, BeginsToWrite, Delivers, EndsAt, EndsBy, HasWorkers, Writes, for_memory, for_worker}
+use Rattle.script.specs.Deeds.{deed}
+use Rattle.script.specs.Endings.{AsksForWorkers, BeginsToWrite, Delivers, HasWorkers, Writes}
 use Rattle.script.specs.Givens.{Givens, givens}
 use Rattle.script.specs.Limits.{script_limit}
 use Rattle.script.specs.Output.{AreBlocks, IsBlock, deed_behind, edition, is_publish, line_first, no_line}
 use Rattle.script.specs.Desks.{Publishable, IsBehind, schema_of_desk}
 use Rattle.script.specs.declared.block.Block.{Block}
 use Rattle.script.specs.declared.ended.Ended.{Ended}
-use Rattle.script.specs.declared.ended.Ended.TheVariants.{NoWorker}
-use Rattle.script.specs.declared.fault.Fault.{Fault}
 use Rattle.script.proofs.BlocksLemmas.{reversed_onto, some_blocks}
-use Rattle.script.proofs.EndingsLemmas.{only_writer}
 use Rattle.script.proofs.SaysLemmas.{EachAnswered}
 use Rattle.script.proofs.StepsLemmas.{does_so}
 use Rattle.report.specs.Laws.{takes_beginning, takes_last}
 use Rattle.report.specs.Taken.{TakesBeginning}
-use Rattle.report.specs.Waiting.{Awaits, GoesOn, IsLate, Waits, text_alone}
+use Rattle.report.specs.Waiting.{Awaits, GoesOn, Waits, text_alone}
 
 -- the lines that a loop has gone over, the last one first
 abbrev pub last_first : List (Bor (List ℕ)) → List (List ℕ)
@@ -77,7 +71,7 @@ module _ (old new : Option (List ℕ)) (hash : Cell → ℕ) (givens : Givens) (
   narrow_left line rest is = subst (AllByRecursion (λ l. length l ≤ script_limit)) is reached.narrow
 
   -- a line that does this has workers
-  asks : (line : List ℕ) (rest : List (List ℕ)) → left ≡ line ∷ rest → HasWorkers (deed (schema_of_desk desk) line) → AsksForWorkers givens script
+  pub asks : (line : List ℕ) (rest : List (List ℕ)) → left ≡ line ∷ rest → HasWorkers (deed (schema_of_desk desk) line) → AsksForWorkers givens script
   asks line rest is workers = record {
     before = before;
     line = line;
@@ -85,12 +79,6 @@ module _ (old new : Option (List ℕ)) (hash : Cell → ℕ) (givens : Givens) (
     parted = reached.parted ∙ ap (λ ls. reverse before ++ ls) is;
     has = subst HasWorkers (sym (does_so givens before line desk (deed (schema_of_desk desk) line) reached.stands refl)) workers;
   }
-
-  -- so does one that ends the run for want of a worker
-  pub asks_for_workers : {T : Type 0} (line : List ℕ) (rest : List (List ℕ)) (e : Ended) (result : Result T Ended) → left ≡ line ∷ rest → EndsAt (deed (schema_of_desk desk) line) e →
-      result ≡ Err e → IsErrOf result NoWorker → AsksForWorkers givens script
-  asks_for_workers line rest e result is for_memory same late = absurd cc
-  asks_for_workers line rest e result is (for_worker workers) same late = asks line rest is workers
 
   module _ {H : Type 0} (line : List ℕ) (rest : List (List ℕ)) (after : Option Editions) (block : Block H) (is : left ≡ line ∷ rest) (steps : Steps hash givens line (number + 1) desk after block) where
     -- what the line's block will be
@@ -182,16 +170,6 @@ module _ {W : Type 0} (taken : W → Option (List ℕ)) (faults : W → ℕ) (ol
   -- all of it was written
   pub delivers_whole : {T : Type 0} (x : T) → Writes IsWhole (taken old) (taken new) → faults new ≡ faults old → Delivers {T = T} taken faults old new IsWhole (Ok x)
   delivers_whole x whole sound = record { output = whole; beginning = tt; fault = λ e. absurd cc; sound = sound }
-
-  -- a line ended the run behind a beginning of the whole
-  pub delivers_early : {T : Type 0} (does : Result Deed Fault) (e : Ended) (result : Result T Ended) → BeginsToWrite IsWhole (taken old) (taken new) → EndsAt does e → result ≡ Err e → Delivers taken faults old new IsWhole result
-  delivers_early does e result beginning for_memory is = rw is (record { output = tt; beginning = beginning; fault = λ late. absurd cc; sound = tt })
-  delivers_early does e result beginning (for_worker asks) is = rw is (record { output = tt; beginning = beginning; fault = λ late. absurd cc; sound = tt })
-
-  -- a report or the writer ended the run behind a beginning of the whole
-  pub delivers_refused : {T : Type 0} (late : Refused) (e : Ended) (result : Result T Ended) → BeginsToWrite IsWhole (taken old) (taken new) → IsLate late → EndsBy late e →
-      (late ≡ refused.WriteFailed → faults old < faults new) → result ≡ Err e → Delivers taken faults old new IsWhole result
-  delivers_refused late e result beginning why ends failed is = rw is (record { output = tt; beginning = beginning; fault = λ at_writer. failed (only_writer late e why ends (cc)); sound = tt })
 
   -- what was delivered is so, since what it was said to be is
   pub delivers_as : {T : Type 0} (Is : List ℕ → Type 0) (result : Result T Ended) → ((bytes : List ℕ) → Is bytes → IsWhole bytes) → Delivers taken faults old new Is result → Delivers taken faults old new IsWhole result

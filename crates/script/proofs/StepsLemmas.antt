@@ -28,7 +28,6 @@ use Rattle.script.specs.declared.block.Block.{Block}
 use Rattle.script.specs.declared.block.Block.TheVariants.{Text}
 use Rattle.script.specs.declared.command.Command.{Command}
 use Rattle.script.specs.declared.command.Command.TheVariants as command
-use Rattle.script.specs.declared.ended.Ended.{Ended}
 use Rattle.script.specs.declared.fault.Fault.{Fault}
 use Rattle.script.specs.declared.fault.Fault.TheVariants.{Line}
 
@@ -157,12 +156,12 @@ steps_text hash givens line number old new bytes executes = record {
 }
 
 -- the same where the text may be wanting
-pub steps_as_text : {H : Type 0} (hash : Cell → ℕ) (givens : Givens) (line : List ℕ) (number : ℕ) (old new : Option Editions) (text : Result (Vec ℕ Global) Ended) (block : Result (Block H) Ended)
-    → IfOk text (λ bytes. block ≡ Ok (Text bytes)) → IfErr text (λ e. block ≡ Err e) → IfOk text (λ bytes. Executes hash givens line number old new bytes.items)
+pub steps_as_text : {H E F : Type 0} (hash : Cell → ℕ) (givens : Givens) (line : List ℕ) (number : ℕ) (old new : Option Editions) (text : Result (Vec ℕ Global) E) (block : Result (Block H) F) (f : F)
+    → IfOk text (λ bytes. block ≡ Ok (Text bytes)) → IfErr text (λ _. block ≡ Err f) → IfOk text (λ bytes. Executes hash givens line number old new bytes.items)
     → IfOk block (Steps {H = H} hash givens line number old new)
-steps_as_text {H} hash givens line number old new (Ok bytes) block is same executes =
+steps_as_text {H} hash givens line number old new (Ok bytes) block f is same executes =
     subst (λ b. IfOk b (Steps {H = H} hash givens line number old new)) (sym is) (steps_text hash givens line number old new bytes executes)
-steps_as_text {H} hash givens line number old new (Err e) block is same executes = subst (λ b. IfOk b (Steps {H = H} hash givens line number old new)) (sym same) tt
+steps_as_text {H} hash givens line number old new (Err e) block f is same executes = subst (λ b. IfOk b (Steps {H = H} hash givens line number old new)) (sym same) tt
 
 -- what an answer has where it is Ok, and what it tells then
 pub both_ok : {T E : Type 0} (r : Result T E) (A : Type 0) (B C : T → Type 0) → ((x : T) → A → B x → C x) → OnOk r A → IfOk r B → IfOk r C
@@ -170,7 +169,7 @@ both_ok (Ok x) A B C f a b = f x a b
 both_ok (Err e) A B C f a b = tt
 
 -- the block of a refused line; want of memory is no block
-pub executes_refused_text : (hash : Cell → ℕ) (givens : Givens) (line : List ℕ) (number : ℕ) (desk : Option Editions) (fault : Fault) (text : Result (Vec ℕ Global) Ended)
+pub executes_refused_text : {E : Type 0} (hash : Cell → ℕ) (givens : Givens) (line : List ℕ) (number : ℕ) (desk : Option Editions) (fault : Fault) (text : Result (Vec ℕ Global) E)
     → (fault ≡ Line OutOfMemory) ⊎ (deed (schema_of_desk desk) line ≡ Err fault) → (fault ≡ Line OutOfMemory → IsErr text)
     → IfOk text (λ bytes. bytes.items ≡ refusal number fault) → IfOk text (λ bytes. Executes hash givens line number desk desk bytes.items)
 executes_refused_text hash givens line number desk fault (Ok bytes) (inl wanting) memory is = absurd (let bad : false ≡ true = memory wanting in cc)

@@ -32,7 +32,7 @@ use Rattle.script.specs.Tails.{of_lines as tail_of_lines, too_much as tail_too_m
 use Rattle.script.specs.Says.{MeansPlan, Says, answer, answer_of, no_plan, no_query}
 use Rattle.script.specs.Tails.{AreViewers, AreViews, IsTailBehind, IsView, Viewing, last_view, no_viewer, turned_away, undeclared, view_first, view_heading, viewed, viewer_first, viewers_refused}
 use Rattle.script.specs.Desks.{IsBehind, Keeps, Stays}
-use Rattle.script.specs.Viewers.{Attend, HasAttended, HasViewers, IsStarted, IsTailOf, IsUnstarted, IsWritten, MayAttend, MayWant, begun, expected, too_much_text, turned, view_block}
+use Rattle.script.specs.Viewers.{Attend, HasAttended, HasViewers, IsStarted, IsTailOf, IsWritten, MayAttend, MayWant, begun, expected, too_much_text, turned, view_block}
 use Rattle.script.specs.declared.ended.Ended.{Ended}
 use Rattle.script.specs.declared.ended.Ended.TheVariants.{WriteFailed}
 use Rattle.script.specs.declared.fault.Fault.TheVariants.{Line}
@@ -310,13 +310,6 @@ module _ {W T : Type 0} (taken : W → Option (List ℕ)) (faults : W → ℕ) (
       joined = two.joined;
     }
 
--- viewers that could not be started ended the run behind a beginning of the whole
-pub delivers_unstarted : {W T : Type 0} (taken : W → Option (List ℕ)) (faults : W → ℕ) (old new : W) (IsWhole : List ℕ → Type 0) (e : Ended) (result : Result T Ended) →
-    BeginsToWrite IsWhole (taken old) (taken new) → IsUnstarted e → result ≡ Err e → Delivers taken faults old new IsWhole result
-delivers_unstarted taken faults old new IsWhole e result beginning (inl memory) is = rw (is, memory) (record { output = tt; beginning = beginning; fault = λ late. absurd cc; sound = tt })
-delivers_unstarted taken faults old new IsWhole e result beginning (inr (inl worker)) is = rw (is, worker) (record { output = tt; beginning = beginning; fault = λ late. absurd cc; sound = tt })
-delivers_unstarted taken faults old new IsWhole e result beginning (inr (inr place)) is = rw (is, place) (record { output = tt; beginning = beginning; fault = λ late. absurd cc; sound = tt })
-
 -- ---- how a tail is delivered
 
 module _ {W T : Type 0} (taken : W → Option (List ℕ)) (faults : W → ℕ) (old new : W) (IsWhole : List ℕ → Type 0) (whole : List ℕ) (is : IsWhole whole) where
@@ -337,12 +330,6 @@ module _ {W T : Type 0} (taken : W → Option (List ℕ)) (faults : W → ℕ) (
     fault = λ late. absurd cc;
     sound = sound;
   }
-
--- where no viewers are asked for, there is no tail
-pub delivers_no_tail : {W T : Type 0} (taken : W → Option (List ℕ)) (faults : W → ℕ) (w : W) (givens : Givens) (asked : Option Viewing) (before : Lines) (x : T) → asked ≡ None →
-    Delivers taken faults w w (IsTailOf givens asked before) (Ok x)
-delivers_no_tail taken faults w givens None before x is = delivers_all taken faults w w (λ bytes. bytes ≡ []) [] refl x (Appends-nil (taken w)) refl
-delivers_no_tail taken faults w givens (Some viewing) before x is = absurd cc
 
 -- where all viewers were started, each answers the query on the keeper's board
 pub all_begun : (asked : Option Viewing) (viewing : Viewing) (k : Editions) (stage : Stage) (watches : List Watch) → asked ≡ Some viewing → stage ≡ Begun → HasAttended asked (Some k) stage watches →
@@ -388,10 +375,6 @@ module _ {W T : Type 0} (taken : W → Option (List ℕ)) (faults : W → ℕ) (
       (λ bytes are. viewed stands.schema (subst (λ n. AreViewers (keeper.schema k) (editions givens before) n viewing 1 viewing.viewers bytes) stands.edition
       (subst (λ n. AreViewers (keeper.schema k) (editions givens before) (keeper.edition k) viewing 1 n bytes) many are)))
       d)
-
-pub never_expected : (asked : Option Viewing) (viewing : Viewing) (k : Editions) (stage : Stage) (watches : List Watch) → asked ≡ Some viewing → stage ≡ Expected → HasAttended asked (Some k) stage watches → ⊥
-never_expected None viewing k stage watches same is has = absurd cc
-never_expected (Some other) viewing k stage watches same is has = let bad : Some k ≡ None = has.declared tt is in cc
 
 -- one viewer more was started
 pub started_more : (viewing : Viewing) (k : Editions) (watches : List Watch) (viewer : Known) (plan : PlanTree) → AllByRecursion (IsStarted viewing k) watches →

@@ -6,7 +6,7 @@ use Rattle.cells.specs.Tables.{table}
 use Rattle.cells.specs.Updates.{AreLeft}
 use Rattle.cells.specs.Values.{RowValue}
 use Rattle.cells.specs.declared.cell.Cell.{Cell}
-use Rattle.query.specs.Plans.{IsPlanOf, PlanTree}
+use Rattle.query.specs.Plans.{PlanTree}
 use Rattle.report.specs.Waiting.{Heads}
 use Rattle.script.specs.Deeds.{deed}
 use Rattle.script.specs.Endings.{HasWorkers}
@@ -26,11 +26,6 @@ WillBe (Report asked) text = Heads asked.heading.items asked.snapshot asked.plan
 abbrev pub IsAsked : {H : Type 0} → Block H → Type 0
 IsAsked (Text bytes) = ⊥
 IsAsked (Report asked) = ⊤
-
--- what is asked was checked for the table of the edition
-abbrev pub IsPlanned : {H : Type 0} → Block H → Type 0
-IsPlanned (Text bytes) = ⊤
-IsPlanned (Report asked) = IsPlanOf asked.snapshot.schema asked.plan
 
 -- the text that a line's block will be
 pub record Foretells {H : Type 0} (Is : List ℕ → Type 0) (block : Block H) : Type 0 where

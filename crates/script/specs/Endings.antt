@@ -3,17 +3,22 @@ use Rattle.std.specs.Prelude.{◌≡◌, ◌<◌, ℕ, List, ◌∷◌, ◌++◌
 use Rattle.std.specs.Io.KnownBytes.{Appends}
 use Rattle.cells.specs.Refusals.{number_of}
 use Rattle.cells.specs.Values.{Table}
-use Rattle.cells.specs.declared.refused.Refused.{Refused}
 use Rattle.cells.specs.declared.refused.Refused.TheVariants as refused
 use Rattle.loader.specs.declared.fault.PartFault.{PartFault}
 use Rattle.loader.specs.declared.fault.PartFault.TheVariants as part
 use Rattle.report.specs.Taken.{TakesBeginning}
+use Rattle.report.specs.declared.unwritten.Unwritten.{Unwritten}
+use Rattle.report.specs.declared.unwritten.Unwritten.TheVariants as unwritten
+use Rattle.report.specs.declared.want.Want.{Want}
+use Rattle.report.specs.declared.want.Want.TheVariants as want
 use Rattle.script.specs.Deeds.{Deed, Loads, Reports}
 use Rattle.script.specs.Givens.{Givens}
 use Rattle.script.specs.Output.{deed_behind}
 use Rattle.script.specs.declared.ended.Ended.{Ended}
 use Rattle.script.specs.declared.ended.Ended.TheVariants.{NoWorker, NotShown, OutOfMemory, WriteFailed}
 use Rattle.script.specs.declared.fault.Fault.{Fault}
+use Rattle.script.specs.declared.unstarted.Unstarted.{Unstarted}
+use Rattle.script.specs.declared.unstarted.Unstarted.TheVariants as unstarted
 
 -- the numbers of a run that ended early: those of the refusals of the same names
 abbrev pub ending_number : Ended → ℕ
@@ -22,27 +27,31 @@ ending_number NoWorker = number_of refused.NoWorker
 ending_number WriteFailed = number_of refused.WriteFailed
 ending_number NotShown = number_of refused.NotShown
 
--- how a refusal ends a run that meets it
-pub record EndsBy (late : Refused) (ended : Ended) : Type 0 where
-  pub memory : late ≡ refused.OutOfMemory → ended ≡ OutOfMemory
-  pub worker : late ≡ refused.NoWorker → ended ≡ NoWorker
-  pub writer : late ≡ refused.WriteFailed → ended ≡ WriteFailed
-  pub place : late ≡ refused.NotShown → ended ≡ NotShown
+-- the end of a run that wanted this
+abbrev pub ended_for : Want → Ended
+ended_for want.Memory = OutOfMemory
+ended_for want.Worker = NoWorker
 
--- how a load that has no rows, and no faulty part, ends a run
-pub record EndsLoad (fault : PartFault) (ended : Ended) : Type 0 where
-  pub memory : fault ≡ part.OutOfMemory → ended ≡ OutOfMemory
-  pub worker : fault ≡ part.NoWorker → ended ≡ NoWorker
+-- of one whose text was not written
+abbrev pub ended_unwritten : Unwritten → Ended
+ended_unwritten (unwritten.Want wanted) = ended_for wanted
+ended_unwritten unwritten.WriteFailed = WriteFailed
+
+-- of one whose viewers were not started
+abbrev pub ended_unstarted : Unstarted → Ended
+ended_unstarted (unstarted.Want wanted) = ended_for wanted
+ended_unstarted unstarted.NotShown = NotShown
+
+-- what a load wanted that has no rows, and no faulty part
+abbrev pub want_of_load : PartFault → Want
+want_of_load (part.Bad number entry) = want.Memory
+want_of_load part.OutOfMemory = want.Memory
+want_of_load part.NoWorker = want.Worker
 
 -- a line that does this has workers: it asks for a report, or loads parts
 pub data HasWorkers : Result Deed Fault → Type 0 where
   reports : {table : Table} {query : List ℕ} → HasWorkers (Ok (Reports table query))
   loads : {table : Table} {listing : List ℕ} → HasWorkers (Ok (Loads table listing))
-
--- why a line that does this may end a run: for want of memory, and where it has workers, for want of one
-pub data EndsAt (does : Result Deed Fault) : Ended → Type 0 where
-  for_memory : EndsAt does OutOfMemory
-  for_worker : HasWorkers does → EndsAt does NoWorker
 
 -- a line of the script has workers; the lines before it stand with the last one first
 pub record AsksForWorkers (givens : Givens) (script : List (List ℕ)) : Type 0 where

@@ -11,12 +11,11 @@ use Rattle.script.specs.Givens.{Givens}
 use Rattle.script.specs.Limits.{part_limit, script_limit}
 use Rattle.script.specs.Output.{InTwo, IsOutput, IsTooMuch, declared, edition, editions, newline}
 use Rattle.script.specs.Says.{Says}
+use Rattle.script.specs.declared.viewing.Viewing.{Viewing as Asked}
 
--- what viewers are asked: the query, how many viewers there are, and how many reports each makes before its last one
-pub record Viewing : Type 0 where
-  pub query : List ℕ
-  pub viewers : ℕ
-  pub shots : ℕ
+-- what viewers are asked, as contracts see it
+abbrev pub Viewing : Type 0
+Viewing = Asked (List ℕ)
 
 -- the line that stands in place of all blocks of viewers
 abbrev pub viewers_refused : Refused → List ℕ

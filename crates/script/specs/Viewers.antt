@@ -1,6 +1,8 @@
 -- A run that may have viewers beside it.
-use Rattle.std.specs.Prelude.{◌≡◌, ◌⊎◌, ℕ, List, [], ◌++◌, Option, Some, None, Result, Err, ⊤, length, reverse}
+use Rattle.std.specs.Prelude.{◌≡◌, ℕ, List, [], ◌++◌, Option, Some, None, Result, Err, ⊤, length, reverse}
+use Rattle.std.specs.Borrow.{Bor}
 use Rattle.std.specs.List.{AllByRecursion}
+use Rattle.std.specs.Str.Lines.{lines}
 use Rattle.cells.specs.Values.{Table}
 use Rattle.cells.specs.declared.cell.Cell.{Cell}
 use Rattle.cells.specs.declared.refused.Refused.{Refused}
@@ -8,7 +10,7 @@ use Rattle.cells.specs.declared.refused.Refused.TheVariants.{Limit, NoTable}
 use Rattle.script.specs.declared.fault.Fault.TheVariants.{Line}
 use Rattle.board.specs.Editions.{Editions}
 use Rattle.board.specs.Editions as keeper
-use Rattle.query.specs.Plans.{IsPlanOf, PlanTree}
+use Rattle.query.specs.Plans.{PlanTree}
 use Rattle.report.specs.Watching.{Sight, Watch}
 use Rattle.script.specs.Endings.{AsksForWorkers, Ends}
 use Rattle.script.specs.Givens.{Givens}
@@ -16,18 +18,17 @@ use Rattle.script.specs.Output.{AreBlocks, InTwo, IsOutput, refusal}
 use Rattle.script.specs.Says.{MeansPlan, Says}
 use Rattle.script.specs.Tails.{IsLive, IsTailBehind, Viewing, view_heading, viewers_refused}
 use Rattle.script.specs.declared.ended.Ended.{Ended}
-use Rattle.script.specs.declared.ended.Ended.TheVariants.{NoWorker, NotShown, OutOfMemory}
-use Rattle.script.specs.declared.request.Request.{Request}
 use Rattle.script.specs.declared.stage.Stage.{Stage}
 use Rattle.script.specs.declared.stage.Stage.TheVariants.{Begun, Expected, Turned}
+use Rattle.script.specs.declared.viewing.Viewing.{Viewing as Asked}
 
--- what is asked, as contracts see it
-abbrev pub viewing_of : Request → Viewing
-viewing_of r = record { query = r.query.now; viewers = r.viewers; shots = r.shots }
+-- what is asked by a query that is lent
+abbrev pub viewing_of : Asked (Bor (List ℕ)) → Viewing
+viewing_of asked = record { query = asked.query.now; viewers = asked.viewers; shots = asked.shots }
 
-abbrev pub asked_of : Option Request → Option Viewing
+abbrev pub asked_of : Option (Asked (Bor (List ℕ))) → Option Viewing
 asked_of None = None
-asked_of (Some r) = Some (viewing_of r)
+asked_of (Some asked) = Some (viewing_of asked)
 
 -- a run has viewers
 abbrev pub HasViewers : Option Viewing → Type 0
@@ -58,11 +59,7 @@ view_block viewer shot = view_heading viewer shot.edition ++ shot.text
 
 -- plans of the query
 abbrev pub ArePlans : Table → List ℕ → List PlanTree → Type 0
-ArePlans t query plans = AllByRecursion (λ plan. MeansPlan t query plan × IsPlanOf t plan) plans
-
--- why viewers may not be started: want of memory, of a thread, or of a place
-abbrev pub IsUnstarted : Ended → Type 0
-IsUnstarted e = (e ≡ OutOfMemory) ⊎ ((e ≡ NoWorker) ⊎ (e ≡ NotShown))
+ArePlans t query plans = AllByRecursion (MeansPlan t query) plans
 
 -- how far the viewers of a run are at its desk: they are expected, or turned away since the query is refused, or they were
 -- all started
@@ -86,6 +83,11 @@ pub record HasAttended (asked : Option Viewing) (desk : Option Editions) (stage 
 abbrev pub MayWant : Givens → Option Viewing → List (List ℕ) → Type 0
 MayWant givens None script = AsksForWorkers givens script
 MayWant givens (Some viewing) script = ⊤
+
+-- how a run ends: with what it writes
+abbrev pub EndsRun : {W T : Type 0} → (Cell → ℕ) → (W → Option (List ℕ)) → (W → ℕ) → W → W → Givens → Option Viewing → List ℕ → Result T Ended → Type 0
+EndsRun hash taken faults old new givens asked script result =
+    Ends taken faults old new (IsWritten hash givens asked script) (MayWant givens asked (lines script)) (HasViewers asked) result
 
 -- how a run of these lines ends: with their blocks, and what comes behind them
 abbrev pub EndsLines : {W T : Type 0} → (Cell → ℕ) → (W → Option (List ℕ)) → (W → ℕ) → W → W → Givens → Option Viewing → List (List ℕ) → Result T Ended → Type 0

@@ -1,5 +1,5 @@
 //! The blocks of lines: shapes, refusals, and reports, whose answers are still to come.
-ghost use Rattle.std.specs.Prelude.{◌≡◌, ◌++◌, IfErr, IfOk, IsErr, OnOk, string_bytes};
+ghost use Rattle.std.specs.Prelude.{◌≡◌, ◌++◌, IfOk, IsErr, OnOk, string_bytes};
 ghost use Rattle.std.specs.FinMap.{keys};
 ghost use Rattle.std.specs.List.{flat_map};
 ghost use Rattle.trie.specs.Shapes.{shape_of};
@@ -9,7 +9,6 @@ ghost use Rattle.script.specs.Tails.{viewers_refused};
 ghost use Rattle.script.specs.Viewers.{view_block};
 ghost use Rattle.script.specs.declared.fault.Fault.TheVariants.{Line};
 
-use crate::ended::Ended;
 use crate::fault::Fault;
 use board::{Keeper, Snapshot};
 use cells::{Cell, KeyHash, Refused};
@@ -39,12 +38,11 @@ pub fn shape_block<H: KeyHash<Cell>>(
     alloc: Global,
     keeper: &Keeper<H>,
     number: u64,
-) -> Result<Vec<u8>, Ended>
-    ensures block { IfOk result (λ block. block.items ≡ shape_text number (editions.edition keeper.now) (shape_of H.hash_of (keys (editions.published keeper.now)))) }
-    ensures ended { IfErr result (λ e. e ≡ Ended.OutOfMemory) }
+) -> Result<Vec<u8>, AllocError>
+    ensures { IfOk result (λ block. block.items ≡ shape_text number (editions.edition keeper.now) (shape_of H.hash_of (keys (editions.published keeper.now)))) }
 {
     let Ok(snapshot) = keeper.snapshot() else {
-        return Err(Ended::OutOfMemory);
+        return Err(AllocError);
     };
     let block = snapshot_block(alloc, &snapshot, number);
     drop(snapshot);
@@ -56,9 +54,8 @@ fn snapshot_block<H: KeyHash<Cell>>(
     alloc: Global,
     snapshot: &Snapshot<H>,
     number: u64,
-) -> Result<Vec<u8>, Ended>
-    ensures block { IfOk result (λ block. block.items ≡ shape_text number snapshot.now.number (shape_of H.hash_of (keys snapshot.now.rows))) }
-    ensures ended { IfErr result (λ e. e ≡ Ended.OutOfMemory) }
+) -> Result<Vec<u8>, AllocError>
+    ensures { IfOk result (λ block. block.items ≡ shape_text number snapshot.now.number (shape_of H.hash_of (keys snapshot.now.rows))) }
 {
     let shape = snapshot.root().shape()?;
     let block = shape_lines(alloc, number, snapshot.edition(), shape.as_slice());
@@ -72,9 +69,8 @@ fn shape_lines(
     number: u64,
     edition: u64,
     shape: &[(Prefix, u64)],
-) -> Result<Vec<u8>, Ended>
-    ensures text { IfOk result (λ text. text.items ≡ shape_text number edition shape.now) }
-    ensures ended { IfErr result (λ e. e ≡ Ended.OutOfMemory) }
+) -> Result<Vec<u8>, AllocError>
+    ensures { IfOk result (λ text. text.items ≡ shape_text number edition shape.now) }
 {
     let mut text = format!(in alloc; "line {number} edition {edition}\n")?;
     push_lines(&mut text, shape)?;
@@ -100,13 +96,12 @@ fn push_line(text: &mut String, line: &(Prefix, u64)) -> Result<(), AllocError>
 }
 
 /// The block of a refused line. Want of memory is no refusal of a line: it ends the run.
-pub fn refusal_block(alloc: Global, number: u64, fault: Fault) -> Result<Vec<u8>, Ended>
+pub fn refusal_block(alloc: Global, number: u64, fault: Fault) -> Result<Vec<u8>, AllocError>
     ensures block { IfOk result (λ block. block.items ≡ refusal number fault) }
     ensures memory { fault ≡ Line Refused.OutOfMemory → IsErr result }
-    ensures ended { IfErr result (λ e. e ≡ Ended.OutOfMemory) }
 {
     if fault == Fault::Line(Refused::OutOfMemory) {
-        return Err(Ended::OutOfMemory);
+        return Err(AllocError);
     }
     let text = format!(in alloc; "line {number} refused {fault}\n")?;
     Ok(text.into_bytes())

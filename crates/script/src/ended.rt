@@ -1,11 +1,11 @@
 //! Why a run ended early.
 ghost use Rattle.std.specs.Prelude.{◌≡◌};
-ghost use Rattle.script.specs.Endings.{EndsBy, EndsLoad, ending_number};
-ghost use Rattle.script.specs.declared.ended.Ended.TheVariants.{OutOfMemory};
+ghost use Rattle.script.specs.Endings.{ended_for, ended_unstarted, ended_unwritten, ending_number};
+ghost use Rattle.report.specs.declared.want.Want.TheVariants.{Memory};
 
-use cells::Refused;
-use loader::PartFault;
-use std::alloc::{AllocError, AllocFailed};
+use crate::unstarted::Unstarted;
+use report::{Unwritten, Want};
+use std::alloc::AllocError;
 
 /// Why a run ended before its last line. What was written is a beginning of the output.
 #[derive(Clone, Copy, Debug, PartialEq, Eq, Drop)]
@@ -34,44 +34,46 @@ impl Ended {
     }
 }
 
-impl From<Refused> for Ended {
-    ghost from_gives = { EndsBy };
+impl From<Want> for Ended {
+    ghost from_gives = { λ want e. e ≡ ended_for want };
 
-    /// The end of a run that met this refusal, which is of a report under way, of a viewer or of the writer.
-    fn from(refused: Refused) -> Ended {
-        match refused {
-            Refused::NoWorker => Ended::NoWorker,
-            Refused::WriteFailed => Ended::WriteFailed,
-            Refused::NotShown => Ended::NotShown,
-            _ => Ended::OutOfMemory,
+    /// The end of a run that wanted this.
+    fn from(want: Want) -> Ended {
+        match want {
+            Want::Memory => Ended::OutOfMemory,
+            Want::Worker => Ended::NoWorker,
         }
     }
 }
 
-impl From<PartFault> for Ended {
-    ghost from_gives = { EndsLoad };
+impl From<Unwritten> for Ended {
+    ghost from_gives = { λ why e. e ≡ ended_unwritten why };
 
-    /// The end of a run whose load met this. A part's fault ends no run: it refuses its line.
-    fn from(fault: PartFault) -> Ended {
-        match fault {
-            PartFault::NoWorker => Ended::NoWorker,
-            _ => Ended::OutOfMemory,
+    /// The end of a run whose text was not written.
+    fn from(why: Unwritten) -> Ended {
+        match why {
+            Unwritten::Want(want) => Ended::from(want),
+            Unwritten::WriteFailed => Ended::WriteFailed,
+        }
+    }
+}
+
+impl From<Unstarted> for Ended {
+    ghost from_gives = { λ why e. e ≡ ended_unstarted why };
+
+    /// The end of a run whose viewers were not started.
+    fn from(why: Unstarted) -> Ended {
+        match why {
+            Unstarted::Want(want) => Ended::from(want),
+            Unstarted::NotShown => Ended::NotShown,
         }
     }
 }
 
 impl From<AllocError> for Ended {
-    ghost from_gives = { λ _ e. e ≡ OutOfMemory };
+    ghost from_gives = { λ _ e. e ≡ ended_for Memory };
 
     fn from(_error: AllocError) -> Ended {
-        Ended::OutOfMemory
-    }
-}
-
-impl<T: Drop> From<AllocFailed<T>> for Ended {
-    ghost from_gives = { λ _ e. e ≡ OutOfMemory };
-
-    fn from(_error: AllocFailed<T>) -> Ended {
         Ended::OutOfMemory
     }
 }

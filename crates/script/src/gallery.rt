@@ -1,8 +1,7 @@
 //! The viewers beside a run: they are started once a table is declared, and their blocks come behind those of all lines.
-ghost use Rattle.std.specs.Prelude.{◌≡◌, ◌+◌, ◌<◌, ◌≤◌, ◌⊎◌, ◌^◌, ℕ, [], List, length, IfErr, IfOk, OnOk};
+ghost use Rattle.std.specs.Prelude.{◌≡◌, ◌+◌, ◌<◌, ◌^◌, ℕ, [], List, length, IfErr, IfOk, OnOk};
 ghost use Rattle.std.specs.List.{AllByRecursion};
 ghost use Rattle.board.specs.Editions.{edition, schema as schema_of};
-ghost use Rattle.report.specs.Limits.{worker_limit};
 ghost use Rattle.report.specs.Watching.{IsOf};
 ghost use Rattle.script.specs.Desks.{IsBehind, Keeps};
 ghost use Rattle.script.specs.Endings.{Delivers, Ends};
@@ -10,19 +9,20 @@ ghost use Rattle.script.specs.Givens.{Givens, givens};
 ghost use Rattle.script.specs.Output.{editions};
 ghost use Rattle.script.specs.Says.{IsRefused, MeansPlan};
 ghost use Rattle.script.specs.Tails.{AreViewers, AreViews, viewers_refused};
-ghost use Rattle.script.specs.Viewers.{ArePlans, Attend, HasAttended, HasViewers, IsStarted, IsTailOf, IsUnstarted, MayAttend, asked_of, viewing_of};
+ghost use Rattle.script.specs.Viewers.{ArePlans, Attend, HasAttended, HasViewers, IsStarted, IsTailOf, MayAttend, asked_of, viewing_of};
 
 use crate::block::{view_text, viewers_refused_line};
 use crate::ended::Ended;
 use crate::reporting::read_plan;
-use crate::request::Request;
+use crate::setup::Setup;
 use crate::stage::Stage;
-use crate::step::Setup;
+use crate::unstarted::Unstarted;
+use crate::viewing::Viewing;
 use board::Keeper;
 use cells::{Cell, KeyHash, Refused, Schema, Tuple};
 use crew::Gate;
 use query::Plan;
-use report::{Answering, Audience, Out, Starter, Watcher, write_whole};
+use report::{Answering, Audience, Out, Starter, Want, Watcher, write_whole};
 use std::alloc::Global;
 use std::sync::Wait;
 use std::thread::Threads;
@@ -60,17 +60,15 @@ impl<H: KeyHash<Cell> + KeyHash<Tuple> + Send + Sync> Gallery<H> {
         setup: &Setup<'_, R, G>,
         starter: &Starter<'_, 's, 'e, R, G>,
         desk: &mut Option<Keeper<H>>,
-    ) -> Result<(), Ended>
+    ) -> Result<(), Unstarted>
     where
         H: 's,
-        requires attend { MayAttend (asked_of setup.now.asked) desk.old self.old.stage self.old.audience }
-        requires workers { 1 ≤ starter.now.workers × (starter.now.workers ≤ worker_limit) }
+        requires attend { MayAttend (asked_of setup.now.viewing) desk.old self.old.stage self.old.audience }
         ensures same { desk.new ≡ desk.old }
-        ensures attended { OnOk result (HasAttended (asked_of setup.now.asked) desk.new self.new.stage self.new.audience) }
-        ensures asked { IfErr result (λ _. HasViewers (asked_of setup.now.asked)) }
-        ensures ended { IfErr result IsUnstarted }
+        ensures attended { OnOk result (HasAttended (asked_of setup.now.viewing) desk.new self.new.stage self.new.audience) }
+        ensures asked { IfErr result (λ _. HasViewers (asked_of setup.now.viewing)) }
     {
-        let Some(request) = setup.asked else {
+        let Some(viewing) = setup.viewing else {
             return Ok(());
         };
         let Stage::Expected = self.stage else {
@@ -79,7 +77,7 @@ impl<H: KeyHash<Cell> + KeyHash<Tuple> + Send + Sync> Gallery<H> {
         let Some(keeper) = desk else {
             return Ok(());
         };
-        self.begin(setup.alloc, starter, request, keeper)
+        self.begin(setup.alloc, starter, viewing, keeper)
     }
 
     /// Starts the viewers of the keeper's table, or turns them away where their query is refused.
@@ -87,25 +85,23 @@ impl<H: KeyHash<Cell> + KeyHash<Tuple> + Send + Sync> Gallery<H> {
         &mut self,
         alloc: Global,
         starter: &Starter<'_, 's, 'e, R, G>,
-        request: Request<'_>,
+        viewing: Viewing<&str>,
         keeper: &mut Keeper<H>,
-    ) -> Result<(), Ended>
+    ) -> Result<(), Unstarted>
     where
         H: 's,
         requires nobody { self.old.audience ≡ [] }
-        requires workers { 1 ≤ starter.now.workers × (starter.now.workers ≤ worker_limit) }
         ensures same { keeper.new ≡ keeper.old }
-        ensures attend { OnOk result (Attend (viewing_of request.entry) (Some keeper.old) self.new.stage self.new.audience) }
+        ensures attend { OnOk result (Attend (viewing_of viewing.entry) (Some keeper.old) self.new.stage self.new.audience) }
         ensures stage { OnOk result (self.new.stage ≡ Stage.Expected → ⊥) }
-        ensures ended { IfErr result IsUnstarted }
     {
-        match plans_of(alloc, request, keeper.schema()) {
+        match plans_of(alloc, viewing, keeper.schema()) {
             Ok(plans) => {
-                self.start_all(starter, request, keeper, plans)?;
+                self.start_all(starter, viewing, keeper, plans)?;
                 self.stage = Stage::Begun;
                 Ok(())
             }
-            Err(Refused::OutOfMemory) => Err(Ended::OutOfMemory),
+            Err(Refused::OutOfMemory) => Err(Unstarted::Want(Want::Memory)),
             Err(fault) => {
                 self.stage = Stage::Turned(fault);
                 Ok(())
@@ -117,23 +113,23 @@ impl<H: KeyHash<Cell> + KeyHash<Tuple> + Send + Sync> Gallery<H> {
     fn start_all<'s, 'e: 's, G: Gate, R: Threads + Wait + Sync>(
         &mut self,
         starter: &Starter<'_, 's, 'e, R, G>,
-        request: Request<'_>,
+        viewing: Viewing<&str>,
         keeper: &mut Keeper<H>,
         plans: Vec<Plan>,
-    ) -> Result<(), Ended>
+    ) -> Result<(), Unstarted>
     where
         H: 's,
         requires nobody { self.old.audience ≡ [] }
-        requires plans { ArePlans (schema_of keeper.old) request.query.now plans.items }
-        requires workers { 1 ≤ starter.now.workers × (starter.now.workers ≤ worker_limit) }
+        requires plans { ArePlans (schema_of keeper.old) viewing.query.now plans.items }
         ensures same { keeper.new ≡ keeper.old }
         ensures many { OnOk result (length self.new.audience ≡ length plans.items) }
-        ensures started { OnOk result (AllByRecursion (IsStarted (viewing_of request.entry) keeper.old) self.new.audience) }
-        ensures ended { IfErr result IsUnstarted }
+        ensures started { OnOk result (AllByRecursion (IsStarted (viewing_of viewing.entry) keeper.old) self.new.audience) }
     {
         for plan in plans {
-            let viewer = keeper.viewer()?;
-            self.audience.begin(starter, viewer, plan, request.shots)?;
+            let Ok(viewer) = keeper.viewer() else {
+                return Err(Unstarted::NotShown);
+            };
+            self.audience.begin(starter, viewer, plan, viewing.shots)?;
         }
         Ok(())
     }
@@ -145,20 +141,20 @@ impl<H: KeyHash<Cell> + KeyHash<Tuple> + Send + Sync> Gallery<H> {
         desk: &mut Option<Keeper<H>>,
         out: &mut O,
     ) -> Result<(), Ended>
-        requires attended { HasAttended (asked_of setup.now.asked) desk.old self.old.stage self.old.audience }
+        requires attended { HasAttended (asked_of setup.now.viewing) desk.old self.old.stage self.old.audience }
         requires faults { O.faults out.old + 1 < 2 ^ 64 }
         ensures tail { (before : List (List ℕ)) → IsBehind (givens setup.now.how.now.rows setup.now.parts.now) before desk.old →
-            Delivers O.taken O.faults out.old out.new (IsTailOf (givens setup.now.how.now.rows setup.now.parts.now) (asked_of setup.now.asked) before) result }
-        ensures asked { IfErr result (λ _. HasViewers (asked_of setup.now.asked)) }
+            Delivers O.taken O.faults out.old out.new (IsTailOf (givens setup.now.how.now.rows setup.now.parts.now) (asked_of setup.now.viewing) before) result }
+        ensures asked { IfErr result (λ _. HasViewers (asked_of setup.now.viewing)) }
     {
-        let Some(request) = setup.asked else {
+        let Some(viewing) = setup.viewing else {
             return Ok(());
         };
         let Some(keeper) = desk else {
             return write_refused(setup.alloc, out, Refused::NoTable);
         };
         match self.stage {
-            Stage::Begun => self.write_viewers(setup, request, keeper, out),
+            Stage::Begun => self.write_viewers(setup, viewing, keeper, out),
             Stage::Turned(fault) => write_refused(setup.alloc, out, fault),
             Stage::Expected => unreachable!(),
         }
@@ -168,43 +164,36 @@ impl<H: KeyHash<Cell> + KeyHash<Tuple> + Send + Sync> Gallery<H> {
     fn write_viewers<O: Out, G: Gate, R: Threads + Wait>(
         &mut self,
         setup: &Setup<'_, R, G>,
-        request: Request<'_>,
+        viewing: Viewing<&str>,
         keeper: &mut Keeper<H>,
         out: &mut O,
     ) -> Result<(), Ended>
-        requires started { AllByRecursion (IsStarted (viewing_of request) keeper.old) self.old.audience }
-        requires many { length self.old.audience ≡ request.viewers }
+        requires started { AllByRecursion (IsStarted (viewing_of viewing) keeper.old) self.old.audience }
+        requires many { length self.old.audience ≡ viewing.viewers }
         requires faults { O.faults out.old + 1 < 2 ^ 64 }
         ensures views { (givens : Givens) (before : List (List ℕ)) → Keeps givens before keeper.old →
-            Delivers O.taken O.faults out.old out.new (AreViewers (schema_of keeper.old) (editions givens before) (edition keeper.old) (viewing_of request.entry) 1 (length self.old.audience)) result }
+            Delivers O.taken O.faults out.old out.new (AreViewers (schema_of keeper.old) (editions givens before) (edition keeper.old) (viewing_of viewing.entry) 1 (length self.old.audience)) result }
     {
-        let answering = Answering {
-            rt: setup.rt,
-            alloc: setup.alloc,
-            workers: setup.how.workers(),
-            cutting: setup.how.cutting(),
-            columns_from: setup.how.columns_from(),
-            gate: setup.gate,
-        };
+        let answering = setup.answering();
         let mut number = 0u64;
         while let Some(watched) = self.audience.next(setup.rt) {
             let watcher = watched?;
             number += 1;
-            write_viewer(&answering, request, keeper, watcher, number, out)?;
+            write_viewer(&answering, viewing, keeper, watcher, number, out)?;
         }
         Ok(())
     }
 }
 
 /// As many plans of the query as there are viewers, or its first fault.
-fn plans_of(alloc: Global, request: Request<'_>, schema: &Schema) -> Result<Vec<Plan>, Refused>
-    ensures many { IfOk result (λ plans. length plans.items ≡ request.entry.viewers) }
-    ensures plans { IfOk result (λ plans. ArePlans schema.now request.entry.query.now plans.items) }
-    ensures refused { IfErr result (IsRefused schema.now request.entry.query.now) }
+fn plans_of(alloc: Global, viewing: Viewing<&str>, schema: &Schema) -> Result<Vec<Plan>, Refused>
+    ensures many { IfOk result (λ plans. length plans.items ≡ viewing.entry.viewers) }
+    ensures plans { IfOk result (λ plans. ArePlans schema.now viewing.entry.query.now plans.items) }
+    ensures refused { IfErr result (IsRefused schema.now viewing.entry.query.now) }
 {
     let mut plans = Vec::new(alloc);
-    for _ in 0..request.viewers {
-        plans.push(read_plan(alloc, request.query, schema)?)?;
+    for _ in 0..viewing.viewers {
+        plans.push(read_plan(alloc, viewing.query, schema)?)?;
     }
     Ok(plans)
 }
@@ -230,21 +219,20 @@ fn write_viewer<
     R: Threads + Wait,
 >(
     answering: &Answering<'_, R, G>,
-    request: Request<'_>,
+    viewing: Viewing<&str>,
     keeper: &mut Keeper<H>,
     watcher: Watcher<H>,
     number: u64,
     out: &mut O,
 ) -> Result<(), Ended>
     requires own { IsOf keeper.old watcher.viewer }
-    requires plan { MeansPlan (schema_of keeper.old) request.query.now watcher.plan }
-    requires shots { length watcher.shots ≡ request.shots }
-    requires workers { 1 ≤ answering.now.workers × (answering.now.workers ≤ worker_limit) }
+    requires plan { MeansPlan (schema_of keeper.old) viewing.query.now watcher.plan }
+    requires shots { length watcher.shots ≡ viewing.shots }
     requires faults { O.faults out.old + 1 < 2 ^ 64 }
     ensures same { keeper.new ≡ keeper.old }
     ensures sound { OnOk result (O.faults out.new ≡ O.faults out.old) }
     ensures views { (givens : Givens) (before : List (List ℕ)) → Keeps givens before keeper.old →
-        Delivers O.taken O.faults out.old out.new (AreViews (schema_of keeper.old) (editions givens before) request.entry.query.now (edition keeper.old) number 0 request.entry.shots) result }
+        Delivers O.taken O.faults out.old out.new (AreViews (schema_of keeper.old) (editions givens before) viewing.entry.query.now (edition keeper.old) number 0 viewing.entry.shots) result }
 {
     let shots = watcher.finish(answering, keeper)?;
     let text = view_text(answering.alloc, number, shots.as_slice())?;

@@ -77,7 +77,7 @@ impl How {
     }
 
     /// The same run, where an edition has columns from so many rows on, any number, as of
-    /// [`answer_from`](report::answer_from): with 0 each has them, and with the greatest number none. Where nothing is said it is
+    /// [`Answering`](report::Answering): with 0 each has them, and with the greatest number none. Where nothing is said it is
     /// [`COLUMNS_FROM`]. It takes no memory.
     pub fn with_columns_from(self, rows: u64) -> How
         ensures { result ≡ self }

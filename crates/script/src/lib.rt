@@ -1,6 +1,6 @@
 //! Scripts: the runner, which goes from line to line over one table, what a script writes, and the laws of that. A
-//! program that runs scripts calls [`run`] or [`run_by`], and one that ends behind its run [`run_last`]. With viewers beside the
-//! lines it calls [`live`], or, where it ends behind it, [`live_last`].
+//! program that runs scripts calls [`run`] or [`run_by`], with viewers beside the lines [`live`], and where it ends behind its
+//! run [`run_last`].
 #![tactic(auto)]
 
 mod block;
@@ -17,11 +17,13 @@ mod lines;
 mod listing;
 mod load_line;
 mod reporting;
-mod request;
 mod running;
+mod setup;
 mod stage;
 mod statement;
 mod step;
+mod unstarted;
+mod viewing;
 
 pub use ended::Ended;
 pub use hash_choice::HashChoice;
@@ -33,4 +35,6 @@ pub use laws::{
 pub use limits::{
     DEPTH, Limits, MAX_PARTS, MAX_SCRIPT_BYTES, ROWS, SHOTS, SMALL, VIEWERS, WORKERS,
 };
-pub use running::{live, live_last, run, run_by, run_last};
+pub use running::{live, run, run_by, run_last};
+pub use setup::Setup;
+pub use viewing::Viewing;

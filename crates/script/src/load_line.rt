@@ -1,5 +1,5 @@
 //! The loads of a run: the rows of listed parts are read by workers, and laid over the draft.
-ghost use Rattle.std.specs.Prelude.{◌≡◌, ◌≤◌, ◌⊎◌, length, map, sum_by, IfErr, IfOk};
+ghost use Rattle.std.specs.Prelude.{◌≡◌, ◌≤◌, length, map, sum_by, IfOk};
 ghost use Rattle.cells.specs.CellOrder.{cell_cmp};
 ghost use Rattle.cells.specs.Tables.{AreRowsOf, laid_over};
 ghost use Rattle.trie.specs.Maps.{map_of};
@@ -7,37 +7,37 @@ ghost use Rattle.board.specs.Editions as editions;
 ghost use Rattle.crew.specs.Limits.{piece_limit};
 ghost use Rattle.loader.specs.Limits.{listed_limit};
 ghost use Rattle.loader.specs.Parts.{part_len, part_of, rows_of_parts};
+ghost use Rattle.script.specs.Endings.{want_of_load};
 ghost use Rattle.script.specs.Limits.{script_limit};
 ghost use Rattle.script.specs.Listings.{rows_held, rows_loaded};
 ghost use Rattle.script.specs.Desks.{LaysOrOverflows, LoadsRows};
 
 use crate::block::refusal_block;
-use crate::ended::Ended;
 use crate::fault::Fault;
 use crate::listing::{Listed, read_listing};
-use crate::step::Setup;
+use crate::setup::Setup;
 use board::Keeper;
 use cells::{Cell, KeyHash, Row};
 use crew::Gate;
 use loader::{PartFault, load};
-use std::alloc::Global;
+use report::Want;
+use std::alloc::{AllocError, Global};
 use std::sync::Wait;
 use std::thread::Threads;
 use trie::Trie;
 
 /// Puts the rows of the parts that the text lists, in listed order, and gives the line's block: nothing, or the
 /// refusal of the listing, of the first listed part that has a faulty record, or of a draft that would have too many
-/// rows. A refused load leaves the draft. [`Ended::NoWorker`] where the thread of a worker could not be started,
-/// otherwise [`Ended::OutOfMemory`] where a growth was refused, both whatever faults the parts have.
+/// rows. A refused load leaves the draft. [`Want::Worker`] where the thread of a worker could not be started,
+/// otherwise [`Want::Memory`] where a growth was refused, both whatever faults the parts have.
 pub fn execute_load<H: KeyHash<Cell> + Send + Sync, G: Gate, R: Threads + Wait>(
     setup: &Setup<'_, R, G>,
     keeper: &mut Keeper<H>,
     listing: &str,
     number: u64,
-) -> Result<Vec<u8>, Ended>
+) -> Result<Vec<u8>, Want>
     requires { length listing.now ≤ script_limit }
     ensures step { IfOk result (λ block. LoadsRows keeper.old keeper.new (rows_loaded (editions.schema keeper.old) (map (λ p. p.items) setup.now.parts.now) listing.now) number block.items) }
-    ensures ended { IfErr result (λ e. (e ≡ Ended.NoWorker) ⊎ (e ≡ Ended.OutOfMemory)) }
 {
     match read_listing(setup.alloc, setup.parts, listing) {
         Ok(listed) => {
@@ -45,7 +45,7 @@ pub fn execute_load<H: KeyHash<Cell> + Send + Sync, G: Gate, R: Threads + Wait>(
             drop(listed);
             block
         }
-        Err(fault) => refusal_block(setup.alloc, number, fault),
+        Err(fault) => Ok(refusal_block(setup.alloc, number, fault)?),
     }
 }
 
@@ -55,11 +55,10 @@ fn load_listed<H: KeyHash<Cell> + Send + Sync, G: Gate, R: Threads + Wait>(
     keeper: &mut Keeper<H>,
     listed: &[Listed<'_>],
     number: u64,
-) -> Result<Vec<u8>, Ended>
+) -> Result<Vec<u8>, Want>
     requires many { length listed.now ≤ piece_limit }
     requires within { sum_by part_len (map part_of listed.now) ≤ listed_limit }
     ensures step { IfOk result (λ block. LoadsRows keeper.old keeper.new (rows_held (rows_of_parts (editions.schema keeper.old) (map part_of listed.now))) number block.items) }
-    ensures ended { IfErr result (λ e. (e ≡ Ended.NoWorker) ⊎ (e ≡ Ended.OutOfMemory)) }
 {
     let alloc = setup.alloc;
     let workers = setup.how.workers();
@@ -71,16 +70,25 @@ fn load_listed<H: KeyHash<Cell> + Send + Sync, G: Gate, R: Threads + Wait>(
         workers,
         setup.gate,
     ) {
-        Ok(rows) => lay_over(alloc, keeper, rows, number),
-        Err(PartFault::Bad { part, entry }) => refusal_block(
-            alloc,
-            number,
-            Fault::Part {
+        Ok(rows) => Ok(lay_over(alloc, keeper, rows, number)?),
+        Err(PartFault::Bad { part, entry }) => {
+            let fault = Fault::Part {
                 part,
                 record: entry,
-            },
-        ),
-        Err(fault) => Err(Ended::from(fault)),
+            };
+            Ok(refusal_block(alloc, number, fault)?)
+        }
+        Err(fault) => Err(want_of(fault)),
+    }
+}
+
+/// What a load wanted that has no rows, and no faulty part.
+fn want_of(fault: PartFault) -> Want
+    ensures { result ≡ want_of_load fault }
+{
+    match fault {
+        PartFault::NoWorker => Want::Worker,
+        _ => Want::Memory,
     }
 }
 
@@ -90,10 +98,9 @@ fn lay_over<H: KeyHash<Cell>>(
     keeper: &mut Keeper<H>,
     rows: Trie<Cell, Row, H>,
     number: u64,
-) -> Result<Vec<u8>, Ended>
+) -> Result<Vec<u8>, AllocError>
     requires { AreRowsOf (editions.schema keeper.old) (map_of cell_cmp rows) }
     ensures step { IfOk result (λ block. LaysOrOverflows keeper.old keeper.new (laid_over (map_of cell_cmp rows) (editions.draft keeper.old)) number block.items) }
-    ensures ended { IfErr result (λ e. e ≡ Ended.OutOfMemory) }
 {
     match keeper.absorb(rows) {
         Ok(()) => Ok(Vec::new(alloc)),

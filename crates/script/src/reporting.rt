@@ -1,29 +1,23 @@
 //! The reports of a run: what a text asks is read and checked at its line, over the edition that stands published there.
-ghost use Rattle.std.specs.Prelude.{◌≡◌, IfErr, IfOk};
-ghost use Rattle.board.specs.Editions as editions;
-ghost use Rattle.query.specs.Plans.{IsPlanOf};
-ghost use Rattle.script.specs.Blocks.{WillReport, WillReportPlan, IsPlanned};
+ghost use Rattle.std.specs.Prelude.{◌≡◌, IfOk};
+ghost use Rattle.script.specs.Blocks.{WillReport, WillReportPlan};
 ghost use Rattle.script.specs.Says.{GivesPlan};
 
 use crate::block::{Asked, Block, refusal_block, report_heading};
-use crate::ended::Ended;
 use crate::fault::Fault;
 use board::Keeper;
 use cells::{Cell, KeyHash, Refused, Schema};
 use query::{Plan, check, read};
-use std::alloc::Global;
+use std::alloc::{AllocError, Global};
 
 /// The block of a report of the last published edition: what the text asks of that edition, or its first fault.
-/// [`Ended::OutOfMemory`] where a growth was refused.
 pub fn execute_report<H: KeyHash<Cell>>(
     alloc: Global,
     keeper: &Keeper<H>,
     text: &str,
     number: u64,
-) -> Result<Block<H>, Ended>
-    ensures block { IfOk result (WillReport keeper.now number text.now) }
-    ensures planned { IfOk result IsPlanned }
-    ensures ended { IfErr result (λ e. e ≡ Ended.OutOfMemory) }
+) -> Result<Block<H>, AllocError>
+    ensures { IfOk result (WillReport keeper.now number text.now) }
 {
     match read_plan(alloc, text, keeper.schema()) {
         Ok(plan) => ask(alloc, keeper, plan, number),
@@ -37,8 +31,7 @@ pub fn execute_report<H: KeyHash<Cell>>(
 /// The plan of the query that the text is. The refusal is the first fault of the text, or of its query
 /// for the table; or [`Refused::OutOfMemory`].
 pub fn read_plan(alloc: Global, text: &str, schema: &Schema) -> Result<Plan, Refused>
-    ensures exact { GivesPlan schema.now text.now result }
-    ensures planned { IfOk result (IsPlanOf schema.now) }
+    ensures { GivesPlan schema.now text.now result }
 {
     let query = read(alloc, text)?;
     check(alloc, query, schema)
@@ -50,14 +43,11 @@ fn ask<H: KeyHash<Cell>>(
     keeper: &Keeper<H>,
     plan: Plan,
     number: u64,
-) -> Result<Block<H>, Ended>
-    requires { IsPlanOf (editions.schema keeper.now) plan }
-    ensures block { IfOk result (WillReportPlan keeper.now number plan) }
-    ensures planned { IfOk result IsPlanned }
-    ensures ended { IfErr result (λ e. e ≡ Ended.OutOfMemory) }
+) -> Result<Block<H>, AllocError>
+    ensures { IfOk result (WillReportPlan keeper.now number plan) }
 {
     let Ok(snapshot) = keeper.snapshot() else {
-        return Err(Ended::OutOfMemory);
+        return Err(AllocError);
     };
     let heading = report_heading(alloc, number, snapshot.edition())?;
     Ok(Block::Report(Asked {

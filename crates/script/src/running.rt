@@ -1,18 +1,18 @@
 //! Runs a script: one keeper, line after line, and a block of output for each line that has one.
-ghost use Rattle.std.specs.Prelude.{◌≡◌, ◌⊎◌, ◌+◌, ◌<◌, ◌≤◌, ◌^◌, [], length, IfErr, IfOk, IsErrOf, OnOk};
+ghost use Rattle.std.specs.Prelude.{◌≡◌, ◌⊎◌, ◌+◌, ◌<◌, ◌≤◌, ◌^◌, [], length, IfOk, IsErrOf, OnOk};
 ghost use Rattle.std.specs.Str.Lines.{lines};
-ghost use Rattle.report.specs.Limits.{worker_limit};
 ghost use Rattle.report.specs.Waiting.{AwaitsThen, WritesOn};
-ghost use Rattle.script.specs.Blocks.{IsAsked, IsPlanned, WillBe};
+ghost use Rattle.report.specs.declared.unwritten.Unwritten.TheVariants as unwritten;
+ghost use Rattle.report.specs.declared.want.Want.TheVariants as want;
+ghost use Rattle.script.specs.Blocks.{IsAsked, WillBe};
 ghost use Rattle.script.specs.Endings.{AsksForWorkers, Delivers, Ends};
 ghost use Rattle.script.specs.Givens.{givens};
 ghost use Rattle.script.specs.Hows.{hash_of_choice};
-ghost use Rattle.script.specs.Limits.{IsWithin, script_limit};
-ghost use Rattle.script.specs.Limits as limits;
+ghost use Rattle.script.specs.Limits.{script_limit};
 ghost use Rattle.script.specs.Output.{IsOutput};
 ghost use Rattle.script.specs.Desks.{IsFresh};
 ghost use Rattle.script.specs.Tails.{IsLive};
-ghost use Rattle.script.specs.Viewers.{EndsLines, HasViewers, IsWritten, MayWant, asked_of, too_much_text};
+ghost use Rattle.script.specs.Viewers.{EndsLines, EndsRun, asked_of, too_much_text};
 ghost use Rattle.script.specs.declared.stage.Stage.TheVariants as Stage;
 
 use crate::block::{Asked, Block, refusal_block, viewers_refused_line};
@@ -24,14 +24,15 @@ use crate::hash_choice::HashChoice;
 use crate::how::How;
 use crate::limits::{MAX_PARTS, MAX_SCRIPT_BYTES};
 use crate::lines::lines_of;
-use crate::request::Request;
-use crate::step::{Line, Setup, execute};
+use crate::setup::Setup;
+use crate::step::{Line, execute};
+use crate::viewing::Viewing;
 use board::Keeper;
 use cells::{Cell, Fnv, KeyHash, Plain, Refused, Tuple};
 use crew::Gate;
 use query::each_text_has_an_answer;
-use report::{Backlog, Out, Starter, write_whole};
-use std::alloc::Global;
+use report::{Backlog, Out, Starter, Unwritten, write_whole};
+use std::alloc::{AllocError, Global};
 use std::sync::Wait;
 use std::thread::{self, Threads};
 
@@ -47,22 +48,23 @@ use std::thread::{self, Threads};
 /// `rt` starts a thread for each report, which is answered beside the lines that follow it, with at most
 /// [`MAX_REPORTS`](report::MAX_REPORTS) under way at a time, and one for each worker of a report or a load. All of them
 /// are joined before this returns, however the run ends. `gate` is told of each publish by the thread that calls, of
-/// each piece of a report and of each listed part by the worker that drew it, and of each half of a list of parts by
-/// the thread that merges it.
+/// each piece of a report and of each listed part by the worker that drew it, and of runs of a load's rows by the threads
+/// that make their tries.
 ///
 /// What the table holds at the end is given back.
 pub fn run<
+    'a,
     H: KeyHash<Cell> + KeyHash<Tuple> + Send + Sync,
     O: Out,
     G: Gate,
     R: Threads + Wait + Sync,
 >(
-    rt: &R,
+    rt: &'a R,
     alloc: Global,
     script: &[u8],
-    parts: &[Vec<u8>],
-    how: &How,
-    gate: &G,
+    parts: &'a [Vec<u8>],
+    how: &'a How,
+    gate: &'a G,
     out: &mut O,
 ) -> Result<(), Ended>
     requires { O.faults out.old + 1 < 2 ^ 64 }
@@ -70,17 +72,15 @@ pub fn run<
     ensures worker { IsErrOf result Ended.NoWorker → AsksForWorkers (givens how.now.rows parts.now) (lines script.now) }
     ensures place { IsErrOf result Ended.NotShown → ⊥ }
 {
-    run_whole::<H, O, G, R>(
+    let setup = Setup {
         rt,
         alloc,
-        script,
-        parts,
         how,
-        None,
+        parts,
+        viewing: None,
         gate,
-        out,
-        Closing::GivesBack,
-    )
+    };
+    run_whole::<H, O, G, R>(&setup, script, out, Closing::GivesBack)
 }
 
 /// Runs a script with viewers beside it. Once a table is declared, `viewers` threads start, of which each takes a snapshot
@@ -93,82 +93,44 @@ pub fn run<
 /// [`Ended::NoWorker`] where a thread could not be started, [`Ended::NotShown`] where a viewer's place was refused, and
 /// [`Ended::WriteFailed`] where the writer failed in the call.
 ///
-/// There are 1 to 16 viewers, and each makes 1 to 1,000 reports before its last one. All threads are joined before this
-/// returns, however the run ends. The gate is told of each snapshot of a viewer by the viewer's thread, and of all else as
-/// by [`run`].
+/// A table has places for 16 viewers, so a run with more of them ends with [`Ended::NotShown`] once a table is declared. All
+/// threads are joined before this returns, however the run ends. The gate is told of each snapshot of a viewer by the
+/// viewer's thread, and of all else as by [`run`].
 pub fn live<
+    'a,
     H: KeyHash<Cell> + KeyHash<Tuple> + Send + Sync,
     O: Out,
     G: Gate,
     R: Threads + Wait + Sync,
 >(
-    rt: &R,
+    rt: &'a R,
     alloc: Global,
     script: &[u8],
-    parts: &[Vec<u8>],
-    how: &How,
+    parts: &'a [Vec<u8>],
+    how: &'a How,
     viewers: u64,
     shots: u64,
-    query: &str,
-    gate: &G,
+    query: &'a str,
+    gate: &'a G,
     out: &mut O,
 ) -> Result<(), Ended>
-    requires viewers { IsWithin limits.viewers viewers }
-    requires shots { IsWithin limits.shots shots }
-    requires faults { O.faults out.old + 1 < 2 ^ 64 }
+    requires { O.faults out.old + 1 < 2 ^ 64 }
     ensures delivered { Delivers O.taken O.faults out.old out.new (IsLive H.KeyHash-1.hash_of (givens how.now.rows parts.now) (record { query = query.now; viewers = viewers; shots = shots }) script.now) result }
 {
-    run_whole::<H, O, G, R>(
-        rt,
-        alloc,
-        script,
-        parts,
-        how,
-        Some(Request {
-            query,
-            viewers,
-            shots,
-        }),
-        gate,
-        out,
-        Closing::GivesBack,
-    )
-}
-
-/// [`live`] with the hash of this choice, for a program that ends behind it, however the run ends: the table's memory is
-/// left to the system.
-pub fn live_last<O: Out, G: Gate, R: Threads + Wait + Sync>(
-    rt: &R,
-    alloc: Global,
-    hash: HashChoice,
-    script: &[u8],
-    parts: &[Vec<u8>],
-    how: &How,
-    viewers: u64,
-    shots: u64,
-    query: &str,
-    gate: &G,
-    out: &mut O,
-) -> Result<(), Ended>
-    requires viewers { IsWithin limits.viewers viewers }
-    requires shots { IsWithin limits.shots shots }
-    requires faults { O.faults out.old + 1 < 2 ^ 64 }
-    ensures delivered { Delivers O.taken O.faults out.old out.new (IsLive (hash_of_choice hash) (givens how.now.rows parts.now) (record { query = query.now; viewers = viewers; shots = shots }) script.now) result }
-{
-    let closing = Closing::LeavesToSystem;
-    let asked = Some(Request {
+    let viewing = Viewing {
         query,
         viewers,
         shots,
-    });
-    match hash {
-        HashChoice::Fnv => {
-            run_whole::<Fnv, O, G, R>(rt, alloc, script, parts, how, asked, gate, out, closing)
-        }
-        HashChoice::Plain => {
-            run_whole::<Plain, O, G, R>(rt, alloc, script, parts, how, asked, gate, out, closing)
-        }
-    }
+    };
+    let setup = Setup {
+        rt,
+        alloc,
+        how,
+        parts,
+        viewing: Some(viewing),
+        gate,
+    };
+    run_whole::<H, O, G, R>(&setup, script, out, Closing::GivesBack)
 }
 
 /// [`run`] with the hash of this choice. Only the blocks of shapes depend on it.
@@ -193,30 +155,21 @@ pub fn run_by<O: Out, G: Gate, R: Threads + Wait + Sync>(
     }
 }
 
-/// [`run_by`] for a program that ends behind it, however the run ends: the table's memory is left to the system.
+/// [`run`] or [`live`], by what viewers are asked, with the hash of this choice, for a program that ends behind it, however the
+/// run ends: the table's memory is left to the system.
 pub fn run_last<O: Out, G: Gate, R: Threads + Wait + Sync>(
-    rt: &R,
-    alloc: Global,
+    setup: &Setup<'_, R, G>,
     hash: HashChoice,
     script: &[u8],
-    parts: &[Vec<u8>],
-    how: &How,
-    gate: &G,
     out: &mut O,
 ) -> Result<(), Ended>
     requires { O.faults out.old + 1 < 2 ^ 64 }
-    ensures delivered { Delivers O.taken O.faults out.old out.new (IsOutput (hash_of_choice hash) (givens how.now.rows parts.now) script.now) result }
-    ensures worker { IsErrOf result Ended.NoWorker → AsksForWorkers (givens how.now.rows parts.now) (lines script.now) }
-    ensures place { IsErrOf result Ended.NotShown → ⊥ }
+    ensures { EndsRun (hash_of_choice hash) O.taken O.faults out.old out.new (givens setup.now.how.now.rows setup.now.parts.now) (asked_of setup.now.viewing) script.now result }
 {
     let closing = Closing::LeavesToSystem;
     match hash {
-        HashChoice::Fnv => {
-            run_whole::<Fnv, O, G, R>(rt, alloc, script, parts, how, None, gate, out, closing)
-        }
-        HashChoice::Plain => {
-            run_whole::<Plain, O, G, R>(rt, alloc, script, parts, how, None, gate, out, closing)
-        }
+        HashChoice::Fnv => run_whole::<Fnv, O, G, R>(setup, script, out, closing),
+        HashChoice::Plain => run_whole::<Plain, O, G, R>(setup, script, out, closing),
     }
 }
 
@@ -226,33 +179,14 @@ fn run_whole<
     O: Out,
     G: Gate,
     R: Threads + Wait + Sync,
->(
-    rt: &R,
-    alloc: Global,
-    script: &[u8],
-    parts: &[Vec<u8>],
-    how: &How,
-    asked: Option<Request<'_>>,
-    gate: &G,
-    out: &mut O,
-    closing: Closing,
-) -> Result<(), Ended>
+>(setup: &Setup<'_, R, G>, script: &[u8], out: &mut O, closing: Closing) -> Result<(), Ended>
     requires { O.faults out.old + 1 < 2 ^ 64 }
-    ensures { Ends O.taken O.faults out.old out.new (IsWritten H.KeyHash-1.hash_of (givens how.now.rows parts.now) (asked_of asked.entry) script.now)
-        (MayWant (givens how.now.rows parts.now) (asked_of asked.entry) (lines script.now)) (HasViewers (asked_of asked.entry)) result }
+    ensures { EndsRun H.KeyHash-1.hash_of O.taken O.faults out.old out.new (givens setup.now.how.now.rows setup.now.parts.now) (asked_of setup.now.viewing) script.now result }
 {
-    if script.len() > MAX_SCRIPT_BYTES || parts.len() > MAX_PARTS {
-        return write_too_much(alloc, asked, out);
+    if script.len() > MAX_SCRIPT_BYTES || setup.parts.len() > MAX_PARTS {
+        return write_too_much(setup, out);
     }
-    let setup = Setup {
-        rt,
-        alloc,
-        how,
-        parts,
-        asked,
-        gate,
-    };
-    run_lines::<H, O, G, R>(&setup, script, out, closing)
+    run_lines::<H, O, G, R>(setup, script, out, closing)
 }
 
 /// Runs the lines of a script that is not too long. Reports and viewers run beside the lines: however the lines
@@ -265,7 +199,7 @@ fn run_lines<
 >(setup: &Setup<'_, R, G>, script: &[u8], out: &mut O, closing: Closing) -> Result<(), Ended>
     requires faults { O.faults out.old + 1 < 2 ^ 64 }
     requires short { length script.now ≤ script_limit }
-    ensures { EndsLines H.KeyHash-1.hash_of O.taken O.faults out.old out.new (givens setup.now.how.now.rows setup.now.parts.now) (asked_of setup.now.asked) (lines script.now) result }
+    ensures { EndsLines H.KeyHash-1.hash_of O.taken O.faults out.old out.new (givens setup.now.how.now.rows setup.now.parts.now) (asked_of setup.now.viewing) (lines script.now) result }
 {
     let (ended, _out) = thread::scope(
         thread::scope_env(),
@@ -273,16 +207,11 @@ fn run_lines<
         move |scope| -> (Result<(), Ended>, &mut O)
             requires { (O.faults out.now + 1 < 2 ^ 64) × (length script.now ≤ script_limit) }
             ensures same { result.1.ghost_name ≡ out.entry.ghost_name }
-            ensures ends { EndsLines H.KeyHash-1.hash_of O.taken O.faults out.entry.now result.1.now (givens setup.entry.now.how.now.rows setup.entry.now.parts.now) (asked_of setup.entry.now.asked) (lines script.entry.now) result.0 }
+            ensures ends { EndsLines H.KeyHash-1.hash_of O.taken O.faults out.entry.now result.1.now (givens setup.entry.now.how.now.rows setup.entry.now.parts.now) (asked_of setup.entry.now.viewing) (lines script.entry.now) result.0 }
         {
             let starter = Starter {
-                rt: setup.rt,
-                alloc: setup.alloc,
                 scope,
-                workers: setup.how.workers(),
-                cutting: setup.how.cutting(),
-                columns_from: setup.how.columns_from(),
-                gate: setup.gate,
+                answering: setup.answering(),
             };
             let mut desk: Option<Keeper<H>> = None;
             let mut backlog = Backlog::new(setup.alloc);
@@ -324,10 +253,9 @@ fn run_beside<
 ) -> Result<(), Ended>
     requires faults { O.faults out.old + 1 < 2 ^ 64 }
     requires short { length script.now ≤ script_limit }
-    requires workers { 1 ≤ starter.now.workers × (starter.now.workers ≤ worker_limit) }
     requires fresh { IsFresh desk.old × (backlog.old ≡ record { reports = []; after = [] }) }
     requires nobody { (gallery.old.stage ≡ Stage.Expected) × (gallery.old.audience ≡ []) }
-    ensures { EndsLines H.KeyHash-1.hash_of O.taken O.faults out.old out.new (givens setup.now.how.now.rows setup.now.parts.now) (asked_of setup.now.asked) (lines script.now) result }
+    ensures { EndsLines H.KeyHash-1.hash_of O.taken O.faults out.old out.new (givens setup.now.how.now.rows setup.now.parts.now) (asked_of setup.now.viewing) (lines script.now) result }
 {
     // The law by which what was written is a beginning of an output, where a line ends the run; it does
     // nothing.
@@ -339,7 +267,7 @@ fn run_beside<
         gallery.attend(setup, starter, desk)?;
         add(starter, backlog, out, block)?;
     }
-    backlog.finish(starter.rt, out)?;
+    backlog.finish(setup.rt, out)?;
     gallery.write_tail(setup, desk, out)
 }
 
@@ -356,13 +284,11 @@ fn add<
     backlog: &mut Backlog<H>,
     out: &mut O,
     block: Block<H>,
-) -> Result<(), Refused>
-    requires planned { IsPlanned block }
-    requires workers { 1 ≤ starter.now.workers × (starter.now.workers ≤ worker_limit) }
+) -> Result<(), Unwritten>
     requires faults { O.faults out.old + 1 < 2 ^ 64 }
     ensures goes_on { WritesOn O.taken O.faults out.old out.new backlog.new (AwaitsThen backlog.old (WillBe block)) result }
     ensures asked { OnOk result (0 < length backlog.new.reports → (0 < length backlog.old.reports) ⊎ IsAsked block) }
-    ensures worker { IsErrOf result Refused.NoWorker → IsAsked block }
+    ensures worker { IsErrOf result (unwritten.Want want.Worker) → IsAsked block }
 {
     match block {
         Block::Text(text) => backlog.say(out, text.as_slice()),
@@ -379,15 +305,11 @@ fn add<
 
 /// Delivers the output of a script that is too long, or of too many parts, and behind it the tail where there are viewers.
 #[tactic(auto, using(report::specs::Laws::takes_nothing))]
-fn write_too_much<O: Out>(
-    alloc: Global,
-    asked: Option<Request<'_>>,
-    out: &mut O,
-) -> Result<(), Ended>
+fn write_too_much<O: Out, R, G: Gate>(setup: &Setup<'_, R, G>, out: &mut O) -> Result<(), Ended>
     requires { O.faults out.old + 1 < 2 ^ 64 }
-    ensures { Ends O.taken O.faults out.old out.new (λ bytes. bytes ≡ too_much_text (asked_of asked.entry)) ⊥ ⊥ result }
+    ensures { Ends O.taken O.faults out.old out.new (λ bytes. bytes ≡ too_much_text (asked_of setup.now.viewing)) ⊥ ⊥ result }
 {
-    let text = too_much_block(alloc, asked)?;
+    let text = too_much_block(setup.alloc, setup.viewing)?;
     let Ok(()) = write_whole(out, text.as_slice()) else {
         return Err(Ended::WriteFailed);
     };
@@ -395,9 +317,8 @@ fn write_too_much<O: Out>(
 }
 
 /// What is written for a script that is too long, or for too many parts.
-fn too_much_block(alloc: Global, asked: Option<Request<'_>>) -> Result<Vec<u8>, Ended>
-    ensures text { IfOk result (λ text. text.items ≡ too_much_text (asked_of asked.entry)) }
-    ensures ended { IfErr result (λ e. e ≡ Ended.OutOfMemory) }
+fn too_much_block(alloc: Global, asked: Option<Viewing<&str>>) -> Result<Vec<u8>, AllocError>
+    ensures { IfOk result (λ text. text.items ≡ too_much_text (asked_of asked.entry)) }
 {
     let mut text = refusal_block(alloc, 0, Fault::Line(Refused::Limit))?;
     if let Some(_) = asked {

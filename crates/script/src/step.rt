@@ -1,43 +1,31 @@
 //! The step of one line: what it says is done, and its block is made.
-ghost use Rattle.std.specs.Prelude.{◌≡◌, ◌+◌, ◌<◌, ◌≤◌, ◌^◌, [], length, Err, IfErr, IfOk, None, Ok, OnOk, Some};
+ghost use Rattle.std.specs.Prelude.{◌≡◌, ◌+◌, ◌<◌, ◌≤◌, ◌^◌, [], length, Err, IfErr, IfOk, IsErrOf, None, Ok, OnOk, Some};
 ghost use Rattle.std.specs.FinMap.{remove};
 ghost use Rattle.cells.specs.Fitting.{IsRowOf};
 ghost use Rattle.board.specs.Editions.{ChangesDraft, Publishes};
 ghost use Rattle.board.specs.Editions as editions;
-ghost use Rattle.script.specs.Blocks.{IsPlanned, Steps};
+ghost use Rattle.script.specs.Blocks.{Steps};
 ghost use Rattle.script.specs.Deeds.{deed};
-ghost use Rattle.script.specs.Endings.{EndsAt};
+ghost use Rattle.report.specs.declared.want.Want.TheVariants as want;
+ghost use Rattle.script.specs.Endings.{HasWorkers};
 ghost use Rattle.script.specs.Givens.{givens};
 ghost use Rattle.script.specs.Limits.{script_limit};
 ghost use Rattle.script.specs.Desks.{Executes, Publishable, PutsRow, schema_of_desk};
 
 use crate::block::{Block, refusal_block, shape_block};
-use crate::ended::Ended;
 use crate::fault::Fault;
-use crate::how::How;
 use crate::limits::VIEWERS;
 use crate::load_line::execute_load;
 use crate::reporting::execute_report;
-use crate::request::Request;
+use crate::setup::Setup;
 use crate::statement::{Statement, read_first, read_statement};
 use board::{Keeper, rows_have_the_shape_of_their_keys};
 use cells::{Cell, KeyHash, Row, later_puts_lie_over};
 use crew::Gate;
-use std::alloc::Global;
+use report::Want;
+use std::alloc::{AllocError, Global};
 use std::sync::Wait;
 use std::thread::Threads;
-
-/// What each line is run with: where the threads of workers come from, where memory comes from, how the run is
-/// made, the parts that may be loaded, what viewers are asked where there are some, and who is told of each publish, of a report's pieces and of a load's parts.
-#[derive(Drop)]
-pub struct Setup<'a, R, G: Gate> {
-    pub rt: &'a R,
-    pub alloc: Global,
-    pub how: &'a How,
-    pub parts: &'a [Vec<u8>],
-    pub asked: Option<Request<'a>>,
-    pub gate: &'a G,
-}
 
 /// A line of a script, with its number counted from 1.
 #[derive(Clone, Copy)]
@@ -47,17 +35,16 @@ pub struct Line<'a> {
 }
 
 /// Does what a line says, and gives the line's block, or what its report asks of the edition that stands published. Any
-/// line may end the run with [`Ended::OutOfMemory`], and a load with [`Ended::NoWorker`], too.
+/// line may want memory, and a load a worker, too.
 pub fn execute<H: KeyHash<Cell> + Send + Sync, G: Gate, R: Threads + Wait>(
     setup: &Setup<'_, R, G>,
     desk: &mut Option<Keeper<H>>,
     line: Line<'_>,
-) -> Result<Block<H>, Ended>
+) -> Result<Block<H>, Want>
     requires publishable { Publishable desk.old }
     requires short { length line.bytes.now ≤ script_limit }
     ensures step { IfOk result (Steps H.hash_of (givens setup.now.how.now.rows setup.now.parts.now) line.entry.bytes.now line.entry.number desk.old desk.new) }
-    ensures planned { IfOk result IsPlanned }
-    ensures ended { IfErr result (EndsAt (deed (schema_of_desk desk.old) line.entry.bytes.now)) }
+    ensures worker { IsErrOf result want.Worker → HasWorkers (deed (schema_of_desk desk.old) line.entry.bytes.now) }
 {
     if let Some(keeper) = desk {
         return execute_kept(setup, keeper, line);
@@ -72,16 +59,15 @@ pub fn execute<H: KeyHash<Cell> + Send + Sync, G: Gate, R: Threads + Wait>(
 fn execute_first<H: KeyHash<Cell>, G: Gate, R>(
     setup: &Setup<'_, R, G>,
     line: Line<'_>,
-) -> Result<(Option<Keeper<H>>, Vec<u8>), Ended>
+) -> Result<(Option<Keeper<H>>, Vec<u8>), AllocError>
     ensures step { IfOk result (λ r. Executes H.hash_of (givens setup.now.how.now.rows setup.now.parts.now) line.entry.bytes.now line.entry.number None r.0 r.1.items) }
-    ensures ended { IfErr result (λ e. e ≡ Ended.OutOfMemory) }
 {
     let alloc = setup.alloc;
     match read_first(alloc, line.bytes) {
         Ok(None) => Ok((None, Vec::new(alloc))),
         Ok(Some(schema)) => match Keeper::new(alloc, schema, setup.how.rows(), VIEWERS.most) {
             Ok(keeper) => Ok((Some(keeper), Vec::new(alloc))),
-            Err(_) => Err(Ended::OutOfMemory),
+            Err(_) => Err(AllocError),
         },
         Err(fault) => {
             let block = refusal_block(alloc, line.number, fault)?;
@@ -96,12 +82,11 @@ fn execute_kept<H: KeyHash<Cell> + Send + Sync, G: Gate, R: Threads + Wait>(
     setup: &Setup<'_, R, G>,
     keeper: &mut Keeper<H>,
     line: Line<'_>,
-) -> Result<Block<H>, Ended>
+) -> Result<Block<H>, Want>
     requires publishable { editions.edition keeper.old + 1 < 2 ^ 64 }
     requires short { length line.bytes.now ≤ script_limit }
     ensures step { IfOk result (Steps H.hash_of (givens setup.now.how.now.rows setup.now.parts.now) line.entry.bytes.now line.entry.number (Some keeper.old) (Some keeper.new)) }
-    ensures planned { IfOk result IsPlanned }
-    ensures ended { IfErr result (EndsAt (deed (Some (editions.schema keeper.old)) line.entry.bytes.now)) }
+    ensures worker { IsErrOf result want.Worker → HasWorkers (deed (Some (editions.schema keeper.old)) line.entry.bytes.now) }
 {
     let alloc = setup.alloc;
     match read_statement(alloc, keeper.schema(), line.bytes) {
@@ -109,12 +94,13 @@ fn execute_kept<H: KeyHash<Cell> + Send + Sync, G: Gate, R: Threads + Wait>(
         Ok(Statement::Load(listing)) => {
             // The law by which loaded rows are those of puts behind all that came before; it does nothing.
             later_puts_lie_over();
-            text_block(execute_load(setup, keeper, listing, line.number))
+            let text = execute_load(setup, keeper, listing, line.number)?;
+            Ok(Block::Text(text))
         }
         Ok(Statement::Put(row)) => text_block(put(alloc, keeper, row, line.number)),
         Ok(Statement::Delete(key)) => text_block(delete(alloc, keeper, key)),
         Ok(Statement::Publish) => text_block(publish(setup, keeper)),
-        Ok(Statement::Report(query)) => execute_report(alloc, keeper, query, line.number),
+        Ok(Statement::Report(query)) => Ok(execute_report(alloc, keeper, query, line.number)?),
         Ok(Statement::Shape) => {
             // The law by which the block is that of the published rows; it does nothing.
             rows_have_the_shape_of_their_keys::<H>();
@@ -125,14 +111,14 @@ fn execute_kept<H: KeyHash<Cell> + Send + Sync, G: Gate, R: Threads + Wait>(
 }
 
 /// The block of a line that gives this text.
-fn text_block<H: KeyHash<Cell>>(text: Result<Vec<u8>, Ended>) -> Result<Block<H>, Ended>
+fn text_block<H: KeyHash<Cell>>(text: Result<Vec<u8>, AllocError>) -> Result<Block<H>, Want>
     ensures found { IfOk text (λ bytes. result ≡ Ok (Block.Text bytes)) }
-    ensures planned { IfOk result IsPlanned }
-    ensures ended { IfErr text (λ e. result ≡ Err e) }
+    ensures memory { IfErr text (λ _. result ≡ Err want.Memory) }
+    ensures worker { IsErrOf result want.Worker → ⊥ }
 {
     match text {
         Ok(bytes) => Ok(Block::Text(bytes)),
-        Err(ended) => Err(ended),
+        Err(AllocError) => Err(Want::Memory),
     }
 }
 
@@ -142,10 +128,9 @@ fn put<H: KeyHash<Cell>>(
     keeper: &mut Keeper<H>,
     row: Row,
     number: u64,
-) -> Result<Vec<u8>, Ended>
+) -> Result<Vec<u8>, AllocError>
     requires row { IsRowOf (editions.schema keeper.old) row }
     ensures step { IfOk result (λ block. PutsRow keeper.old keeper.new row number block.items) }
-    ensures ended { IfErr result (λ e. e ≡ Ended.OutOfMemory) }
 {
     match keeper.put(row) {
         Ok(()) => Ok(Vec::new(alloc)),
@@ -158,13 +143,12 @@ fn delete<H: KeyHash<Cell>>(
     alloc: Global,
     keeper: &mut Keeper<H>,
     key: Cell,
-) -> Result<Vec<u8>, Ended>
+) -> Result<Vec<u8>, AllocError>
     ensures draft { OnOk result (ChangesDraft keeper.old keeper.new (remove (editions.draft keeper.old) key)) }
     ensures nothing { IfOk result (λ block. block.items ≡ []) }
-    ensures ended { IfErr result (λ e. e ≡ Ended.OutOfMemory) }
 {
     if keeper.delete(&key).is_err() {
-        return Err(Ended::OutOfMemory);
+        return Err(AllocError);
     }
     Ok(Vec::new(alloc))
 }
@@ -173,14 +157,13 @@ fn delete<H: KeyHash<Cell>>(
 pub fn publish<H: KeyHash<Cell>, G: Gate, R: Wait>(
     setup: &Setup<'_, R, G>,
     keeper: &mut Keeper<H>,
-) -> Result<Vec<u8>, Ended>
+) -> Result<Vec<u8>, AllocError>
     requires { editions.edition keeper.old + 1 < 2 ^ 64 }
     ensures published { OnOk result (Publishes keeper.old keeper.new) }
     ensures nothing { IfOk result (λ block. block.items ≡ []) }
-    ensures ended { IfErr result (λ e. e ≡ Ended.OutOfMemory) }
 {
     if keeper.publish(setup.rt).is_err() {
-        return Err(Ended::OutOfMemory);
+        return Err(AllocError);
     }
     setup.gate.published(keeper.edition());
     Ok(Vec::new(setup.alloc))

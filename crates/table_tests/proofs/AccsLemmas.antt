@@ -2,23 +2,16 @@
 use Rattle.std.specs.Prelude.{◌+◌, ◌<◌, ◌≤◌}
 use Rattle.std.proofs.Common.{◌≡◌, ℕ, List, [], ◌∷◌, ◌++◌, length, take, get_or, refl, sym, ap, subst, ◌∙◌, arith}
 use Rattle.std.proofs.lemmas.List.{take_all, take_more}
-use Rattle.aggs.specs.Accs.{AccTakes, AccsFit, acc_joins, acc_kind, acc_of, acc_room, acc_takes, acc_together, kind_of}
-use Rattle.aggs.specs.Room.{MayJoin}
-use Rattle.cells.specs.Fitting.{AreStored, IsStored}
-use Rattle.aggs.specs.Values.{IsNoText}
+use Rattle.aggs.specs.Accs.{AccsFit, acc_joins, acc_kind, acc_of, acc_room, acc_together, kind_of}
 use Rattle.aggs.specs.declared.acc.Acc.{Acc}
 use Rattle.aggs.specs.declared.acc.Kind.{Kind}
-use Rattle.aggs.specs.declared.acc.Kind.TheVariants as kind
 use Rattle.cells.specs.declared.cell.Cell.{Cell}
 
 module _ {H : Type 0} (k : Kind) (xs : List Cell) (a : Acc H) (is : a ≡ acc_of k xs) where
-  pub can_step : (c : Cell) → AreStored xs → IsStored c → length xs < 1000 → AccsFit a (acc_of (kind_of a) (c ∷ []))
-  can_step c stored one few = subst (λ (b : Acc H). AccsFit b (acc_of (kind_of b) (c ∷ []))) (sym is)
+  pub can_step : (c : Cell) → length xs < 1000 → AccsFit a (acc_of (kind_of a) (c ∷ []))
+  can_step c few = subst (λ (b : Acc H). AccsFit b (acc_of (kind_of b) (c ∷ []))) (sym is)
       (subst (λ l. AccsFit (acc_of {H = H} k xs) (acc_of l (c ∷ []))) (sym (acc_kind H k xs))
-      (acc_room H k xs (c ∷ []) (record { first = stored; second = (one, tt); few = omega arith })))
-
-  pub can_take : (c : Cell) → (k ≡ kind.Sum → IsNoText c) → AccTakes a c
-  can_take c fit = subst (λ (b : Acc H). AccTakes b c) (sym is) (acc_takes H k xs c fit)
+      (acc_room H k xs (c ∷ []) (omega arith)))
 
   pub has_stepped : (c : Cell) (new : Acc H) → new ≡ acc_together a (acc_of (kind_of a) (c ∷ [])) → new ≡ acc_of k (xs ++ c ∷ [])
   has_stepped c new step = step
@@ -26,13 +19,10 @@ module _ {H : Type 0} (k : Kind) (xs : List Cell) (a : Acc H) (is : a ≡ acc_of
       ∙ ap (λ l. acc_together (acc_of {H = H} k xs) (acc_of l (c ∷ []))) (acc_kind H k xs)
       ∙ sym (acc_joins k xs (c ∷ []))
 
-  pub can_join : (ys : List Cell) (b : Acc H) → b ≡ acc_of k ys → AreStored xs → AreStored ys → length xs < 1000 → length ys < 1000 → AccsFit a b
-  can_join ys b other stored more few less = subst (λ (x : Acc H). AccsFit x b) (sym is)
+  pub can_join : (ys : List Cell) (b : Acc H) → b ≡ acc_of k ys → length xs < 1000 → length ys < 1000 → AccsFit a b
+  can_join ys b other few less = subst (λ (x : Acc H). AccsFit x b) (sym is)
       (subst (λ (y : Acc H). AccsFit (acc_of k xs) y) (sym other)
-      (acc_room H k xs ys (record { first = stored; second = more; few = omega arith })))
-
-  pub one_kind : (ys : List Cell) (b : Acc H) → b ≡ acc_of k ys → kind_of a ≡ kind_of b
-  one_kind ys b other = ap kind_of is ∙ acc_kind H k xs ∙ sym (acc_kind H k ys) ∙ ap kind_of (sym other)
+      (acc_room H k xs ys (omega arith)))
 
 module _ {H : Type 0} (k : Kind) (xs : List Cell) (i : ℕ) where
   -- the first so many of the cells, and the cell behind them

@@ -1,2 +1,2 @@
 pub mod AccsLemmas
-mod RepeatedLemmas
+pub mod OneRowLemmas

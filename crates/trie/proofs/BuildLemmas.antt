@@ -1,34 +1,35 @@
 -- The nodes that are made of a list of pairs.
-use Rattle.std.proofs.Common.{◌≡◌, ◌==◌, ℕ, ◌+◌, ◌-◌, ◌^◌, ◌<◌, ◌≤◌, Bool, true, false, cond, Option, Some, None, Vec, List, [], ◌∷◌, ◌++◌, length, get_or, zero, suc, refl, sym, ap, ◌∙◌, subst, arith, length-append, set, sum_by, inl, inr}
+use Rattle.std.proofs.Common.{◌≡◌, ◌==◌, ℕ, ◌+◌, ◌-◌, ◌^◌, ◌<◌, ◌≤◌, Bool, true, false, cond, Option, Some, None, Vec, List, [], ◌∷◌, ◌++◌, length, map, get_or, zero, suc, refl, sym, ap, ◌∙◌, subst, arith, length-append, sum_by}
 use Rattle.std.specs.Prelude.{◌&&◌, slice_get}
 use Rattle.std.specs.List.{AllByRecursion, filter, flat_map, fold, list_all}
-use Rattle.std.specs.Ordering.{eq_by_cmp, is_eq}
+use Rattle.std.specs.Ordering.{is_eq}
 use Rattle.std.specs.declared.alloc.Global.{Global}
 use Rattle.std.specs.declared.cmp.Ordering.{Ordering}
 use Rattle.std.specs.declared.cmp.Ordering.TheVariants.{Equal}
 use Rattle.std.specs.declared.sync.Arc.{Arc}
-use Rattle.std.proofs.lemmas.Bool.{and_from, cases_lt, eq-eqb, eqb-false, eqb-true, false_from_ne_true}
+use Rattle.std.proofs.lemmas.Bool.{and_from, eq-eqb, eqb-true}
 use Rattle.std.proofs.lemmas.Cmp.{alike_right, tied_itself}
-use Rattle.std.proofs.lemmas.List.{length-map}
-use Rattle.trie.specs.Building.{AreBelow, AreHashed, AreMadeOf, HaveOnePrefix, IsMadeOf, is_like, pair_in, pairs_in, with_digit}
+use Rattle.std.proofs.lemmas.List.{get_or-map, length-map}
+use Rattle.std.proofs.lemmas.List.Elements.{All-from_recursion, All-head, All-tail}
+use Rattle.std.proofs.lemmas.List.Kept.{IsNonDecreasingBy-filter}
+use Rattle.trie.specs.Building.{AreBelow, AreHashed, AreMadeOf, HaveOnePrefix, HaveTheirHashes, IsMadeOf, OwnedPair, Rise, bare, hashed_pairs, is_like, pair_in, pairs_in, with_digit}
 use Rattle.trie.specs.Dense.{IsDense, places_in}
-use Rattle.trie.specs.Digits.{digit, digit_count, digit_order, digits, first_digits, place_count}
+use Rattle.trie.specs.Digits.{digit, digit_count, digit_order, digits, first_digits, first_number, place_count}
 use Rattle.trie.specs.Entries.{entry_at, with_pair, with_pairs}
 use Rattle.trie.specs.Holding.{ArePlaces, Holds, IsTrie, node_len, pairs_of}
 use Rattle.trie.specs.Nodes.{Branch, Bucket, Child, Leaf, Node, values}
-use Rattle.trie.specs.Tree.{entries_in, IsNode, IsPlace, StartsWith}
+use Rattle.trie.specs.Tree.{entries_in, IsNode, StartsWith}
 use Rattle.trie.specs.declared.build.Hashed.{Hashed}
 use Rattle.trie.proofs.DenseLemmas.{length-places_of}
 use Rattle.trie.proofs.DigitsLemmas.{get_or-digits, length-digits, starts_with-next}
 use Rattle.trie.proofs.EntriesLemmas.{with_pair-all}
-use Rattle.trie.proofs.FoundLemmas.{entry-with_pair}
 use Rattle.trie.proofs.ListsLemmas.{all-unmap, all-weaken}
 use Rattle.trie.proofs.MapRisingLemmas.{places_rise}
 use Rattle.trie.proofs.MapsLemmas.{digit_total, HaveHashes, is_Equal}
-use Rattle.trie.proofs.MeetLemmas.{children_each, read_other, read_written, starts_is}
+use Rattle.trie.proofs.MeetLemmas.{children_each, starts_is}
 use Rattle.trie.proofs.NodesLemmas.{branch_holds, total_lens}
 use Rattle.trie.proofs.OrderLemmas.{order_agrees, with_pair-order}
-use Rattle.trie.proofs.PairsLemmas.{alike_pairs, last_stands, same_by_entries, with_pairs-all, with_pairs-most, with_pairs-some, with_pairs-sorted}
+use Rattle.trie.proofs.PairsLemmas.{alike_pairs, found_kept, last_stands, same_by_entries, with_pairs-all, with_pairs-most, with_pairs-some, with_pairs-sorted}
 use Rattle.trie.proofs.PlacesLemmas.{entry_at-below, places_below}
 use Rattle.trie.proofs.PutLemmas.{leaf_holds}
 use Rattle.trie.proofs.TreeLemmas.{entries-Bucket, IsNode-Bucket}
@@ -51,7 +52,7 @@ module _ {X : Type 0} where
   kept_fewer test (x ∷ xs) = fewer_more (test x) x (filter test xs) xs (kept_fewer test xs)
 
 module _ {K V : Type 0} (hash : K → ℕ) where
-  one_below : (prefix : List ℕ) (d : ℕ) (one : Hashed K V) (part : List (Hashed K V)) (b : Bool) → (digit one.hash (length prefix) == d) ≡ b →
+  one_below : (prefix : List ℕ) (d : ℕ) (one : OwnedPair K V) (part : List (OwnedPair K V)) (b : Bool) → (digit one.hash (length prefix) == d) ≡ b →
       length prefix < digit_count → StartsWith prefix (digits (hash (pair_in one).0)) → one.hash ≡ hash (pair_in one).0 →
       AreBelow hash (prefix ++ d ∷ []) (pairs_in part) → AreBelow hash (prefix ++ d ∷ []) (pairs_in (cond b (one ∷ part) part))
   one_below prefix d one part true is low starts hashed rest =
@@ -64,7 +65,7 @@ module _ {K V : Type 0} (hash : K → ℕ) where
   one_below prefix d one part false is low starts hashed rest = rest
 
   -- the pairs with a digit are below the prefix with it
-  below_part : (prefix : List ℕ) (d : ℕ) (list : List (Hashed K V)) → length prefix < digit_count → AreBelow hash prefix (pairs_in list) →
+  below_part : (prefix : List ℕ) (d : ℕ) (list : List (OwnedPair K V)) → length prefix < digit_count → AreBelow hash prefix (pairs_in list) →
       AreHashed hash list → AreBelow hash (prefix ++ d ∷ []) (pairs_in (with_digit (length prefix) d list))
   below_part prefix d [] low below hashed = tt
   below_part prefix d (one ∷ list) low below hashed =
@@ -72,7 +73,7 @@ module _ {K V : Type 0} (hash : K → ℕ) where
       (below_part prefix d list low below.1 hashed.1)
 
   -- a part of pairs of one prefix
-  pub part_below : (depth d : ℕ) (list part : List (Hashed K V)) → HaveOnePrefix hash depth list → depth < digit_count →
+  pub part_below : (depth d : ℕ) (list part : List (OwnedPair K V)) → HaveOnePrefix hash depth list → depth < digit_count →
       part ≡ with_digit depth d list → HaveOnePrefix hash (depth + 1) part
   part_below depth d list part have low is = rw is (record {
     prefix = have.prefix ++ d ∷ [];
@@ -80,6 +81,7 @@ module _ {K V : Type 0} (hash : K → ℕ) where
     low = omega arith;
     below = rw have.deep at (below_part have.prefix d list (rw have.deep low) have.below have.hashed);
     hashed = kept_all (λ one. one.hash ≡ hash (pair_in one).0) (λ one. digit one.hash depth == d) list have.hashed;
+    rise = λ n within. IsNonDecreasingBy-filter (λ one. first_number one.hash n) (λ one. digit one.hash depth == d) list (have.rise n within);
     fits = omega (arith, kept_fewer (λ one. digit one.hash depth == d) list, have.fits);
   })
 
@@ -87,47 +89,22 @@ both_true : (a b : Bool) → (a && b) ≡ true → (a ≡ true) × (b ≡ true)
 both_true true b e = (refl, e)
 both_true false b e = absurd (cc)
 
--- keys whose hashes differ in a digit differ
-other_digit : {K : Type 0} (hash : K → ℕ) (cmp : K → K → Ordering) (h : HaveHashes hash cmp) (place d : ℕ) (q k : K) → digit (hash q) place ≡ d →
-    (digit (hash k) place == d) ≡ false → eq_by_cmp (digit_order hash cmp) q k ≡ false
-other_digit hash cmp h place d q k here there =
-    order_agrees hash cmp h.same_hash q k
-    ∙ false_from_ne_true (is_eq (cmp q k)) (λ same.
-    let one_hash : hash q ≡ hash k = h.same_hash q k (is_Equal _ same) in
-    eqb-false _ d there (ap (λ n. digit n place) (sym one_hash) ∙ here))
-
 module _ {K V : Type 0} (hash : K → ℕ) (cmp : K → K → Ordering) (h : HaveHashes hash cmp) where
-  found_more : (place d : ℕ) (q : K) → digit (hash q) place ≡ d → (one : Hashed K V) → one.hash ≡ hash (pair_in one).0 →
-      (part list : List (Hashed K V)) (es fs : List (K × V)) (b : Bool) → (digit one.hash place == d) ≡ b →
-      entry_at (digit_order hash cmp) es q ≡ entry_at (digit_order hash cmp) fs q →
-      ((es fs : List (K × V)) → entry_at (digit_order hash cmp) es q ≡ entry_at (digit_order hash cmp) fs q →
-      entry_at (digit_order hash cmp) (with_pairs (digit_order hash cmp) (pairs_in part) es) q
-      ≡ entry_at (digit_order hash cmp) (with_pairs (digit_order hash cmp) (pairs_in list) fs) q) →
-      entry_at (digit_order hash cmp) (with_pairs (digit_order hash cmp) (pairs_in (cond b (one ∷ part) part)) es) q
-      ≡ entry_at (digit_order hash cmp) (with_pairs (digit_order hash cmp) (pairs_in list) (with_pair (digit_order hash cmp) (pair_in one).0 (pair_in one).1 fs)) q
-  found_more place d q here one hashed part list es fs true is same rest =
-      rest _ _
-      (entry-with_pair (digit_order hash cmp) (digit_total hash cmp h) es (pair_in one).0 (pair_in one).1 q
-      ∙ ap (λ o. cond (eq_by_cmp (digit_order hash cmp) q (pair_in one).0) (Some (pair_in one)) o) same
-      ∙ sym (entry-with_pair (digit_order hash cmp) (digit_total hash cmp h) fs (pair_in one).0 (pair_in one).1 q))
-  found_more place d q here one hashed part list es fs false is same rest =
-      let apart : eq_by_cmp (digit_order hash cmp) q (pair_in one).0 ≡ false =
-      other_digit hash cmp h place d q (pair_in one).0 here (rw hashed at is) in
-      rest _ _ (same ∙ sym (entry-with_pair (digit_order hash cmp) (digit_total hash cmp h) fs (pair_in one).0 (pair_in one).1 q ∙ rw apart refl))
-
   -- a key is found among the pairs of its digit as among all
-  found_part : (place d : ℕ) (q : K) → digit (hash q) place ≡ d → (list : List (Hashed K V)) → AreHashed hash list →
+  found_part : (place d : ℕ) (q : K) → digit (hash q) place ≡ d → (list : List (OwnedPair K V)) → AreHashed hash list →
       (es fs : List (K × V)) → entry_at (digit_order hash cmp) es q ≡ entry_at (digit_order hash cmp) fs q →
       entry_at (digit_order hash cmp) (with_pairs (digit_order hash cmp) (pairs_in (with_digit place d list)) es) q
       ≡ entry_at (digit_order hash cmp) (with_pairs (digit_order hash cmp) (pairs_in list) fs) q
-  found_part place d q here [] hashed es fs same = same
-  found_part place d q here (one ∷ list) hashed es fs same =
-      found_more place d q here one hashed.0 (with_digit place d list) list es fs (digit one.hash place == d) refl same
-      (λ es fs alike. found_part place d q here list hashed.1 es fs alike)
+  found_part place d q here list hashed =
+      found_kept pair_in (digit_order hash cmp) (digit_total hash cmp h) (λ one. digit one.hash place == d) q (λ one. one.hash ≡ hash (pair_in one).0)
+      (λ one is same.
+      let equal = h.same_hash q (pair_in one).0 (is_Equal _ (sym (order_agrees hash cmp h.same_hash q (pair_in one).0) ∙ same)) in
+      eq-eqb _ d (ap (λ n. digit n place) (is ∙ sym equal) ∙ here))
+      list (All-from_recursion (λ one. one.hash ≡ hash (pair_in one).0) list hashed)
 
   -- a branch of which each place has the pairs with its digit
-  module _ (depth : ℕ) (list : List (Hashed K V)) (hashed : AreHashed hash list) (low : depth < digit_count)
-      (places : List (Option (Node K V))) (wide : length places ≡ place_count) (each : AreMadeOf hash cmp depth place_count list places)
+  module _ (depth : ℕ) (list : List (OwnedPair K V)) (hashed : AreHashed hash list) (low : depth < digit_count)
+      (places : List (Option (Node K V))) (wide : length places ≡ place_count) (each : AreMadeOf hash cmp depth list places)
       (prefix : List ℕ) (deep : length prefix ≡ depth) (below : AreBelow hash prefix (pairs_in list)) where
     child : (k : ℕ) → k < place_count →
         Holds hash cmp (prefix ++ k ∷ []) (with_pairs (digit_order hash cmp) (pairs_in (with_digit depth k list)) []) (get_or places k None)
@@ -165,9 +142,9 @@ module _ {K V : Type 0} (hash : K → ℕ) (cmp : K → K → Ordering) (h : Hav
         alike
 
   -- the number of entries of such a branch can be held
-  pub branch_fits : (depth : ℕ) (list : List (Hashed K V)) → HaveOnePrefix hash depth list → depth < digit_count →
+  pub branch_fits : (depth : ℕ) (list : List (OwnedPair K V)) → HaveOnePrefix hash depth list → depth < digit_count →
       (bitmap : ℕ) (children : List (Child K V)) → IsDense bitmap (length children) →
-      AreMadeOf hash cmp depth place_count list (places_in bitmap children) → sum_by node_len (values children) < 2 ^ 64
+      AreMadeOf hash cmp depth list (places_in bitmap children) → sum_by node_len (values children) < 2 ^ 64
   branch_fits depth list have low bitmap children dense each =
       let wide = length-places_of bitmap (values children) in
       let are = made_places depth list have.hashed low (places_in bitmap children) wide each have.prefix have.deep have.below in
@@ -175,10 +152,10 @@ module _ {K V : Type 0} (hash : K → ℕ) (cmp : K → K → Ordering) (h : Hav
       let most = with_pairs-most (digit_order hash cmp) (pairs_in list) [] in
       omega (arith, total_lens hash cmp have.prefix bitmap children dense are.children, ap length whole, most, length-map list pair_in, have.fits)
 
-  pub branch_made : (depth : ℕ) (list : List (Hashed K V)) → AreHashed hash list → depth < digit_count →
+  pub branch_made : (depth : ℕ) (list : List (OwnedPair K V)) → AreHashed hash list → depth < digit_count →
       2 ≤ length (with_pairs (digit_order hash cmp) (pairs_in list) []) →
       (bitmap : ℕ) (children : Vec (Child K V) Global) → IsDense bitmap (length children.items) →
-      AreMadeOf hash cmp depth place_count list (places_in bitmap children.items) → (place : Option (Node K V)) →
+      AreMadeOf hash cmp depth list (places_in bitmap children.items) → (place : Option (Node K V)) →
       place ≡ Some (Branch (sum_by node_len (values children.items)) bitmap children) → IsMadeOf hash cmp depth (pairs_in list) place
   branch_made depth list hashed low many bitmap children dense each place is = rw is (record {
     at = λ prefix deep below.
@@ -220,37 +197,37 @@ module _ {K V : Type 0} (hash : K → ℕ) (cmp : K → K → Ordering) (h : Hav
   })
 
   -- the last of a list
-  last_of : (P : K × V → Type 0) (list : List (Hashed K V)) (i : ℕ) (last : Hashed K V) → Some last ≡ slice_get list i →
+  last_of : (P : K × V → Type 0) (list : List (OwnedPair K V)) (i : ℕ) (last : OwnedPair K V) → Some last ≡ slice_get list i →
       AllByRecursion P (pairs_in list) → P (pair_in last)
   last_of P [] i last is all = absurd (cc)
   last_of P (one ∷ list) zero last is all =
       let same : last ≡ one = cc in rw same all.0
   last_of P (one ∷ list) (suc i) last is all = last_of P list i last is all.1
 
-  last_hash : (list : List (Hashed K V)) (i : ℕ) (last : Hashed K V) → Some last ≡ slice_get list i →
+  last_hash : (list : List (OwnedPair K V)) (i : ℕ) (last : OwnedPair K V) → Some last ≡ slice_get list i →
       AreHashed hash list → last.hash ≡ hash (pair_in last).0
   last_hash [] i last is all = absurd (cc)
   last_hash (one ∷ list) zero last is all =
       let same : last ≡ one = cc in rw same all.0
   last_hash (one ∷ list) (suc i) last is all = last_hash list i last is all.1
 
-  last_folded : (one : Hashed K V) (list : List (Hashed K V)) (last : Hashed K V) → Some last ≡ slice_get (one ∷ list) (length list) →
+  last_folded : (one : OwnedPair K V) (list : List (OwnedPair K V)) (last : OwnedPair K V) → Some last ≡ slice_get (one ∷ list) (length list) →
       fold (λ _ p. p) (pair_in one) (pairs_in list) ≡ pair_in last
   last_folded one [] last is = let same : last ≡ one = cc in rw same refl
   last_folded one (next ∷ list) last is = last_folded next list last is
 
   -- all pairs have the key of one
-  abbrev HaveKey : Hashed K V → List (Hashed K V) → Type 0
+  abbrev HaveKey : OwnedPair K V → List (OwnedPair K V) → Type 0
   HaveKey last list = AllByRecursion (λ p. digit_order hash cmp p.0 (pair_in last).0 ≡ Equal) (pairs_in list)
 
-  have_key : (last : Hashed K V) (list : List (Hashed K V)) → list_all (λ one. is_like cmp one last) list ≡ true → HaveKey last list
+  have_key : (last : OwnedPair K V) (list : List (OwnedPair K V)) → list_all (λ one. is_like cmp one last) list ≡ true → HaveKey last list
   have_key last [] e = tt
   have_key last (one ∷ list) e =
       let here = both_true (is_like cmp one last) (list_all (λ one. is_like cmp one last) list) e in
       let equal = (both_true (one.hash == last.hash) (is_eq (cmp (pair_in one).0 (pair_in last).0)) here.0).1 in
       (is_Equal _ (order_agrees hash cmp h.same_hash (pair_in one).0 (pair_in last).0 ∙ equal), have_key last list here.1)
 
-  like_all : (last : Hashed K V) → last.hash ≡ hash (pair_in last).0 → (list : List (Hashed K V)) → AreHashed hash list →
+  like_all : (last : OwnedPair K V) → last.hash ≡ hash (pair_in last).0 → (list : List (OwnedPair K V)) → AreHashed hash list →
       HaveKey last list → list_all (λ one. is_like cmp one last) list ≡ true
   like_all last is [] hashed have = refl
   like_all last is (one ∷ list) hashed have =
@@ -260,7 +237,7 @@ module _ {K V : Type 0} (hash : K → ℕ) (cmp : K → K → Ordering) (h : Hav
       and_from _ _ (and_from _ _ (eq-eqb one.hash last.hash one_hash) equal) (like_all last is list hashed.1 have.1)
 
   -- of pairs of one key the last makes a leaf
-  pub leaf_made : (depth : ℕ) (list : List (Hashed K V)) (last : Hashed K V) → Some last ≡ slice_get list (length list - 1) →
+  pub leaf_made : (depth : ℕ) (list : List (OwnedPair K V)) (last : OwnedPair K V) → Some last ≡ slice_get list (length list - 1) →
       list_all (λ one. is_like cmp one last) list ≡ true → (pair : K × V) → pair ≡ pair_in last →
       (place : Option (Node K V)) → place ≡ Some (Leaf pair) → IsMadeOf hash cmp depth (pairs_in list) place
   leaf_made depth [] last is like pair pair_is place place_is = absurd (cc)
@@ -278,7 +255,7 @@ module _ {K V : Type 0} (hash : K → ℕ) (cmp : K → K → Ordering) (h : Hav
   })
 
   -- pairs of more keys make more entries
-  pub more_keys : (list : List (Hashed K V)) (last : Hashed K V) → Some last ≡ slice_get list (length list - 1) → AreHashed hash list →
+  pub more_keys : (list : List (OwnedPair K V)) (last : OwnedPair K V) → Some last ≡ slice_get list (length list - 1) → AreHashed hash list →
       list_all (λ one. is_like cmp one last) list ≡ false → 2 ≤ length (with_pairs (digit_order hash cmp) (pairs_in list) [])
   more_keys [] last is hashed other = absurd (cc)
   more_keys (one ∷ list) last is hashed other = by_entries _ refl
@@ -305,22 +282,8 @@ module _ {K V : Type 0} (hash : K → ℕ) (cmp : K → K → Ordering) (h : Hav
           absurd (cc)
 
 module _ {K V : Type 0} (hash : K → ℕ) (cmp : K → K → Ordering) where
-  -- one place more
-  pub made_more : (depth n : ℕ) (list : List (Hashed K V)) (places : List (Option (Node K V))) (place : Option (Node K V)) → n < length places →
-      AreMadeOf hash cmp depth n list places → IsMadeOf hash cmp (depth + 1) (pairs_in (with_digit depth n list)) place →
-      AreMadeOf hash cmp depth (n + 1) list (set places n place)
-  made_more depth n list places place within each here k lt =
-      elim (cases_lt k n) [
-        | inl before ↦
-            let other : k ≡ n → ⊥ = λ (e : k ≡ n). absurd (omega arith) in
-            rw (read_other places n k place None other) (each k before)
-        | inr after ↦
-            let last : k ≡ n = omega arith in
-            rw (last, read_written places n place None within) here
-      ]
-
   -- no pairs have no node
-  pub none_made : (depth : ℕ) (list : List (Hashed K V)) → list ≡ [] → IsMadeOf hash cmp depth (pairs_in list) None
+  pub none_made : (depth : ℕ) (list : List (OwnedPair K V)) → list ≡ [] → IsMadeOf hash cmp depth (pairs_in list) None
   none_made depth list none = record {
     at = λ prefix deep below. record { placed = tt; entries_are = ap (λ l. with_pairs (digit_order hash cmp) (pairs_in l) []) (sym none) };
   }
@@ -329,14 +292,34 @@ module _ {K V : Type 0} (hash : K → ℕ) (cmp : K → K → Ordering) where
   all_below [] = tt
   all_below (p ∷ ps) = (tt, all_below ps)
 
+  hashed_each : (list : List (OwnedPair K V)) → HaveTheirHashes hash (map bare list) → AreHashed hash list
+  hashed_each [] hashed = tt
+  hashed_each (one ∷ list) hashed = (
+    All-head (λ one. one.hash ≡ hash one.pair.0) (bare one) (map bare list) hashed,
+    hashed_each list (All-tail (λ one. one.hash ≡ hash one.pair.0) (bare one) (map bare list) hashed),
+  )
+
+  rise_each : (list : List (OwnedPair K V)) → Rise (map bare list) → Rise list
+  rise_each list rise depth low i j d le lt =
+      let long = length-map list bare in
+      let first = get_or-map bare list i d (bare d) (omega (arith, le, lt)) in
+      let second = get_or-map bare list j d (bare d) lt in
+      omega (arith, rise depth low i j (bare d) le (omega (arith, long, lt)), ap (λ one. first_number one.hash depth) first, ap (λ one. first_number one.hash depth) second)
+
+  pub bare_pairs : (list : List (OwnedPair K V)) → pairs_in list ≡ hashed_pairs (map bare list)
+  bare_pairs [] = refl
+  bare_pairs (one ∷ list) = ap (λ l. pair_in one ∷ l) (bare_pairs list)
+
   -- all pairs are below the empty prefix
-  pub root_prefix : (list : List (Hashed K V)) → AreHashed hash list → length list < 2 ^ 64 → HaveOnePrefix hash 0 list
-  root_prefix list hashed fits = record {
+  pub root_prefix : (list : List (OwnedPair K V)) (sorted : List (Hashed (K × V))) → map bare list ≡ sorted → HaveTheirHashes hash sorted →
+      Rise sorted → length list < 2 ^ 64 → HaveOnePrefix hash 0 list
+  root_prefix list sorted same hashed rise fits = record {
     prefix = [];
     deep = refl;
     low = omega arith;
     below = all_below (pairs_in list);
-    hashed = hashed;
+    hashed = hashed_each list (rw same hashed);
+    rise = rise_each list (rw same rise);
     fits = fits;
   }
 
@@ -344,14 +327,11 @@ module _ {K V : Type 0} (hash : K → ℕ) (cmp : K → K → Ordering) where
       entries_in place ≡ with_pairs (digit_order hash cmp) ps []
   root_entries ps place made = (made.at [] refl (all_below ps)).entries_are
 
-  pub root_placed : (ps : List (K × V)) (place : Option (Node K V)) → IsMadeOf hash cmp 0 ps place → IsPlace hash cmp place []
-  root_placed ps place made = (made.at [] refl (all_below ps)).placed
-
   pub root_trie : (ps : List (K × V)) (place : Option (Node K V)) → IsMadeOf hash cmp 0 ps place → length ps < 2 ^ 64 →
       IsTrie hash cmp place
   root_trie ps place made fits =
       let most = with_pairs-most (digit_order hash cmp) ps [] in
       record {
-        placed = root_placed ps place made;
+        placed = (made.at [] refl (all_below ps)).placed;
         fits = omega (arith, ap length (root_entries ps place made), most, fits);
       }

@@ -136,16 +136,6 @@ module _ {K V : Type 0} (hash : K → ℕ) (cmp : K → K → Ordering) (h : Hav
       };
     })
 
-    pub alone_second : second ≡ None → Merges hash cmp blend depth first second first
-    alone_second is = rw is (record {
-      at = λ prefix deep fp sp. record {
-        placed = fp;
-        entries = λ key s. sym (blended_none (blend_entries blend) (entry_at (digit_order hash cmp) (entries_in first) key));
-        first_in = omega arith;
-        most = omega arith;
-      };
-    })
-
     -- the prefix of a leaf
     leaf_prefix : (place : Option (Node K V)) (pair : K × V) → place ≡ Some (Leaf pair) →
         (prefix : List ℕ) → length prefix ≡ depth → IsPlace hash cmp place prefix →
@@ -307,7 +297,7 @@ module _ {K V : Type 0} (hash : K → ℕ) (cmp : K → K → Ordering) (h : Hav
                             (both.below prefix a.one_hash b.one_hash),
                       );
                       entries = λ q s. rw (held, a.entries_are, b.entries_are, entry_at-order hash cmp h q (pairs_of pairs.items), entry_at-order hash cmp h q (pairs_of es.items), entry_at-order hash cmp h q (pairs_of fs.items))
-                          (both.merged.entries q);
+                          (both.entries q);
                       first_in = omega (arith, ap length held, ap length a.entries_are, both.first);
                       most = omega (arith, ap length held, ap length a.entries_are, ap length b.entries_are, both.most);
                     });

@@ -1,18 +1,20 @@
 -- Pairs that are laid over entries one after another.
-use Rattle.std.proofs.Common.{◌≡◌, ℕ, ◌+◌, ◌<◌, ◌≤◌, Bool, true, false, cond, Some, None, List, [], ◌∷◌, length, refl, sym, ap, ◌∙◌, arith}
+use Rattle.std.proofs.Common.{◌≡◌, ℕ, ◌+◌, ◌<◌, ◌≤◌, Bool, true, false, cond, Some, None, List, [], ◌∷◌, length, map, refl, sym, ap, ◌∙◌, arith, inl, inr}
 use Rattle.std.specs.Cmp.{IsTotalOrder}
 use Rattle.std.specs.FinMap.{IsAntisymmetric, insert}
-use Rattle.std.specs.List.{AllByRecursion, fold}
+use Rattle.std.specs.List.{All, AllByRecursion, filter, fold}
 use Rattle.std.specs.Map.{keys_of}
-use Rattle.std.specs.Ordering.{is_eq, is_lt, ordering_reverse}
+use Rattle.std.specs.Ordering.{eq_by_cmp, is_eq, is_lt, ordering_reverse}
 use Rattle.std.specs.declared.cmp.Ordering.{Ordering}
 use Rattle.std.specs.declared.cmp.Ordering.TheVariants.{Less, Equal, Greater}
+use Rattle.std.proofs.lemmas.Bool.{cases_Bool}
 use Rattle.std.proofs.lemmas.Cmp.{alike_right, tied_itself}
+use Rattle.std.proofs.lemmas.List.Elements.{All-head, All-tail}
 use Rattle.trie.specs.Digits.{digit_order}
 use Rattle.trie.specs.Entries.{entry_at, IsRising, with_pair, with_pairs}
 use Rattle.trie.specs.Maps.{map_of}
 use Rattle.trie.proofs.EntriesLemmas.{with_pair-all, with_pair-most, with_pair-sorted}
-use Rattle.trie.proofs.FoundLemmas.{none_below}
+use Rattle.trie.proofs.FoundLemmas.{entry-with_pair, none_below}
 use Rattle.trie.proofs.MapsLemmas.{below_alike, HaveHashes, is_Equal, put_map}
 
 module _ {K V : Type 0} (R : K → K → Ordering) where
@@ -145,3 +147,31 @@ module _ {K V : Type 0} (hash : K → ℕ) (cmp : K → K → Ordering) (h : Hav
   puts_map es (p ∷ ps) exact =
       puts_map (with_pair (digit_order hash cmp) p.0 p.1 es) ps exact
       ∙ ap (λ m. fold (λ m q. insert m q.0 q.1) m ps) (put_map hash cmp h es p.0 p.1 exact)
+
+-- where a test passes each pair of a key, the key is found among those that pass as among all
+module _ {X K V : Type 0} (pair : X → K × V) (R : K → K → Ordering) (total : IsTotalOrder R) where
+  module _ (test : X → Bool) (q : K) (P : X → Type 0) (passes : (x : X) → P x → eq_by_cmp R q (pair x).0 ≡ true → test x ≡ true) where
+    other_key : (x : X) → P x → test x ≡ false → eq_by_cmp R q (pair x).0 ≡ false
+    other_key x here fails = elim (cases_Bool (eq_by_cmp R q (pair x).0)) [
+      | inl same ↦ let never = sym fails ∙ passes x here same in absurd (cc)
+      | inr other ↦ other
+    ]
+
+    found_more : (x : X) (kept xs : List X) (es fs : List (K × V)) (b : Bool) → P x → test x ≡ b → entry_at R es q ≡ entry_at R fs q →
+        ((es fs : List (K × V)) → entry_at R es q ≡ entry_at R fs q →
+        entry_at R (with_pairs R (map pair kept) es) q ≡ entry_at R (with_pairs R (map pair xs) fs) q) →
+        entry_at R (with_pairs R (map pair (cond b (x ∷ kept) kept)) es) q
+        ≡ entry_at R (with_pairs R (map pair xs) (with_pair R (pair x).0 (pair x).1 fs)) q
+    found_more x kept xs es fs true here is same rest =
+        rest _ _
+        (entry-with_pair R total es (pair x).0 (pair x).1 q ∙ ap (λ o. cond (eq_by_cmp R q (pair x).0) (Some (pair x)) o) same
+        ∙ sym (entry-with_pair R total fs (pair x).0 (pair x).1 q))
+    found_more x kept xs es fs false here is same rest =
+        rest _ _ (same ∙ sym (entry-with_pair R total fs (pair x).0 (pair x).1 q ∙ rw (other_key x here is) refl))
+
+    pub found_kept : (xs : List X) → All P xs → (es fs : List (K × V)) → entry_at R es q ≡ entry_at R fs q →
+        entry_at R (with_pairs R (map pair (filter test xs)) es) q ≡ entry_at R (with_pairs R (map pair xs) fs) q
+    found_kept [] all es fs same = same
+    found_kept (x ∷ xs) all es fs same =
+        found_more x (filter test xs) xs es fs (test x) (All-head P x xs all) refl same
+        (λ es fs alike. found_kept xs (All-tail P x xs all) es fs alike)

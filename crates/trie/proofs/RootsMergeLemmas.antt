@@ -4,7 +4,7 @@ use Rattle.std.specs.Option.{option_map}
 use Rattle.std.specs.declared.cmp.Ordering.{Ordering}
 use Rattle.trie.specs.Digits.{digit_order}
 use Rattle.trie.specs.Entries.{entry_at}
-use Rattle.trie.specs.Merging.{CanBlend, HasEntries, IsMerged, Meet, Merges}
+use Rattle.trie.specs.Merging.{CanBlend, IsMerged, Meet, Merges}
 use Rattle.trie.specs.Nodes.{Node}
 use Rattle.trie.specs.Tree.{entries_in, IsPlace}
 use Rattle.trie.proofs.FoundLemmas.{value_blended, value-entry}
@@ -24,23 +24,15 @@ module _ {K V : Type 0} (hash : K → ℕ) (cmp : K → K → Ordering) where
     can = λ key s x y fx fy. can.can key x y (rw is at fx) (rw also at fy);
   }
 
-  pub roots_entries : (blend : V → V → V) (first second third : Option (Node K V)) (es fs : List (K × V)) →
-      entries_in first ≡ es → entries_in second ≡ fs → IsPlace hash cmp first [] → IsPlace hash cmp second [] →
-      Merges hash cmp blend 0 first second third → HasEntries (digit_order hash cmp) blend es fs (entries_in third)
-  roots_entries blend first second third es fs is also placed other merges =
-      let merged = merges.at [] refl placed other in
-      record { entries = λ key. rw (← is, ← also) (merged.entries key tt) }
-
   pub roots_merged : (blend : V → V → V) (first second third : Option (Node K V)) (es fs : List (K × V)) →
       entries_in first ≡ es → entries_in second ≡ fs → IsPlace hash cmp first [] → IsPlace hash cmp second [] →
       Merges hash cmp blend 0 first second third → IsMerged (digit_order hash cmp) blend es fs (entries_in third)
   roots_merged blend first second third es fs is also placed other merges =
       let merged = merges.at [] refl placed other in
-      let whole = roots_entries blend first second third es fs is also placed other merges in
       let order = digit_order hash cmp in
       record {
         values = λ key.
-            value-entry order (entries_in third) key ∙ ap (λ o. option_map (λ e. e.1) o) (whole.entries key)
+            value-entry order (entries_in third) key ∙ ap (λ o. option_map (λ e. e.1) o) (rw (← is, ← also) (merged.entries key tt))
             ∙ value_blended blend (entry_at order es key) (entry_at order fs key)
             ∙ rw (value-entry order es key, value-entry order fs key) refl;
         first = omega (arith, merged.first_in, ap length is);

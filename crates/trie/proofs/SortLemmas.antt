@@ -1,22 +1,22 @@
--- Pairs that are sorted by something of their hashes make the same map.
-use Rattle.std.proofs.Common.{◌≡◌, ℕ, ◌+◌, ◌*◌, ◌<◌, ◌≤◌, ◌^◌, Bool, true, false, cond, Some, List, [], ◌∷◌, length, take, add-one, refl, sym, ap, ◌∙◌, arith, inl, inr}
+-- Hashes in the order of their digits, and pairs that are sorted so: they make the same map.
+use Rattle.std.proofs.Common.{◌≡◌, ℕ, ◌+◌, ◌-◌, ◌*◌, ◌<◌, ◌≤◌, ◌^◌, Bool, true, List, [], ◌∷◌, length, take, get_or, zero, suc, add-one, refl, sym, ap, ◌∙◌, arith}
 use Rattle.std.specs.Prelude.{⊤}
-use Rattle.std.specs.Cmp.{IsTotalOrder}
 use Rattle.std.specs.List.{AllByRecursion, filter}
-use Rattle.std.specs.List.Sorted.{IsStableByKey, ties}
+use Rattle.std.specs.List.Sorted.{IsSortedByKey, IsStableByKey, ties}
 use Rattle.std.specs.Ordering.{eq_by_cmp, is_lt, nat_cmp}
 use Rattle.std.specs.declared.cmp.Ordering.{Ordering}
 use Rattle.std.proofs.Math.Nat.{pow-le-pow_right, pow-suc}
-use Rattle.std.proofs.lemmas.Bool.{cases_Bool}
 use Rattle.std.proofs.lemmas.Cmp.{nat_cmp_total, tied_itself}
+use Rattle.std.proofs.lemmas.List.Sorted.{IsNonDecreasingBy-from_sort}
 use Rattle.std.proofs.lemmas.List.Sums.{fold-append}
-use Rattle.trie.specs.Digits.{digit, digit_count, digit_order, digits, digits_number, first_number, last, place_count}
-use Rattle.trie.specs.Entries.{entry_at, with_pair, with_pairs}
+use Rattle.trie.specs.Building.{AreSmall, HaveTheirHashes, Rise, hashed_pairs}
+use Rattle.trie.specs.Digits.{digit, digit_count, digit_order, digits, digits_number, first_number, last, last_count, place_count}
+use Rattle.trie.specs.Entries.{entry_at, with_pairs}
+use Rattle.trie.specs.declared.build.Hashed.{Hashed}
 use Rattle.trie.proofs.DigitsLemmas.{take-digits}
-use Rattle.trie.proofs.FoundLemmas.{entry-with_pair}
 use Rattle.trie.proofs.MapsLemmas.{digit_total, HaveHashes, is_Equal}
 use Rattle.trie.proofs.OrderLemmas.{order_agrees}
-use Rattle.trie.proofs.PairsLemmas.{same_by_entries, with_pairs-sorted}
+use Rattle.trie.proofs.PairsLemmas.{found_kept, same_by_entries, with_pairs-sorted}
 
 -- the digits so far as a number, with one digit more
 pub number_more : (hash place number : ℕ) → place < digit_count → number ≡ first_number hash place →
@@ -36,57 +36,72 @@ number_bound number d place small low within =
     let most : place_count ^ (place + 1) ≤ place_count ^ last = pow-le-pow_right {n = place_count} (omega arith) {i = place + 1} {j = last} (omega (arith, within)) in
     omega (arith, fits, most)
 
+-- ---- hashes in the order of their digits
+
+-- the last digit of a hash of 64 bits has no more values than it has room
+last_low : (hash : ℕ) → hash < 2 ^ 64 → digit hash last < last_count
+last_low hash small = omega arith
+
+digit_low : (hash place : ℕ) → digit hash place < place_count
+digit_low hash place = omega arith
+
+module _ (h g : ℕ) (h_small : h < 2 ^ 64) (g_small : g < 2 ^ 64) (le : digits_number h ≤ digits_number g) where
+  numbers_rise : (more depth : ℕ) → depth + more ≡ digit_count → first_number h depth ≤ first_number g depth
+  numbers_rise zero depth all =
+      let same : depth ≡ last + 1 = omega arith in
+      let first = number_more h last _ (omega arith) refl in
+      let second = number_more g last _ (omega arith) refl in
+      rw same (omega (arith, first, second, le, last_low h h_small, last_low g g_small))
+  numbers_rise (suc more) depth all =
+      let low : depth < digit_count = omega arith in
+      let next = numbers_rise more (depth + 1) (omega arith) in
+      omega (arith, next, number_more h depth _ low refl, number_more g depth _ low refl, digit_low h depth, digit_low g depth)
+
+-- hashes that are sorted by all digits are sorted by the first ones
+pub sorted_rise : {P : Type 0} (list : List (Hashed P)) → AreSmall list → IsSortedByKey (λ one. digits_number one.hash) nat_cmp list → Rise list
+sorted_rise list small sorted depth low i j d le lt =
+    let up = IsNonDecreasingBy-from_sort (λ one. digits_number one.hash) list sorted i j d le lt in
+    numbers_rise (get_or list i d).hash (get_or list j d).hash (small i d (omega (arith, le, lt))) (small j d lt) up (digit_count - depth) depth (omega (arith, low))
+
+-- ---- pairs in that order make the same map
+
 all_true : {X : Type 0} (xs : List X) → AllByRecursion (λ x. ⊤) xs
 all_true [] = tt
 all_true (x ∷ xs) = (tt, all_true xs)
 
-module _ {K V : Type 0} (R : K → K → Ordering) (total : IsTotalOrder R) where
-  -- where a test passes each pair of a key, the key is found among those that pass as among all
-  module _ (test : K × V → Bool) (q : K) (passes : (p : K × V) → eq_by_cmp R q p.0 ≡ true → test p ≡ true) where
-    other_key : (p : K × V) → test p ≡ false → eq_by_cmp R q p.0 ≡ false
-    other_key p fails = elim (cases_Bool (eq_by_cmp R q p.0)) [
-      | inl same ↦ let never = sym fails ∙ passes p same in absurd (cc)
-      | inr other ↦ other
-    ]
+module _ {K V : Type 0} (hash : K → ℕ) (cmp : K → K → Ordering) (h : HaveHashes hash cmp) where
+  -- those that tie with a pair of a key have its digits
+  tied : (one p : Hashed (K × V)) → one.hash ≡ hash one.pair.0 → p.hash ≡ hash p.pair.0 → eq_by_cmp (digit_order hash cmp) one.pair.0 p.pair.0 ≡ true →
+      ties (λ x y. is_lt (nat_cmp (digits_number x.hash) (digits_number y.hash))) one p ≡ true
+  tied one p one_is p_is same =
+      let equal = h.same_hash one.pair.0 p.pair.0 (is_Equal _ (sym (order_agrees hash cmp h.same_hash one.pair.0 p.pair.0) ∙ same)) in
+      let alike : one.hash ≡ p.hash = one_is ∙ (equal ∙ sym p_is) in
+      rw (alike, tied_itself nat_cmp_total (digits_number p.hash)) refl
 
-    found_more : (p : K × V) (kept ps es fs : List (K × V)) (b : Bool) → test p ≡ b → entry_at R es q ≡ entry_at R fs q →
-        ((es fs : List (K × V)) → entry_at R es q ≡ entry_at R fs q → entry_at R (with_pairs R kept es) q ≡ entry_at R (with_pairs R ps fs) q) →
-        entry_at R (with_pairs R (cond b (p ∷ kept) kept) es) q ≡ entry_at R (with_pairs R ps (with_pair R p.0 p.1 fs)) q
-    found_more p kept ps es fs true is same rest =
-        rest _ _
-        (entry-with_pair R total es p.0 p.1 q ∙ ap (λ o. cond (eq_by_cmp R q p.0) (Some p) o) same ∙ sym (entry-with_pair R total fs p.0 p.1 q))
-    found_more p kept ps es fs false is same rest = rest _ _ (same ∙ sym (entry-with_pair R total fs p.0 p.1 q ∙ rw (other_key p is) refl))
+  -- some pair of a key, which says which pairs tie with it
+  abbrev like : V → K → Hashed (K × V)
+  like v q = record { hash = hash q; pair = (q, v) }
 
-    found_kept : (ps es fs : List (K × V)) → entry_at R es q ≡ entry_at R fs q →
-        entry_at R (with_pairs R (filter test ps) es) q ≡ entry_at R (with_pairs R ps fs) q
-    found_kept [] es fs same = same
-    found_kept (p ∷ ps) es fs same = found_more p (filter test ps) ps es fs (test p) refl same (λ es fs alike. found_kept ps es fs alike)
+  abbrev test : V → K → Hashed (K × V) → Bool
+  test v q one = ties (λ x y. is_lt (nat_cmp (digits_number x.hash) (digits_number y.hash))) (like v q) one
 
-  -- a number that keys have in common which the order finds equal
-  module _ (number : K → ℕ) (same_number : (q k : K) → eq_by_cmp R q k ≡ true → number q ≡ number k) where
-    tied : (v : V) (q : K) (p : K × V) → eq_by_cmp R q p.0 ≡ true → ties (λ x y. is_lt (nat_cmp (number x.0) (number y.0))) (q, v) p ≡ true
-    tied v q p same = rw (same_number q p.0 same, tied_itself nat_cmp_total (number p.0)) refl
+  found : (v : V) (q : K) (list : List (Hashed (K × V))) → HaveTheirHashes hash list →
+      entry_at (digit_order hash cmp) (with_pairs (digit_order hash cmp) (hashed_pairs (filter (test v q) list)) []) q
+      ≡ entry_at (digit_order hash cmp) (with_pairs (digit_order hash cmp) (hashed_pairs list) []) q
+  found v q list have =
+      found_kept (λ (one : Hashed (K × V)). one.pair) (digit_order hash cmp) (digit_total hash cmp h) (test v q) q (λ one. one.hash ≡ hash one.pair.0)
+      (λ p p_is same. tied (like v q) p refl p_is same) list have [] [] refl
 
-    -- pairs that were sorted by it, those of one number in their order, make the same map
-    pub sorted_same : (old new : List (K × V)) → IsStableByKey (λ p. number p.0) nat_cmp old new → length new ≡ length old →
-        with_pairs R new [] ≡ with_pairs R old []
-    sorted_same [] [] stable long = refl
-    sorted_same [] (n ∷ new) stable long = cc
-    sorted_same (o ∷ old) new stable long =
-        same_by_entries R total (λ k. ⊤) _ _ (with_pairs-sorted R total new [] tt) (with_pairs-sorted R total (o ∷ old) [] tt)
-        (all_true _) (all_true _) (λ q _. alike q)
-      where
-        -- some pair of the key is needed to say which pairs tie with it
-        alike : (q : K) → entry_at R (with_pairs R new []) q ≡ entry_at R (with_pairs R (o ∷ old) []) q
-        alike q =
-            let test : K × V → Bool = ties (λ x y. is_lt (nat_cmp (number x.0) (number y.0))) (q, o.1) in
-            sym (found_kept test q (tied o.1 q) new [] [] refl) ∙ ap (λ ps. entry_at R (with_pairs R ps []) q) (stable (q, o.1))
-            ∙ found_kept test q (tied o.1 q) (o ∷ old) [] [] refl
-
--- the same of pairs that were sorted by the digits of their keys' hashes
-pub sorted_made : {K V : Type 0} (hash : K → ℕ) (cmp : K → K → Ordering) → HaveHashes hash cmp → (old new : List (K × V)) →
-    IsStableByKey (λ p. digits_number (hash p.0)) nat_cmp old new → length new ≡ length old →
-    with_pairs (digit_order hash cmp) new [] ≡ with_pairs (digit_order hash cmp) old []
-sorted_made hash cmp h =
-    sorted_same (digit_order hash cmp) (digit_total hash cmp h) (λ k. digits_number (hash k))
-    (λ q k same. ap digits_number (h.same_hash q k (is_Equal _ (sym (order_agrees hash cmp h.same_hash q k) ∙ same))))
+  -- pairs that were sorted by digits, those of one hash in their order, make the same map
+  pub sorted_made : (old new : List (Hashed (K × V))) → HaveTheirHashes hash old → HaveTheirHashes hash new →
+      IsStableByKey (λ one. digits_number one.hash) nat_cmp old new → length new ≡ length old →
+      with_pairs (digit_order hash cmp) (hashed_pairs new) [] ≡ with_pairs (digit_order hash cmp) (hashed_pairs old) []
+  sorted_made [] [] hashed also stable long = refl
+  sorted_made [] (n ∷ new) hashed also stable long = absurd (omega arith)
+  sorted_made (o ∷ old) new hashed also stable long =
+      let order = digit_order hash cmp in
+      let total = digit_total hash cmp h in
+      let v = o.pair.1 in
+      same_by_entries order total (λ k. ⊤) _ _ (with_pairs-sorted order total (hashed_pairs new) [] tt)
+      (with_pairs-sorted order total (hashed_pairs (o ∷ old)) [] tt) (all_true _) (all_true _)
+      (λ q _. sym (found v q new also) ∙ ap (λ list. entry_at order (with_pairs order (hashed_pairs list) []) q) (stable (like v q)) ∙ found v q (o ∷ old) hashed)

@@ -1,65 +1,88 @@
 -- What the functions that make a map of a list at once answer.
-use Rattle.std.specs.Prelude.{◌≡◌, ℕ, ◌+◌, ◌-◌, ◌++◌, ◌<◌, ◌≤◌, ◌^◌, ◌&&◌, ◌==◌, Bool, List, [], ◌∷◌, zero, suc, length, map, get_or, Option, None, Vec}
-use Rattle.std.specs.List.{AllByRecursion, filter, flat_map}
-use Rattle.std.specs.Map.{keys_of}
+use Rattle.std.specs.Prelude.{◌≡◌, ℕ, ◌+◌, ◌<◌, ◌≤◌, ◌^◌, ◌++◌, ◌&&◌, ◌==◌, Bool, List, [], length, map, get_or, Option, None, bit_or}
+use Rattle.std.specs.List.{All, AllByRecursion, filter, fold}
+use Rattle.std.specs.List.Sorted.{IsNonDecreasingBy}
 use Rattle.std.specs.Ordering.{is_eq}
 use Rattle.std.specs.declared.alloc.Global.{Global}
 use Rattle.std.specs.declared.cmp.Ordering.{Ordering}
-use Rattle.trie.specs.Digits.{digit, digit_count, digit_order, digits, place_count}
+use Rattle.std.specs.declared.sync.Arc.{Arc}
+use Rattle.trie.specs.Digits.{digit, digit_count, digit_order, digits, first_number, place_count}
 use Rattle.trie.specs.Entries.{with_pairs}
 use Rattle.trie.specs.Holding.{Holds}
-use Rattle.trie.specs.Merging.{CountsBoth}
 use Rattle.trie.specs.Nodes.{Node}
-use Rattle.trie.specs.Shapes.{alone_among, number_with, shape_below}
-use Rattle.trie.specs.Tree.{entries_in, IsPlace, StartsWith}
+use Rattle.trie.specs.Tree.{StartsWith}
 use Rattle.trie.specs.declared.build.Hashed.{Hashed}
+
+module _ {P : Type 0} where
+  -- each hash has 64 bits
+  abbrev pub AreSmall : List (Hashed P) → Type 0
+  AreSmall list = All (λ one. one.hash < 2 ^ 64) list
+
+  -- those whose hash has this digit in this place
+  abbrev pub with_digit : ℕ → ℕ → List (Hashed P) → List (Hashed P)
+  with_digit place d list = filter (λ one. digit one.hash place == d) list
+
+  -- a bit for each digit that hashes have in this place
+  abbrev pub digits_of : ℕ → List (Hashed P) → ℕ
+  digits_of place list = fold (λ bits one. bit_or bits (2 ^ digit one.hash place)) 0 list
+
+  -- however many digits are compared, they do not fall
+  abbrev pub Rise : List (Hashed P) → Type 0
+  Rise list = (depth : ℕ) → depth ≤ digit_count → IsNonDecreasingBy (λ one. first_number one.hash depth) list
+
+  -- the list begins with those that have one digit in this place, and the rest have greater ones
+  pub record IsRun (place : ℕ) (list : List (Hashed P)) (d : ℕ) (run rest : List (Hashed P)) : Type 0 where
+    pub low : d < place_count
+    pub joined : list ≡ run ++ rest
+    pub some : 0 < length run
+    pub alike : All (λ one. digit one.hash place ≡ d) run
+    pub above : All (λ one. d < digit one.hash place) rest
+
+-- the pairs themselves
+abbrev pub hashed_pairs : {K V : Type 0} → List (Hashed (K × V)) → List (K × V)
+hashed_pairs list = map (λ one. one.pair) list
+
+-- a pair's owner beside the hash of its key
+abbrev pub OwnedPair : Type 0 → Type 0 → Type 0
+OwnedPair K V = Hashed (Arc (K × V) Global)
 
 module _ {K V : Type 0} where
   -- the pair itself, whoever owns it
-  abbrev pub pair_in : Hashed K V → K × V
-  pair_in one = one.pair.now.value
+  abbrev pub pair_in : OwnedPair K V → K × V
+  pair_in one = one.pair.value
 
-  abbrev pub pairs_in : List (Hashed K V) → List (K × V)
+  abbrev pub pairs_in : List (OwnedPair K V) → List (K × V)
   pairs_in list = map pair_in list
 
+  -- the same with its hash
+  abbrev pub bare : OwnedPair K V → Hashed (K × V)
+  bare one = record { hash = one.hash; pair = pair_in one }
+
   -- both have one hash, and keys that compare as equal
-  abbrev pub is_like : (K → K → Ordering) → Hashed K V → Hashed K V → Bool
+  abbrev pub is_like : (K → K → Ordering) → OwnedPair K V → OwnedPair K V → Bool
   is_like cmp one other = (one.hash == other.hash) && is_eq (cmp (pair_in one).0 (pair_in other).0)
-
-  -- those whose hash has this digit in this place
-  abbrev pub with_digit : ℕ → ℕ → List (Hashed K V) → List (Hashed K V)
-  with_digit place d list = filter (λ one. digit one.hash place == d) list
-
-  -- the lists themselves, whoever owns them
-  abbrev pub lists : List (Vec (Hashed K V) Global) → List (List (Hashed K V))
-  lists parts = map (λ part. part.items) parts
-
-  -- a list for each digit in this place, with those that have it, in their order
-  pub record AreSpread (place : ℕ) (list : List (Hashed K V)) (parts : List (List (Hashed K V))) : Type 0 where
-    pub wide : length parts ≡ place_count
-    pub each : (d : ℕ) → d < place_count → get_or parts d [] ≡ with_digit place d list
-    pub total : length (flat_map (λ part. part) parts) ≡ length list
-
--- how many nodes are made for so many pairs below a prefix of so many digits
-abbrev pub CountsEach : ℕ → ℕ → ℕ → ℕ → Type 0
-CountsEach depth pairs old new = CountsBoth depth pairs pairs old new
 
 module _ {K V : Type 0} (hash : K → ℕ) where
   -- each hash is that of its key
-  abbrev pub AreHashed : List (Hashed K V) → Type 0
+  abbrev pub HaveTheirHashes : List (Hashed (K × V)) → Type 0
+  HaveTheirHashes list = All (λ one. one.hash ≡ hash one.pair.0) list
+
+  -- the same, whoever owns the pairs
+  abbrev pub AreHashed : List (OwnedPair K V) → Type 0
   AreHashed list = AllByRecursion (λ one. one.hash ≡ hash (pair_in one).0) list
 
   -- the hashes of these pairs' keys begin with the prefix
   abbrev pub AreBelow : List ℕ → List (K × V) → Type 0
   AreBelow prefix pairs = AllByRecursion (λ p. StartsWith prefix (digits (hash p.0))) pairs
 
-  -- pairs of one prefix of so many digits, which can be counted
-  pub record HaveOnePrefix (depth : ℕ) (list : List (Hashed K V)) : Type 0 where
+  -- pairs of one prefix of so many digits, which can be counted, in the order of their digits
+  pub record HaveOnePrefix (depth : ℕ) (list : List (OwnedPair K V)) : Type 0 where
     pub prefix : List ℕ
     pub deep : length prefix ≡ depth
     pub low : depth ≤ digit_count
     pub below : AreBelow prefix (pairs_in list)
     pub hashed : AreHashed list
+    pub rise : Rise list
     pub fits : length list < 2 ^ 64
 
   -- the place has these pairs, each laid over those before it, whatever prefix of so many digits they have
@@ -67,48 +90,15 @@ module _ {K V : Type 0} (hash : K → ℕ) where
     pub at : (prefix : List ℕ) → length prefix ≡ depth → AreBelow prefix pairs →
         Holds hash cmp prefix (with_pairs (digit_order hash cmp) pairs []) place
 
-  -- each of so many places has the pairs with its digit
-  abbrev pub AreMadeOf : (K → K → Ordering) → ℕ → ℕ → List (Hashed K V) → List (Option (Node K V)) → Type 0
-  AreMadeOf cmp depth n list places =
-      (k : ℕ) → k < n → IsMadeOf cmp (depth + 1) (pairs_in (with_digit depth k list)) (get_or places k None)
+  -- each place has the pairs with its digit
+  abbrev pub AreMadeOf : (K → K → Ordering) → ℕ → List (OwnedPair K V) → List (Option (Node K V)) → Type 0
+  AreMadeOf cmp depth list places =
+      (k : ℕ) → k < place_count → IsMadeOf cmp (depth + 1) (pairs_in (with_digit depth k list)) (get_or places k None)
 
-  -- as many as these entries, and the prefixes that two of their keys share, from this one on
-  abbrev pub most_nodes : List (K × V) → List ℕ → ℕ
-  most_nodes held prefix = length held + length (shape_below hash (keys_of held) prefix)
-
-  -- the same of the first places of a branch, together
-  abbrev pub nodes_below : ℕ → List (Option (Node K V)) → List ℕ → ℕ
-  nodes_below zero places prefix = 0
-  nodes_below (suc n) places prefix = nodes_below n places prefix + most_nodes (entries_in (get_or places n None)) (prefix ++ n ∷ [])
-
-  -- no more nodes are made for the place, whatever prefix of so many digits it has
-  pub record IsMadeOnce (cmp : K → K → Ordering) (depth : ℕ) (place : Option (Node K V)) (old new : ℕ) : Type 0 where
-    pub at : (prefix : List ℕ) → length prefix ≡ depth → IsPlace hash cmp place prefix → new ≤ old + most_nodes (entries_in place) prefix
-
-  -- nor for the first places of a branch
-  pub record AreMadeOnce (cmp : K → K → Ordering) (depth n : ℕ) (places : List (Option (Node K V))) (old new : ℕ) : Type 0 where
-    pub at : (prefix : List ℕ) → length prefix ≡ depth → ((k : ℕ) → k < n → IsPlace hash cmp (get_or places k None) (prefix ++ k ∷ [])) →
-        new ≤ old + nodes_below n places prefix
-
-  -- the keys of the entries are among all keys: no more of them have any prefix
-  pub record AreAmong (all : List K) (held : List (K × V)) : Type 0 where
-    pub fewer : (prefix : List ℕ) → number_with hash (keys_of held) prefix ≤ number_with hash all prefix
-
-  -- the nodes from a prefix on, in the map of all keys, of the entries there
-  abbrev pub least_nodes : List K → List (K × V) → List ℕ → ℕ
-  least_nodes all held prefix = alone_among hash all (keys_of held) + length (shape_below hash (keys_of held) prefix)
-
-  -- the same of the first places of a branch, together
-  abbrev pub least_below : ℕ → List K → List (Option (Node K V)) → List ℕ → ℕ
-  least_below zero all places prefix = 0
-  least_below (suc n) all places prefix = least_below n all places prefix + least_nodes all (entries_in (get_or places n None)) (prefix ++ n ∷ [])
-
-  -- all of them are made and counted, where the count has not stopped, whatever prefix of so many digits the place has
-  pub record IsMadeWhole (cmp : K → K → Ordering) (depth : ℕ) (place : Option (Node K V)) (old new : ℕ) : Type 0 where
-    pub at : (all : List K) (prefix : List ℕ) → length prefix ≡ depth → IsPlace hash cmp place prefix → AreAmong all (entries_in place) →
-        new < 2 ^ 64 - 1 → old + least_nodes all (entries_in place) prefix ≤ new
-
-  -- and those of the first places of a branch
-  pub record AreMadeWhole (cmp : K → K → Ordering) (depth n : ℕ) (places : List (Option (Node K V))) (old new : ℕ) : Type 0 where
-    pub at : (all : List K) (prefix : List ℕ) → length prefix ≡ depth → ((k : ℕ) → k < n → IsPlace hash cmp (get_or places k None) (prefix ++ k ∷ [])) →
-        ((k : ℕ) → k < n → AreAmong all (entries_in (get_or places k None))) → new < 2 ^ 64 - 1 → old + least_below n all places prefix ≤ new
+  -- the places of a branch have the front of a list: those that are left have digits of which none is in it, nor in the bitmap
+  pub record IsBegun (cmp : K → K → Ordering) (depth : ℕ) (list left : List (OwnedPair K V)) (bitmap : ℕ) (places : List (Option (Node K V))) : Type 0 where
+    pub front : List (OwnedPair K V)
+    pub joined : list ≡ front ++ left
+    pub made : AreMadeOf cmp depth front places
+    pub before : All (λ one. bitmap < 2 ^ digit one.hash depth) left
+    pub none : All (λ one. with_digit depth (digit one.hash depth) front ≡ []) left

@@ -8,6 +8,7 @@ use Rattle.std.specs.Borrow.{Bor}
 use Rattle.trie.specs.Digits.{digit, digit_count, digit_order, first_digits, place_count}
 use Rattle.trie.specs.Entries.{with_pair, without_key}
 use Rattle.trie.specs.Dense.{IsDense, places_in}
+use Rattle.trie.specs.Nodes as nodes
 use Rattle.trie.specs.Nodes.{Child, Node, node_of, One, Owned, owned, Several}
 use Rattle.trie.specs.Tree.{AreChildren, entries_in, IsNode, IsPlace}
 use Rattle.trie.specs.declared.node.Children.{Children}
@@ -16,6 +17,8 @@ use Rattle.trie.specs.declared.node.Inner.{out-Inner}
 use Rattle.trie.specs.declared.node.Inner.TheOpen.{Inner-F, Branch, Bucket}
 use Rattle.trie.specs.declared.node.Owner.{Owner}
 use Rattle.trie.specs.declared.node.Unmade.{Unmade}
+use Rattle.trie.specs.declared.node.View.{View}
+use Rattle.trie.specs.declared.node.View.TheVariants as view
 use Rattle.trie.specs.declared.node.Unmade.TheVariants as unmade
 use Rattle.trie.specs.declared.put.Reach.{Reach}
 use Rattle.trie.specs.declared.put.Reach.TheVariants.{Here, Below}
@@ -55,6 +58,13 @@ seen_in (Some node) = Some (owned node.now)
 
 abbrev pub held_at : {K V : Type 0} → Option (Bor (Child K V)) → List (K × V)
 held_at place = entries_in (seen_in place)
+
+-- what a view of a place shows
+abbrev pub shown : {K V : Type 0} → View K V → Option (Node K V)
+shown view.Empty = None
+shown (view.Leaf pair) = Some (One pair.now.value)
+shown (view.Bucket pairs) = Some (nodes.Bucket pairs.now)
+shown (view.Branch len bitmap children) = Some (nodes.Branch len bitmap children.now)
 
 -- the node that is to be made
 abbrev pub made_of : {K V : Type 0} → Unmade K V → Node K V
@@ -135,6 +145,11 @@ module _ {K V : Type 0} (hash : K → ℕ) (cmp : K → K → Ordering) where
       ArePlaces (prefix_of at) (places_in bitmap children.items)
       × (flat_map entries_in (places_in bitmap children.items) ≡ entries_in place)
       × IsDense bitmap (length children.items)
+
+  -- these entries are left
+  abbrev pub IsLeft : HashPrefix → List (K × V) → Removed K V → Type 0
+  IsLeft at held Missing = ⊥
+  IsLeft at held (Left place) = Holds (prefix_of at) held (node_of place)
 
   -- the key is not there, or this is what is left without it
   abbrev pub IsRemoved : HashPrefix → K → List (K × V) → Removed K V → Type 0

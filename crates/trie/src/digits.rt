@@ -86,7 +86,7 @@ impl HashPrefix {
 }
 
 /// The digit of the hash in this place.
-fn digit_at(hash: u64, place: u32) -> usize
+pub fn digit_at(hash: u64, place: u32) -> usize
     requires { place < digit_count }
     ensures value { result ≡ digit hash place }
     ensures bound { result < place_count }

@@ -6,7 +6,7 @@ ghost use Rattle.trie.specs.Holding.{found_in, held_at, IsPlaced, seen_in};
 
 use crate::bucket::find;
 use crate::digits::HashPrefix;
-use crate::node::{Inner, Node, Seen, step};
+use crate::node::{Seen, View, step, view_of};
 use cells::KeyHash;
 use std::sync::Arc;
 
@@ -21,27 +21,23 @@ pub fn get_at<'a, K: Ord, V, H: KeyHash<K>>(
     requires placed { IsPlaced H.hash_of K.cmp at (seen_in place) }
     ensures { found_in result ≡ entry_at (digit_order H.hash_of K.cmp) (held_at place.entry) key.now }
 {
-    let Some(node) = place else {
-        return None;
-    };
-    match node {
-        Node::Leaf(pair) => {
+    match view_of(place) {
+        View::Empty => None,
+        View::Leaf(pair) => {
             if key.cmp(&pair.0).is_eq() {
                 Some(pair)
             } else {
                 None
             }
         }
-        Node::Inner(inner) => match &**inner {
-            Inner::Bucket(pairs) => find(pairs, key),
-            Inner::Branch {
-                bitmap,
-                children,
-                ..
-            } => {
-                let (child, below) = step::<K, V, H>(*bitmap, children, at);
-                get_at::<K, V, H>(child, key, below)
-            }
-        },
+        View::Bucket(pairs) => find(pairs, key),
+        View::Branch {
+            bitmap,
+            children,
+            ..
+        } => {
+            let (child, below) = step::<K, V, H>(bitmap, children, at);
+            get_at::<K, V, H>(child, key, below)
+        }
     }
 }

@@ -9,7 +9,7 @@ ghost use Rattle.trie.specs.Nodes.{owned};
 use crate::blend::Blend;
 use crate::digits::HashPrefix;
 use crate::get::get_at;
-use crate::node::{Inner, Node, Seen, shared_children, step, with_place};
+use crate::node::{Node, Seen, View, copied_with, step, view_of};
 use crate::put::put_at;
 use crate::ticks::Ticks;
 use cells::KeyHash;
@@ -96,22 +96,15 @@ pub fn lay_at<K: Ord + Clone + Drop, V: Drop, H: KeyHash<K>, B: Blend<V>>(
     ensures counted { ticks.new + at.depth ≤ ticks.old + (digit_count + 1) }
     ensures grows { ticks.old ≤ ticks.new }
 {
-    let Some(node) = place else {
-        return with_leaf::<K, V, H, B>(alloc, place, pair, is_first, blend, at, ticks);
-    };
-    let Node::Inner(inner) = node else {
-        return with_leaf::<K, V, H, B>(alloc, place, pair, is_first, blend, at, ticks);
-    };
-    let Inner::Branch {
+    let View::Branch {
         bitmap,
         children,
         ..
-    } = &**inner
+    } = view_of(place)
     else {
         return with_leaf::<K, V, H, B>(alloc, place, pair, is_first, blend, at, ticks);
     };
-    let (below, longer) = step::<K, V, H>(*bitmap, children, at);
+    let (below, longer) = step::<K, V, H>(bitmap, children, at);
     let child = lay_at::<K, V, H, B>(alloc, below, pair, is_first, blend, longer, ticks)?;
-    let children = shared_children(alloc, children)?;
-    with_place::<K, V, H>(alloc, *bitmap, children, Some(child), at, ticks)
+    copied_with::<K, V, H>(alloc, bitmap, children, Some(child), at, ticks)
 }

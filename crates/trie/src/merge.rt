@@ -1,17 +1,20 @@
 //! Putting two maps together.
-ghost use Rattle.std.specs.Prelude.{◌+◌, ◌≤◌, IfOk, length};
+ghost use Rattle.std.specs.Prelude.{◌+◌, ◌<◌, ◌≤◌, IfOk, None, get_or, length};
 ghost use Rattle.std.specs.Map.{keys_of};
 ghost use Rattle.trie.specs.Entries.{IsRising};
 ghost use Rattle.trie.specs.Holding.{held_at, pairs_of, seen_in};
-ghost use Rattle.trie.specs.Merging.{CanBlend, ClonesEqual, CountsBoth, HasBucketOfBoth, IsBucketOfBoth, IsNextOrEnd, Meet, Merges};
+ghost use Rattle.trie.specs.Merging.{AreBoth, CanBlend, CanLayBelow, ClonesEqual, CountsBoth, HasBucketOfBoth, IsBucketOfBoth, IsLaidBelow, IsNextOrEnd, Meet, Merges};
+ghost use Rattle.trie.specs.Dense.{IsDense, places_in};
+ghost use Rattle.trie.specs.Digits.{digit_count, place_count};
 ghost use Rattle.trie.specs.Nodes.{node_of};
 
 use crate::blend::Blend;
-use crate::digits::{HashPrefix, PLACES};
+use crate::digits::{Bitmap, HashPrefix, PLACES};
 use crate::lay::{blended_pair, lay_at};
 use crate::meeting::{Meeting, how_they_meet};
 use crate::node::{
-    Inner, Place, Seen, Unmade, branch_of, child_at, either_has, grown, make, room_for_both, shared,
+    Inner, Node, Place, Seen, Unmade, branch_of, child_at, either_has, grown, make, room_for,
+    shared,
 };
 use crate::ticks::Ticks;
 use cells::KeyHash;
@@ -108,6 +111,47 @@ fn bucket_of_both<K: Ord + Clone + Drop, V: Drop, H: KeyHash<K>, B: Blend<V>>(
     Ok(Some(make(alloc, Unmade::Inner(Inner::Bucket(pairs)), ticks)?))
 }
 
+/// A leaf's pair laid over another place of its prefix of this depth.
+fn leaf_over<K: Ord + Clone + Drop, V: Drop, H: KeyHash<K>, B: Blend<V>>(
+    alloc: Global,
+    place: Seen<'_, K, V>,
+    pair: &Arc<(K, V)>,
+    is_first: bool,
+    blend: &B,
+    depth: u32,
+    ticks: &mut Ticks,
+) -> Result<Place<K, V>, AllocError>
+    requires clones { ClonesEqual K.is_clone }
+    requires low { depth ≤ digit_count }
+    requires can { CanLayBelow H.hash_of K.cmp (B.asks blend.now) depth (seen_in place) pair.now.value is_first }
+    ensures map { IfOk result (λ p. IsLaidBelow H.hash_of K.cmp (B.blend_of blend.now) depth (seen_in place.entry) pair.now.value is_first (node_of p)) }
+    ensures counted { ticks.new + depth ≤ ticks.old + (digit_count + 1) }
+    ensures grows { ticks.old ≤ ticks.new }
+{
+    let at = HashPrefix::at(H::hash(&pair.0), depth);
+    let node = lay_at::<K, V, H, B>(alloc, place, pair, is_first, blend, at, ticks)?;
+    Ok(Some(node))
+}
+
+/// The children of a digit in two branches; None where neither has one.
+fn children_of_both<'a, K, V>(
+    first: Bitmap,
+    old: &'a Vec<Node<K, V>>,
+    second: Bitmap,
+    more: &'a Vec<Node<K, V>>,
+    digit: usize,
+) -> Option<(Seen<'a, K, V>, Seen<'a, K, V>)>
+    requires digit { digit < place_count }
+    requires first_dense { IsDense first (length old.now.items) }
+    requires second_dense { IsDense second (length more.now.items) }
+    ensures { AreBoth (get_or (places_in first old.now.items) digit None) (get_or (places_in second more.now.items) digit None) result }
+{
+    if !either_has(first, second, digit) {
+        return None;
+    }
+    Some((child_at(first, old, digit), child_at(second, more, digit)))
+}
+
 /// Two places of one prefix together. What only one of them has is shared, not made anew.
 pub fn merge_at<K: Ord + Clone + Drop, V: Drop, H: KeyHash<K>, B: Blend<V>>(
     alloc: Global,
@@ -130,11 +174,7 @@ pub fn merge_at<K: Ord + Clone + Drop, V: Drop, H: KeyHash<K>, B: Blend<V>>(
             place,
             pair,
             is_first,
-        } => {
-            let at = HashPrefix::at(H::hash(&pair.0), depth);
-            let node = lay_at::<K, V, H, B>(alloc, place, pair, is_first, blend, at, ticks)?;
-            Ok(Some(node))
-        }
+        } => { leaf_over::<K, V, H, B>(alloc, place, pair, is_first, blend, depth, ticks) }
         Meeting::Buckets(pairs, more) => {
             bucket_of_both::<K, V, H, B>(alloc, pairs, more, blend, ticks)
         }
@@ -144,13 +184,11 @@ pub fn merge_at<K: Ord + Clone + Drop, V: Drop, H: KeyHash<K>, B: Blend<V>>(
             second,
             more,
         } => {
-            let mut made = room_for_both(alloc, first, second)?;
+            let mut made = room_for(alloc, first | second)?;
             for digit in 0..PLACES {
-                if !either_has(first, second, digit) {
+                let Some((one, other)) = children_of_both(first, old, second, more, digit) else {
                     continue;
-                }
-                let one = child_at(first, old, digit);
-                let other = child_at(second, more, digit);
+                };
                 let child = merge_at::<K, V, H, B>(alloc, one, other, blend, depth + 1, ticks)?;
                 made = grown(made, digit, child)?;
             }

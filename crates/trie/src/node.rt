@@ -1,12 +1,12 @@
 //! Nodes: what stands below a prefix of digits.
 ghost use Rattle.std.specs.Prelude.{◌≡◌, ◌+◌, ◌-◌, ◌<◌, ◌≤◌, ◌^◌, [], false, None, Some, IfOk, IsTrue, OnErr, OnOk, length, set};
-ghost use Rattle.std.specs.Prelude.{◌⊎◌, bit_or, count_ones, get_or, slice_index_or, sum_by, vec_capacity};
+ghost use Rattle.std.specs.Prelude.{◌⊎◌, count_ones, get_or, slice_index_or, sum_by, vec_capacity};
 ghost use Rattle.std.specs.List.{flat_map};
 ghost use Rattle.trie.specs.Counts.{next_count};
 ghost use Rattle.trie.specs.Dense.{below_bit, bit_at, IsDense, places_in};
 ghost use Rattle.trie.specs.Digits.{digit, first_digits, place_count};
 ghost use Rattle.trie.specs.Holding.{ArePlaces, held_at, held_with, Holds, IsPlaced, IsWritten, len_in, node_len};
-ghost use Rattle.trie.specs.Holding.{made_of, prefix_of, seen_in, sole_node};
+ghost use Rattle.trie.specs.Holding.{made_of, prefix_of, seen_in, shown, sole_node};
 ghost use Rattle.trie.specs.Nodes.{Branch, node_of, owned, values};
 ghost use Rattle.trie.specs.Tree.{entries_in, IsPlace};
 
@@ -72,6 +72,55 @@ impl<P: Drop, I: Drop> Owner<P, I> {
             Owner::Leaf(pair) => Ok(Owner::Leaf(Arc::try_clone(pair)?)),
             Owner::Inner(inner) => Ok(Owner::Inner(Arc::try_clone(inner)?)),
         }
+    }
+}
+
+/// What stands in a place.
+pub enum View<'a, K, V> {
+    Empty,
+    /// The only pair of its prefix.
+    Leaf(&'a Arc<(K, V)>),
+    Bucket(&'a Vec<Arc<(K, V)>>),
+    Branch {
+        len: u64,
+        bitmap: Bitmap,
+        children: &'a Vec<Node<K, V>>,
+    },
+}
+
+impl<K, V> Clone for View<'_, K, V> {
+    ghost is_clone = { λ one copy. copy ≡ one };
+
+    ghost is_infallible = { λ _. Unit };
+
+    fn clone(&self) -> Result<Self, AllocError> {
+        Ok(*self)
+    }
+}
+
+impl<K, V> Copy for View<'_, K, V> {}
+
+/// What stands in a place, through its owners.
+pub fn view_of<K, V>(place: Seen<'_, K, V>) -> View<'_, K, V>
+    ensures { seen_in place.entry ≡ shown result }
+{
+    let Some(node) = place else {
+        return View::Empty;
+    };
+    match node {
+        Node::Leaf(pair) => View::Leaf(pair),
+        Node::Inner(inner) => match &**inner {
+            Inner::Bucket(pairs) => View::Bucket(pairs),
+            Inner::Branch {
+                len,
+                bitmap,
+                children,
+            } => View::Branch {
+                len: *len,
+                bitmap: *bitmap,
+                children,
+            },
+        },
     }
 }
 
@@ -239,16 +288,15 @@ pub fn written<K: Drop, V: Drop>(
     Ok(Children { bitmap, children })
 }
 
-/// No children yet, with room for those of two branches.
-pub fn room_for_both<K: Drop, V: Drop>(
+/// No children yet, with room for one of each digit of a bitmap.
+pub fn room_for<K: Drop, V: Drop>(
     alloc: Global,
-    first: Bitmap,
-    second: Bitmap,
+    bitmap: Bitmap,
 ) -> Result<Children<K, V>, AllocError>
     ensures none { IfOk result (λ made. (made.bitmap ≡ 0) × (made.children.items ≡ [])) }
-    ensures room { IfOk result (λ made. vec_capacity made.children ≡ count_ones (bit_or first second)) }
+    ensures room { IfOk result (λ made. vec_capacity made.children ≡ count_ones bitmap) }
 {
-    let children = Vec::with_capacity(alloc, (first | second).count_ones() as usize)?;
+    let children = Vec::with_capacity(alloc, bitmap.count_ones() as usize)?;
     Ok(Children {
         bitmap: 0,
         children,
@@ -318,6 +366,29 @@ pub fn with_place<K: Ord + Drop, V: Drop, H: KeyHash<K>>(
         children: new.children,
     };
     make(alloc, Unmade::Inner(branch), ticks)
+}
+
+/// The same of children that stay as they are: each gets one owner more.
+pub fn copied_with<K: Ord + Drop, V: Drop, H: KeyHash<K>>(
+    alloc: Global,
+    bitmap: Bitmap,
+    children: &Vec<Node<K, V>>,
+    place: Place<K, V>,
+    at: HashPrefix,
+    ticks: &mut Ticks,
+) -> Result<Node<K, V>, AllocError>
+    requires places { ArePlaces H.hash_of K.cmp (prefix_of at) (places_in bitmap children.now.items) }
+    requires dense { IsDense bitmap (length children.now.items) }
+    requires placed { IsPlace H.hash_of K.cmp (node_of place) (first_digits at.hash (at.depth + 1)) }
+    requires some { 0 < length (held_with at (places_in bitmap children.now.items) place) }
+    requires fits { length (held_with at (places_in bitmap children.now.items) place) < 2 ^ 64 }
+    ensures held { IfOk result (λ n.
+        Holds H.hash_of K.cmp (prefix_of at) (held_with at (places_in bitmap children.now.items) place) (Some (owned n))) }
+    ensures counted { ticks.new ≤ ticks.old + 1 }
+    ensures grows { ticks.old ≤ ticks.new }
+{
+    let children = shared_children(alloc, children)?;
+    with_place::<K, V, H>(alloc, bitmap, children, place, at, ticks)
 }
 
 /// How many entries there are below the children.

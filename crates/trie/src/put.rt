@@ -1,13 +1,15 @@
 //! Laying a pair over a map.
-ghost use Rattle.std.specs.Prelude.{◌≡◌, ◌+◌, ◌<◌, ◌≤◌, ◌^◌, IfOk, OnOk, length};
+ghost use Rattle.std.specs.Prelude.{◌≡◌, ◌+◌, ◌<◌, ◌≤◌, ◌^◌, IfOk, OnOk, Some, length};
 ghost use Rattle.trie.specs.Counts.{next_count};
 ghost use Rattle.trie.specs.Digits.{digit_count};
 ghost use Rattle.trie.specs.Holding.{HasPair, held_at, IsPlaced, IsReached, seen_in};
-ghost use Rattle.trie.specs.Nodes.{owned};
+ghost use Rattle.trie.specs.Nodes.{Leaf, owned};
 
 use crate::bucket::{with_entry, with_one};
 use crate::digits::{Bitmap, HashPrefix};
-use crate::node::{Inner, Node, Seen, Unmade, make, shared_children, step, with_place, written};
+use crate::node::{
+    Inner, Node, Seen, Unmade, View, make, shared_children, step, view_of, with_place, written,
+};
 use crate::ticks::Ticks;
 use cells::KeyHash;
 use std::alloc::{AllocError, Global};
@@ -63,42 +65,47 @@ fn how_far<K: Ord + Drop, V: Drop, H: KeyHash<K>>(
     requires placed { IsPlaced H.hash_of K.cmp at (seen_in place) }
     ensures { IfOk result (IsReached H.hash_of K.cmp at pair.now.value (seen_in place.entry)) }
 {
-    let Some(node) = place else {
-        return Ok(Reach::Here(Unmade::Leaf(Arc::try_clone(pair)?)));
-    };
-    match node {
-        Node::Leaf(old) => {
-            if pair.0.cmp(&old.0).is_eq() {
-                return Ok(Reach::Here(Unmade::Leaf(Arc::try_clone(pair)?)));
-            }
-            if at.is_whole() {
-                let pairs = with_one(alloc, old, Arc::try_clone(pair)?)?;
-                return Ok(Reach::Here(Unmade::Inner(Inner::Bucket(pairs))));
-            }
-            let digit = at.next_of(H::hash(&old.0));
-            let leaf = node.share()?;
-            let made = written(0, Vec::new(alloc), digit, Some(leaf))?;
-            Ok(Reach::Below {
-                bitmap: made.bitmap,
-                children: made.children,
-            })
+    match view_of(place) {
+        View::Empty => Ok(Reach::Here(Unmade::Leaf(Arc::try_clone(pair)?))),
+        View::Leaf(old) => from_leaf::<K, V, H>(alloc, old, pair, at),
+        View::Bucket(pairs) => {
+            let pairs = with_entry(alloc, pairs, Arc::try_clone(pair)?)?;
+            Ok(Reach::Here(Unmade::Inner(Inner::Bucket(pairs))))
         }
-        Node::Inner(inner) => match &**inner {
-            Inner::Bucket(pairs) => {
-                let pairs = with_entry(alloc, pairs, Arc::try_clone(pair)?)?;
-                Ok(Reach::Here(Unmade::Inner(Inner::Bucket(pairs))))
-            }
-            Inner::Branch {
-                bitmap,
-                children,
-                ..
-            } => {
-                let children = shared_children(alloc, children)?;
-                Ok(Reach::Below {
-                    bitmap: *bitmap,
-                    children,
-                })
-            }
-        },
+        View::Branch {
+            bitmap,
+            children,
+            ..
+        } => {
+            let children = shared_children(alloc, children)?;
+            Ok(Reach::Below { bitmap, children })
+        }
     }
+}
+
+/// How far a put goes down from a leaf.
+fn from_leaf<K: Ord + Drop, V: Drop, H: KeyHash<K>>(
+    alloc: Global,
+    old: &Arc<(K, V)>,
+    pair: &Arc<(K, V)>,
+    at: HashPrefix,
+) -> Result<Reach<K, V>, AllocError>
+    requires hashed { at.hash ≡ H.hash_of pair.now.value.0 }
+    requires placed { IsPlaced H.hash_of K.cmp at (Some (Leaf old.now.value)) }
+    ensures { IfOk result (IsReached H.hash_of K.cmp at pair.now.value (Some (Leaf old.now.value))) }
+{
+    if pair.0.cmp(&old.0).is_eq() {
+        return Ok(Reach::Here(Unmade::Leaf(Arc::try_clone(pair)?)));
+    }
+    if at.is_whole() {
+        let pairs = with_one(alloc, old, Arc::try_clone(pair)?)?;
+        return Ok(Reach::Here(Unmade::Inner(Inner::Bucket(pairs))));
+    }
+    let digit = at.next_of(H::hash(&old.0));
+    let leaf = Node::Leaf(Arc::try_clone(old)?);
+    let made = written(0, Vec::new(alloc), digit, Some(leaf))?;
+    Ok(Reach::Below {
+        bitmap: made.bitmap,
+        children: made.children,
+    })
 }

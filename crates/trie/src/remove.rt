@@ -1,14 +1,15 @@
 //! Taking a key out of a map.
 ghost use Rattle.std.specs.Prelude.{◌≡◌, ◌+◌, ◌<◌, ◌≤◌, ◌^◌, IfOk, None, Some, length};
-ghost use Rattle.trie.specs.Digits.{digit_count, digit_order};
+ghost use Rattle.trie.specs.Dense.{IsDense, places_in};
+ghost use Rattle.trie.specs.Digits.{digit_count, digit_order, first_digits};
 ghost use Rattle.trie.specs.Entries.{value_at};
-ghost use Rattle.trie.specs.Holding.{held_at, IsPlaced, IsRemoved, Misses, pairs_of, prefix_of, seen_in};
-ghost use Rattle.trie.specs.Nodes.{Bucket};
+ghost use Rattle.trie.specs.Holding.{ArePlaces, held_at, held_with, IsLeft, IsPlaced, IsRemoved, Misses, pairs_of, prefix_of, seen_in};
+ghost use Rattle.trie.specs.Nodes.{Bucket, node_of};
 ghost use Rattle.trie.specs.Tree.{IsPlace};
 
 use crate::bucket::without;
-use crate::digits::HashPrefix;
-use crate::node::{Inner, Node, Place, Seen, Unmade, make, shared_children, step, with_place};
+use crate::digits::{Bitmap, HashPrefix};
+use crate::node::{Inner, Node, Place, Seen, Unmade, View, copied_with, make, step, view_of};
 use crate::ticks::Ticks;
 use cells::KeyHash;
 use std::alloc::{AllocError, Global};
@@ -40,35 +41,50 @@ pub fn remove_at<K: Ord + Drop, V: Drop, H: KeyHash<K>>(
     ensures counted { ticks.new + at.depth ≤ ticks.old + (digit_count + 1) }
     ensures grows { ticks.old ≤ ticks.new }
 {
-    let Some(node) = place else {
-        return Ok(Removed::Missing);
-    };
-    match node {
-        Node::Leaf(pair) => {
+    match view_of(place) {
+        View::Empty => Ok(Removed::Missing),
+        View::Leaf(pair) => {
             if key.cmp(&pair.0).is_eq() {
                 Ok(Removed::Left(None))
             } else {
                 Ok(Removed::Missing)
             }
         }
-        Node::Inner(inner) => match &**inner {
-            Inner::Bucket(pairs) => remove_from_bucket::<K, V, H>(alloc, pairs, key, at, ticks),
-            Inner::Branch {
-                bitmap,
-                children,
-                ..
-            } => {
-                let (child, below) = step::<K, V, H>(*bitmap, children, at);
-                let Removed::Left(rest) = remove_at::<K, V, H>(alloc, child, key, below, ticks)?
-                else {
-                    return Ok(Removed::Missing);
-                };
-                let children = shared_children(alloc, children)?;
-                let node = with_place::<K, V, H>(alloc, *bitmap, children, rest, at, ticks)?;
-                Ok(Removed::Left(Some(node)))
-            }
-        },
+        View::Bucket(pairs) => remove_from_bucket::<K, V, H>(alloc, pairs, key, at, ticks),
+        View::Branch {
+            bitmap,
+            children,
+            ..
+        } => {
+            let (child, below) = step::<K, V, H>(bitmap, children, at);
+            let Removed::Left(rest) = remove_at::<K, V, H>(alloc, child, key, below, ticks)? else {
+                return Ok(Removed::Missing);
+            };
+            left_with::<K, V, H>(alloc, bitmap, children, rest, at, ticks)
+        }
     }
+}
+
+/// What is left of a branch: these children, with this place in the place after the prefix.
+fn left_with<K: Ord + Drop, V: Drop, H: KeyHash<K>>(
+    alloc: Global,
+    bitmap: Bitmap,
+    children: &Vec<Node<K, V>>,
+    rest: Place<K, V>,
+    at: HashPrefix,
+    ticks: &mut Ticks,
+) -> Result<Removed<K, V>, AllocError>
+    requires places { ArePlaces H.hash_of K.cmp (prefix_of at) (places_in bitmap children.now.items) }
+    requires dense { IsDense bitmap (length children.now.items) }
+    requires placed { IsPlace H.hash_of K.cmp (node_of rest) (first_digits at.hash (at.depth + 1)) }
+    requires some { 0 < length (held_with at (places_in bitmap children.now.items) rest) }
+    requires fits { length (held_with at (places_in bitmap children.now.items) rest) < 2 ^ 64 }
+    ensures left { IfOk result (IsLeft H.hash_of K.cmp at (held_with at (places_in bitmap children.now.items) rest)) }
+    ensures counted { ticks.new ≤ ticks.old + 1 }
+    ensures grows { ticks.old ≤ ticks.new }
+{
+    let node = copied_with::<K, V, H>(alloc, bitmap, children, rest, at, ticks)?;
+    Ok(Removed::Left(Some(node)))
 }
 
 /// The bucket without the key: a leaf, where one key is left.

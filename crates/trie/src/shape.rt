@@ -11,7 +11,7 @@ ghost use Rattle.trie.specs.Shapes.{prefix_text, shape_below, shape_of};
 ghost use Rattle.trie.specs.Tree.{entries_in, IsPlace};
 
 use crate::digits::{Bitmap, PLACES, digit_text};
-use crate::node::{Inner, Node, Seen, child_at};
+use crate::node::{Node, Seen, View, child_at, view_of};
 use cells::KeyHash;
 use std::alloc::{AllocError, Global};
 use std::fmt;
@@ -129,29 +129,25 @@ fn with_shape<K: Ord, V, H: KeyHash<K>>(
     ensures { IfOk result (λ v. v.items
         ≡ list.items ++ shape_below H.hash_of (keys_of (held_at place.entry)) prefix.now) }
 {
-    let Some(node) = place else {
-        return Ok(list);
-    };
-    match node {
-        Node::Leaf(_) => Ok(list),
-        Node::Inner(inner) => match &**inner {
-            Inner::Bucket(pairs) => with_number(alloc, list, prefix, pairs.len() as u64),
-            Inner::Branch {
-                len,
-                bitmap,
-                children,
-            } => {
-                let mut shape = with_number(alloc, list, prefix, *len)?;
-                for digit in 0..PLACES {
-                    if !is_shared(*bitmap, children, digit) {
-                        continue;
-                    }
-                    let (place, longer) = step::<K, V, H>(alloc, *bitmap, children, prefix, digit)?;
-                    shape = with_shape::<K, V, H>(alloc, shape, &longer, place)?;
+    match view_of(place) {
+        View::Empty => Ok(list),
+        View::Leaf(_) => Ok(list),
+        View::Bucket(pairs) => with_number(alloc, list, prefix, pairs.len() as u64),
+        View::Branch {
+            len,
+            bitmap,
+            children,
+        } => {
+            let mut shape = with_number(alloc, list, prefix, len)?;
+            for digit in 0..PLACES {
+                if !is_shared(bitmap, children, digit) {
+                    continue;
                 }
-                Ok(shape)
+                let (place, longer) = step::<K, V, H>(alloc, bitmap, children, prefix, digit)?;
+                shape = with_shape::<K, V, H>(alloc, shape, &longer, place)?;
             }
-        },
+            Ok(shape)
+        }
     }
 }
 

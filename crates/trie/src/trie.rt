@@ -8,12 +8,12 @@ ghost use Rattle.trie.specs.Digits.{digit_count, digit_order};
 ghost use Rattle.trie.specs.Entries.{value_at, with_pair, with_pairs, without_key};
 ghost use Rattle.trie.specs.Holding.{lent};
 ghost use Rattle.trie.specs.Maps.{RiseByHash};
-ghost use Rattle.trie.specs.Merging.{CanBlend, ClonesEqual, HasEntries, IsMerged};
-ghost use Rattle.trie.specs.Shapes.{node_count, shape_of};
+ghost use Rattle.trie.specs.Merging.{CanBlend, ClonesEqual, IsMerged};
+ghost use Rattle.trie.specs.Shapes.{shape_of};
 ghost use Rattle.trie.specs.Walks.{MayTakeAll, TakesAll};
 
 use crate::blend::Blend;
-use crate::build::{in_digit_order, no_lists, place_of, with_hashes, with_owners};
+use crate::build::{in_digit_order, place_of, with_hashes, with_owners};
 use crate::cutting::Cutting;
 use crate::digits::HashPrefix;
 use crate::entries::with_entries;
@@ -135,24 +135,14 @@ impl<K: Ord + Drop, V: Drop, H: KeyHash<K>> Trie<K, V, H> {
     }
 
     /// The map of these pairs as if they were put one after another into an empty map: of pairs of one
-    /// key the last stands. Each node is made once: one for each entry at most, and one for each prefix of
-    /// digits that two keys share; no fewer are counted, but keys of one hash share a node. A put for each pair makes those above it anew each time.
-    pub fn from_pairs(
-        alloc: Global,
-        pairs: Vec<(K, V)>,
-        ticks: &mut Ticks,
-    ) -> Result<Self, AllocError>
+    /// key the last stands. Each node is made once, and none is counted; a put for each pair makes those above it anew
+    /// each time.
+    pub fn from_pairs(alloc: Global, pairs: Vec<(K, V)>) -> Result<Self, AllocError>
         ensures map { IfOk result (λ t. t ≡ with_pairs (digit_order H.hash_of K.cmp) pairs.items []) }
-        ensures once { IfOk result (λ t. ticks.new ≤ ticks.old + (length t + length (shape_of H.hash_of (keys_of t)))) }
-        ensures whole { IfOk result (λ t. ticks.new < 2 ^ 64 - 1 → ticks.old + node_count H.hash_of (keys_of t) ≤ ticks.new) }
-        ensures counted { ticks.new ≤ ticks.old + (digit_count + 1) * length pairs.items }
-        ensures grows { ticks.old ≤ ticks.new }
     {
-        let sorted = in_digit_order::<K, V, H>(pairs)?;
+        let sorted = in_digit_order(with_hashes::<K, V, H>(alloc, pairs)?)?;
         let owned = with_owners(alloc, sorted)?;
-        let hashed = with_hashes::<K, V, H>(alloc, owned.as_slice())?;
-        let mut lists = no_lists(alloc)?;
-        let root = place_of::<K, V, H>(alloc, hashed.as_slice(), 0, &mut lists, ticks)?;
+        let root = place_of::<K, V, H>(alloc, owned.as_slice(), 0)?;
         Ok(Trie {
             root,
             hash: PhantomData,
@@ -227,7 +217,6 @@ impl<K: Ord + Clone + Drop, V: Drop, H: KeyHash<K>> Trie<K, V, H> {
         requires clones { ClonesEqual K.is_clone }
         requires can { CanBlend (digit_order H.hash_of K.cmp) (B.asks blend.now) self.now other.now }
         ensures map { IfOk result (λ t. IsMerged (digit_order H.hash_of K.cmp) (B.blend_of blend.now) self.now other.now t) }
-        ensures entries { IfOk result (λ t. HasEntries (digit_order H.hash_of K.cmp) (B.blend_of blend.now) self.now other.now t) }
         ensures counted { ticks.new ≤ ticks.old + (digit_count + 1) * min (length self.now) (length other.now) }
         ensures grows { ticks.old ≤ ticks.new }
     {

@@ -108,15 +108,11 @@ struct Visits<'a, G> {
 impl<'a, G: Gate> Task for Visits<'a, G> {
     type Made = u64;
 
-    type Given = u64;
-
     ghost use Rattle.std.specs.Prelude.{⊤};
 
     ghost count = { λ task. task.count };
 
     ghost makes = { λ _ _ _. ⊤ };
-
-    ghost gives = { λ _ _ _. ⊤ };
 
     fn begin(&self, _alloc: Global) -> Result<u64, AllocError> {
         Ok(0)
@@ -131,10 +127,6 @@ impl<'a, G: Gate> Task for Visits<'a, G> {
         *made = made.saturating_add(place).saturating_add(1);
         Ok(())
     }
-
-    fn end(&self, _alloc: Global, made: u64) -> Result<u64, AllocError> {
-        Ok(made)
-    }
 }
 
 /// The sum of the places that workers took, and how many workers there were.
@@ -146,8 +138,7 @@ fn visited<G: Gate, R: Threads + Wait>(
     workers: u64,
     refused_at: u64,
 ) -> Result<(u64, usize), Refused>
-    requires count { count ≤ piece_limit }
-    requires workers { (1 ≤ workers) × (workers ≤ seat_limit) }
+    requires { count ≤ piece_limit }
 {
     let visits = Visits {
         count,

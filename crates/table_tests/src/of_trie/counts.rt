@@ -1,4 +1,4 @@
-//! How many nodes a call makes.
+//! How many nodes a call makes, and maps made at once.
 
 use super::integers::{One, got, is_shown, put};
 use cells::{Cell, KeyHash, Plain};
@@ -88,37 +88,32 @@ fn cells(alloc: Global, pairs: &[(i64, i64)]) -> Result<Vec<(Cell, Cell)>, Alloc
     Ok(cells)
 }
 
-/// Whether the map of the pairs, made at once, is shown so, and so many nodes are made for it.
+/// Whether the map of the pairs, made at once, is shown so.
 fn is_made<H: KeyHash<Cell>>(
     alloc: Global,
     pairs: &[(i64, i64)],
     entries: &str,
-    made: u64,
 ) -> Result<bool, AllocError> {
-    let mut ticks = Ticks::new();
-    let map: Trie<Cell, Cell, H> = Trie::from_pairs(alloc, cells(alloc, pairs)?, &mut ticks)?;
-    if ticks.made() != made {
-        return Ok(false);
-    }
+    let map: Trie<Cell, Cell, H> = Trie::from_pairs(alloc, cells(alloc, pairs)?)?;
     is_shown(alloc, &map, entries)
 }
 
-/// Pairs, and the map of them where each integer is its own hash: its entries and its nodes. Of pairs of one key the last
-/// makes one leaf; 1 and 33 share their first digit.
-const PAIRS: [(&[(i64, i64)], &str, u64); 4] = [
-    (&[], "", 0),
-    (&[(5, 1), (5, 2), (5, 3)], "5 3;", 1),
-    (&[(33, 1), (1, 2), (2, 3), (33, 4)], "1 2;33 4;2 3;", 5),
-    (&[(FAR, 1), (0, 2)], "0 2;1152921504606846976 1;", 15),
+/// Pairs, and the map of them where each integer is its own hash. Of pairs of one key the last stands; 1 and 33 share
+/// their first digit.
+const PAIRS: [(&[(i64, i64)], &str); 4] = [
+    (&[], ""),
+    (&[(5, 1), (5, 2), (5, 3)], "5 3;"),
+    (&[(33, 1), (1, 2), (2, 3), (33, 4)], "1 2;33 4;2 3;"),
+    (&[(FAR, 1), (0, 2)], "0 2;1152921504606846976 1;"),
 ];
 
 const ONE_HASH: [(i64, i64); 4] = [(5, 1), (3, 2), (4, 3), (3, 4)];
 
 #[test]
 fn maps_made_at_once(rt: HostRuntime) -> Result<(), Fail> {
-    for (pairs, entries, nodes) in &PAIRS {
-        assert!(rt; is_made::<Plain>(rt.alloc(), pairs, entries, *nodes)?);
+    for (pairs, entries) in &PAIRS {
+        assert!(rt; is_made::<Plain>(rt.alloc(), pairs, entries)?);
     }
-    assert!(rt; is_made::<One>(rt.alloc(), &ONE_HASH, "3 4;4 3;5 1;", 14)?);
+    assert!(rt; is_made::<One>(rt.alloc(), &ONE_HASH, "3 4;4 3;5 1;")?);
     Ok(())
 }

@@ -1,6 +1,4 @@
 //! The rows of a small table, grouped by workers.
-ghost use Rattle.std.specs.Prelude.{◌≤◌};
-ghost use Rattle.report.specs.Limits.{worker_limit};
 
 use crate::gates::{Hold, Stay, Watch};
 use board::{Keeper, Snapshot};
@@ -47,9 +45,7 @@ fn is_counted<G: Gate, R: Threads + Wait>(
     workers: u64,
     gate: &G,
     wanted: &str,
-) -> Result<bool, Refused>
-    requires { (1 ≤ workers) × (workers ≤ worker_limit) }
-{
+) -> Result<bool, Refused> {
     let query = read(alloc, QUERY)?;
     let plan = check(alloc, query, snapshot.schema())?;
     let cutting = Cutting { depth, small: 0 };

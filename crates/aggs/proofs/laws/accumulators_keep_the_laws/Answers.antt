@@ -1,4 +1,4 @@
-use Rattle.aggs.specs.Accs.{acc_any_order, acc_finishes, acc_joins, acc_kind, acc_room, acc_takes, acc_unit_first, acc_unit_second}
+use Rattle.aggs.specs.Accs.{acc_any_order, acc_finishes, acc_joins, acc_kind, acc_room, acc_unit_first, acc_unit_second}
 use Rattle.aggs.proofs.laws.accumulators_keep_the_laws.Goals as goal
 
 pub returns-clause-kind : goal.returns-clause-kind
@@ -20,7 +20,4 @@ pub returns-clause-finishes : goal.returns-clause-finishes
 returns-clause-finishes g c = λ k xs. acc_finishes _ k xs
 
 pub returns-clause-room : goal.returns-clause-room
-returns-clause-room g c = λ k xs ys may. acc_room _ k xs ys may
-
-pub returns-clause-takes : goal.returns-clause-takes
-returns-clause-takes g c = λ k xs x fit. acc_takes _ k xs x fit
+returns-clause-room g c = λ k xs ys few. acc_room _ k xs ys few

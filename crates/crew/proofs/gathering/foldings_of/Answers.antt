@@ -2,11 +2,6 @@ use denote.Param.Send.{sendable}
 use Rattle.crew.proofs.CrossingLemmas.{folding_send, gathering_sync}
 use Rattle.crew.proofs.gathering.foldings_of.Goals as goal
 
-pub share_out-requires-send-K-Given : goal.share_out-requires-send-K-Given
-share_out-requires-send-K-Given g c κs within =
-    let folding = folding_send _ g.H.KeyHash-1 c.type_bounds.send-H c.type_bounds.sync-H in
-    search (folding, sendable) depth 20
-
 pub share_out-requires-send-K-Made : goal.share_out-requires-send-K-Made
 share_out-requires-send-K-Made g c κs within =
     let folding = folding_send _ g.H.KeyHash-1 c.type_bounds.send-H c.type_bounds.sync-H in

@@ -18,7 +18,7 @@ join-requires g c =
     let left = into_iter_items c.next.new.self in
     let reached = ranges_taken ranged c.in-Some.folding c.in-Some-folding.folding c.loop-folding.all (into_iter_items c.loop-folding.folding-iterator) left
     c.in-Some.ensures.steps.0 c.in-Some-folding.is c.loop-folding.invariant in
-    ranges_meet ranged c.in-Some-folding.folding c.loop-folding.all left c.any_order.ensures.fold c.rows_may_fold.ensures reached
+    ranges_meet ranged c.in-Some-folding.folding c.loop-folding.all left c.rows_are_few.ensures reached
 
 pub loop-folding-preserved : goal.loop-folding-preserved
 loop-folding-preserved g c =
@@ -33,7 +33,7 @@ into_partial-requires g c =
     let ranged = c.args.ranging.now in
     let iterator = c.loop-folding.folding-iterator in
     let none : into_iter_items iterator ≡ [] = nil_from_length (into_iter_items iterator) (omega (arith, iterator.rest.ok, c.in-None.ensures.steps.0)) in
-    ranges_may_end ranged c.loop-folding.all c.any_order.ensures.fold c.rows_may_fold.ensures
+    ranges_may_end ranged c.loop-folding.all c.rows_are_few.ensures
     (subst (λ left. RangesReached ranged left c.loop-folding.all) none c.loop-folding.invariant)
 
 pub returns : goal.returns

@@ -11,11 +11,11 @@ use Rattle.crew.proofs.sharing.share_out.Goals as goal
 pub close-requires : goal.close-requires
 close-requires g c =
     let deal : DealValue = c.in_ok-deal.deal in
-    let gives = g.K.Task.gives c.args.task.now in
+    let makes = g.K.Task.makes c.args.task.now in
     let back = c.in_ok-seats.field-0 in
     record {
-      seats = seats_ours deal gives back.seats.items back.given.items c.in_ok-seats.ensures.back;
-      all = numbers deal gives back.seats.items back.given.items c.in_ok-seats.ensures.back;
+      seats = seats_ours deal makes back.seats.items back.given.items c.in_ok-seats.ensures.back;
+      all = numbers deal makes back.seats.items back.given.items c.in_ok-seats.ensures.back;
     }
 
 pub all_given-requires : goal.all_given-requires
@@ -30,14 +30,14 @@ pub returns-clause-shared : goal.returns-clause-shared
 returns-clause-shared g c =
     let deal : DealValue = c.in_ok-deal.deal in
     let made = c.in_ok-deal.ensures.deal in
-    let gives = g.K.Task.gives c.args.task.now in
+    let makes = g.K.Task.makes c.args.task.now in
     let back = c.in_ok-seats.field-0 in
     let seats = made.1 ∙ c.min.ensures in
     let some_place = c.if-count-eq0.false in
-    let some_worker = c.requires.workers.0 in
+    let some_worker = c.workers_of.ensures in
     let some_seat : 1 ≤ deal.seats = omega arith in
     let rise = c.draws_rise.ensures in
     IfOk-weaker c.all_given.result _ _
-    (λ v given. subst (λ n. AreShared gives n v.items) made.0
-    (shared deal gives rise.rising rise.below back.seats.items back.given.items v.items c.close.result.drawn c.in_ok-seats.ensures.back given some_seat c.close.ensures.all c.close.ensures.together))
+    (λ v given. subst (λ n. AreShared makes n v.items) made.0
+    (shared deal makes rise.rising rise.below back.seats.items back.given.items v.items c.close.result.drawn c.in_ok-seats.ensures.back given some_seat c.close.ensures.all c.close.ensures.together))
     c.all_given.ensures.given

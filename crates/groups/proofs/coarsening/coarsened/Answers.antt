@@ -1,14 +1,9 @@
 use Rattle.std.proofs.Common.{List, ap, arith, length}
-use Rattle.groups.proofs.CoarseningLemmas.{coarsening_all, coarsening_fit, coarsening_more, coarsening_wide}
+use Rattle.groups.proofs.CoarseningLemmas.{coarsening_all, coarsening_fit, coarsening_more}
 use Rattle.groups.proofs.coarsening.coarsened.Goals as goal
 
-pub take_group-requires-clause-places : goal.take_group-requires-clause-places
-take_group-requires-clause-places g c =
-    coarsening_wide c.args.places.now c.args.finer.now c.groups-group-items.result.now c.groups-group-items.ensures.all c.loop-group.group-index c.group-item.result
-    c.loop-group-test.true c.group-item.is c.requires
-
-pub take_group-requires-clause-fit : goal.take_group-requires-clause-fit
-take_group-requires-clause-fit g c =
+pub take_group-requires : goal.take_group-requires
+take_group-requires g c =
     coarsening_fit c.args.places.now c.args.finer.now c.groups-group-items.result.now c.groups-group-items.ensures.all c.loop-group.group-index c.group-item.result
     c.loop-group-test.true c.group-item.is c.loop-group.bag c.requires c.loop-group.invariant
 

@@ -4,12 +4,9 @@ use Rattle.std.specs.Prelude.{IfSome}
 use Rattle.groups.specs.Bags.{Covers}
 use Rattle.groups.specs.Columnar.{TalliesRows, groups_from}
 use Rattle.groups.specs.Numbered.{AreNumbered, picked_rows}
-use Rattle.groups.proofs.ColumnarLemmas.{covers_rows, each_long, may_tally_each, number_all, tallies_long}
+use Rattle.groups.proofs.ColumnarLemmas.{covers_rows, each_long, number_all, tallies_long}
 use Rattle.groups.proofs.NumberedLemmas.{rows_counted}
 use Rattle.groups.proofs.columnar.bag_of.Goals as goal
-
-pub tallies-requires-clause-may : goal.tallies-requires-clause-may
-tallies-requires-clause-may g c = may_tally_each c.args.aggregations.now c.args.columns.now c.args.rows.now c.requires
 
 pub tallies-requires-clause-all : goal.tallies-requires-clause-all
 tallies-requires-clause-all g c =

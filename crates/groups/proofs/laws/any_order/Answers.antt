@@ -1,4 +1,3 @@
-use Rattle.groups.proofs.FoldsLemmas.{may_fold_any_order}
 use Rattle.groups.proofs.JoinLemmas.{stands_any_order}
 use Rattle.groups.proofs.ReportLemmas.{report_any_order}
 use Rattle.groups.proofs.laws.any_order.Goals as goal
@@ -8,6 +7,3 @@ returns-clause-report g c = report_any_order
 
 pub returns-clause-stands : goal.returns-clause-stands
 returns-clause-stands g c = stands_any_order g.H.KeyHash-2.hash_of
-
-pub returns-clause-fold : goal.returns-clause-fold
-returns-clause-fold g c = may_fold_any_order

@@ -1,4 +1,4 @@
-use Rattle.std.proofs.Common.{[], ap, arith, subst, ◌∙◌}
+use Rattle.std.proofs.Common.{[], ap, arith, ◌∙◌}
 use Rattle.cells.specs.TupleOrder.{tuple_cmp}
 use Rattle.trie.specs.Digits.{digit_order}
 use Rattle.trie.specs.Entries.{with_pairs}

@@ -2,7 +2,7 @@ use Rattle.std.proofs.Common.{◌<◌, arith, get_or, refl, sym}
 use Rattle.std.proofs.lemmas.List.{length-map}
 use Rattle.aggs.specs.declared.acc.Kind.TheVariants.{CountRows}
 use Rattle.cells.specs.declared.cell.Cell.TheVariants.{Null}
-use Rattle.groups.proofs.TallyingLemmas.{counted_any, fits_cell, may_count, null_there, nulls, tallied_all, tallied_next}
+use Rattle.groups.proofs.TallyingLemmas.{counted_any, fits_cell, null_there, nulls, tallied_all, tallied_next}
 use Rattle.groups.proofs.TuplesLemmas.{all_at}
 use Rattle.groups.proofs.tallying.counted.Goals as goal
 
@@ -11,12 +11,12 @@ index_mut-requires g c =
     let there : get_or c.args.numbers.now c.loop-number.number-index 0 < c.args.count = all_at (λ n. n < c.args.count) c.args.numbers.now c.loop-number.number-index 0 c.requires.numbers c.loop-number-test.true in
     omega (arith, there, c.loop-number.invariant.counted, c.loop-number.accs.ok.0)
 
-pub step-requires-clause-room : goal.step-requires-clause-room
-step-requires-clause-room g c =
+pub step-requires : goal.step-requires
+step-requires g c =
     let i = c.loop-number.number-index in
     fits_cell CountRows c.args.count c.args.numbers.now (nulls c.args.numbers.now) c.loop-number.accs.items i (get_or c.args.numbers.now i 0) Null c.index_mut.result.now
     (omega (arith, c.loop-number-test.true, length-map c.args.numbers.now (λ n. Null))) (null_there c.args.numbers.now i)
-    (all_at (λ n. n < c.args.count) c.args.numbers.now i 0 c.requires.numbers c.loop-number-test.true) c.index_mut.ensures.value (may_count c.args.numbers.now c.requires.few) c.loop-number.invariant
+    (all_at (λ n. n < c.args.count) c.args.numbers.now i 0 c.requires.numbers c.loop-number-test.true) c.index_mut.ensures.value (omega (arith, c.requires.few, length-map c.args.numbers.now (λ n. Null))) c.loop-number.invariant
 
 pub loop-number-preserved : goal.loop-number-preserved
 loop-number-preserved g c =

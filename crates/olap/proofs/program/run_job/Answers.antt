@@ -2,7 +2,8 @@ use Rattle.std.proofs.Common.{map, ℕ, List, Option}
 use Rattle.std.specs.Io.Buffered.{writer_contents}
 use Rattle.script.specs.Givens.{Givens}
 use Rattle.script.specs.Hows.{hash_of_choice}
-use Rattle.olap.specs.Programs.{IsOutputOfJob, IsWhole}
+use Rattle.script.specs.Viewers.{IsWritten}
+use Rattle.olap.specs.Programs.{IsOutputOfJob}
 use Rattle.olap.proofs.ProgramLemmas.{begins_as, output_of_job, writes_as}
 use Rattle.olap.proofs.program.run_job.Goals as goal
 
@@ -12,10 +13,10 @@ returns-in-Ok-clause-written g c = λ ok.
     let script : List ℕ = c.in-Ok.input.script.items in
     let parts : List (List ℕ) = map (λ p. p.items) c.in-Ok.input.parts.items in
     let run : Givens = record { limit = c.args.job.now.how.rows; parts = parts } in
-    writes_as (IsWhole (hash_of_choice c.args.job.now.hash) run c.args.job.now.live script) (IsOutputOfJob file c.args.job.now)
+    writes_as (IsWritten (hash_of_choice c.args.job.now.hash) run c.args.job.now.live script) (IsOutputOfJob file c.args.job.now)
     (writer_contents g.W.Write.contents c.args.out) (writer_contents g.W.Write.contents c.run_input.result.1)
     (output_of_job file c.args.job.now script parts c.in-Ok.ensures.script c.in-Ok.ensures.parts)
-    (rw (← c.as_ref.ensures.value) (c.run_input.ensures.written ok))
+    (rw (← c.viewing.ensures) (c.run_input.ensures.written ok))
 
 pub returns-in-Ok-clause-beginning : goal.returns-in-Ok-clause-beginning
 returns-in-Ok-clause-beginning g c = λ early.
@@ -23,7 +24,7 @@ returns-in-Ok-clause-beginning g c = λ early.
     let script : List ℕ = c.in-Ok.input.script.items in
     let parts : List (List ℕ) = map (λ p. p.items) c.in-Ok.input.parts.items in
     let run : Givens = record { limit = c.args.job.now.how.rows; parts = parts } in
-    begins_as (IsWhole (hash_of_choice c.args.job.now.hash) run c.args.job.now.live script) (IsOutputOfJob file c.args.job.now)
+    begins_as (IsWritten (hash_of_choice c.args.job.now.hash) run c.args.job.now.live script) (IsOutputOfJob file c.args.job.now)
     (writer_contents g.W.Write.contents c.args.out) (writer_contents g.W.Write.contents c.run_input.result.1)
     (output_of_job file c.args.job.now script parts c.in-Ok.ensures.script c.in-Ok.ensures.parts)
-    (rw (← c.as_ref.ensures.value) c.run_input.ensures.beginning)
+    (rw (← c.viewing.ensures) c.run_input.ensures.beginning)

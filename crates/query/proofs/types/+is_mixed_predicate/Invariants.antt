@@ -7,4 +7,4 @@ use Rattle.query.proofs.types.+is_mixed_predicate.Given as goal
 
 abbrev pub invariant-loop-inner : goal.invariant-loop-inner
 invariant-loop-inner g l =
-    list_any (is_mixed (g.T.Types.is_text l.types)) (tests_of l.predicate) ≡ list_any (is_mixed (g.T.Types.is_text l.types)) (tests_of_each (predicates_of (drop l.inner-index l.inner-items)))
+    list_any (is_mixed (g.F.Finder.finds l.texts)) (tests_of l.predicate) ≡ list_any (is_mixed (g.F.Finder.finds l.texts)) (tests_of_each (predicates_of (drop l.inner-index l.inner-items)))

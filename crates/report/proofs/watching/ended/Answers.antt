@@ -4,8 +4,8 @@ use Rattle.std.specs.Vec.Iter.{into_iter_items}
 use Rattle.report.specs.Watching.{up_to}
 use Rattle.report.proofs.watching.ended.Goals as goal
 
-pub returns-clause-shots : goal.returns-clause-shots
-returns-clause-shots c =
+pub returns : goal.returns
+returns c =
     let iterator = c.loop-shot.shot-iterator in
     let none : into_iter_items iterator ≡ [] = nil_from_length (into_iter_items iterator) (omega (arith, iterator.rest.ok, c.in-None.ensures.steps.0)) in
     let made : c.loop-shot.all.items ≡ map (up_to c.args.last) c.args.shots.items =

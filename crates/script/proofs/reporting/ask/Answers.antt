@@ -4,8 +4,8 @@ use Rattle.script.specs.Output.{heading}
 use Rattle.script.specs.Says.{answer_of}
 use Rattle.script.proofs.reporting.ask.Goals as goal
 
-pub returns-clause-block : goal.returns-clause-block
-returns-clause-block g c = record {
+pub returns : goal.returns
+returns g c = record {
   is = λ rs left same.
       let named : c.in_ok-heading.heading.items ≡ heading c.args.number (editions.edition c.args.keeper.now) =
       c.in_ok-heading.ensures ∙ ap (heading c.args.number) (c.edition.ensures ∙ c.in-Ok.ensures.edition) in

@@ -4,9 +4,9 @@ use Rattle.std.proofs.lemmas.Result.{err_from_is_err_and}
 use Rattle.script.specs.Givens.{givens}
 use Rattle.script.specs.Limits.{script_limit}
 use Rattle.script.specs.Viewers.{asked_of}
-use Rattle.script.proofs.EndingsLemmas.{line_never_place, never_place, only_worker, same_error}
-use Rattle.script.proofs.ProgressLemmas.{asked_for_workers, asks_for_workers, delivers_early, delivers_refused, last_first, last_first-more, length-lines, narrow_left, narrow_lines, publishable, reached_beginning, reached_end, reached_late, reached_more, reached_so_far, reached_start, stands_end, told}
-use Rattle.script.proofs.TailsLemmas.{begins_tailed, delivers_two, delivers_unstarted, first_attended, has_want, if_err_of, may_attend, may_want}
+use Rattle.script.proofs.EndingsLemmas.{ends_for, ends_unstarted, ends_unwritten}
+use Rattle.script.proofs.ProgressLemmas.{asked_for_workers, asks, last_first, last_first-more, length-lines, narrow_left, narrow_lines, publishable, reached_beginning, reached_end, reached_late, reached_more, reached_so_far, reached_start, stands_end, told}
+use Rattle.script.proofs.TailsLemmas.{begins_tailed, delivers_two, first_attended, has_want, if_err_of, may_attend, may_want}
 use Rattle.script.proofs.running.run_beside.Goals as goal
 
 pub loop-bytes-init : goal.loop-bytes-init
@@ -15,7 +15,7 @@ loop-bytes-init g c =
     record {
       reached = rw (all, c.requires.fresh.0, c.requires.fresh.1)
           (reached_start _ _ _ _ (omega (arith, length-lines c.args.script.now, c.requires.short)) (narrow_lines c.args.script.now script_limit c.requires.short));
-      attended = first_attended (asked_of c.args.setup.now.asked) c.args.desk.now c.args.gallery.now.stage c.args.gallery.now.audience c.requires.fresh.0 c.requires.nobody.0 c.requires.nobody.1;
+      attended = first_attended (asked_of c.args.setup.now.viewing) c.args.desk.now c.args.gallery.now.stage c.args.gallery.now.audience c.requires.fresh.0 c.requires.nobody.0 c.requires.nobody.1;
       sound = refl;
     }
 
@@ -31,34 +31,27 @@ execute-requires-clause-short g c = λ κs outlives.
 pub returns-in_err-block : goal.returns-in_err-block
 returns-in_err-block g c =
     let p = err_from_is_err_and c.from_residual.result c.from_residual.ensures.1 in
-    record {
-      delivered = delivers_early g.O.Out.taken g.O.Out.faults _ _ _ _ _ c.from_residual.result
-          (begins_tailed c.each_text_has_an_answer.ensures g.H.KeyHash-1.hash_of (givens c.args.setup.now.how.now.rows c.args.setup.now.parts.now) (asked_of c.args.setup.now.asked) (lines c.args.script.now) _ _
-          (reached_so_far _ _ g.H.KeyHash-1.hash_of (givens c.args.setup.now.how.now.rows c.args.setup.now.parts.now) (last_first c.loop-bytes.yielded) c.loop-bytes.bytes-iterator (lines c.args.script.now) c.loop-bytes.desk c.loop-bytes.backlog c.loop-bytes.number
-          c.loop-bytes.invariant.reached c.each_text_has_an_answer.ensures))
-          c.in_err-block.ensures.ended (p.1 ∙ ap Err p.2);
-      worker = λ late. may_want (givens c.args.setup.now.how.now.rows c.args.setup.now.parts.now) (asked_of c.args.setup.now.asked) (lines c.args.script.now)
-          (asks_for_workers _ _ g.H.KeyHash-1.hash_of (givens c.args.setup.now.how.now.rows c.args.setup.now.parts.now) (last_first c.loop-bytes.yielded) c.loop-bytes.bytes-iterator (lines c.args.script.now) c.loop-bytes.desk c.loop-bytes.backlog c.loop-bytes.number
-          c.loop-bytes.invariant.reached c.in-Some.bytes.now c.next.new.self _ c.from_residual.result c.in-Some.ensures.steps c.in_err-block.ensures.ended (p.1 ∙ ap Err p.2) late);
-      place = λ late. absurd (line_never_place _ _ c.from_residual.result c.in_err-block.ensures.ended (p.1 ∙ ap Err p.2) late);
-    }
+    ends_for g.O.Out.taken g.O.Out.faults _ _ _ _ c.from_residual.result p.1
+    (begins_tailed c.each_text_has_an_answer.ensures g.H.KeyHash-1.hash_of (givens c.args.setup.now.how.now.rows c.args.setup.now.parts.now) (asked_of c.args.setup.now.viewing) (lines c.args.script.now) _ _
+    (reached_so_far _ _ g.H.KeyHash-1.hash_of (givens c.args.setup.now.how.now.rows c.args.setup.now.parts.now) (last_first c.loop-bytes.yielded) c.loop-bytes.bytes-iterator (lines c.args.script.now) c.loop-bytes.desk c.loop-bytes.backlog c.loop-bytes.number
+    c.loop-bytes.invariant.reached c.each_text_has_an_answer.ensures))
+    _ _ _ p.2
+    (λ late. may_want (givens c.args.setup.now.how.now.rows c.args.setup.now.parts.now) (asked_of c.args.setup.now.viewing) (lines c.args.script.now)
+    (asks _ _ g.H.KeyHash-1.hash_of (givens c.args.setup.now.how.now.rows c.args.setup.now.parts.now) (last_first c.loop-bytes.yielded) c.loop-bytes.bytes-iterator (lines c.args.script.now) c.loop-bytes.desk c.loop-bytes.backlog c.loop-bytes.number
+    c.loop-bytes.invariant.reached c.in-Some.bytes.now c.next.new.self c.in-Some.ensures.steps (c.in_err-block.ensures.worker (ap Err late))))
 
 pub attend-requires-clause-attend : goal.attend-requires-clause-attend
 attend-requires-clause-attend g c = λ κs outlives.
-    may_attend (asked_of c.args.setup.now.asked) c.loop-bytes.desk c.execute.new.desk c.loop-bytes.gallery.stage c.loop-bytes.gallery.audience c.in_ok-block.ensures.step.stays c.loop-bytes.invariant.attended
+    may_attend (asked_of c.args.setup.now.viewing) c.loop-bytes.desk c.execute.new.desk c.loop-bytes.gallery.stage c.loop-bytes.gallery.audience c.in_ok-block.ensures.step.stays c.loop-bytes.invariant.attended
 
 pub returns-in_err-attend : goal.returns-in_err-attend
 returns-in_err-attend g c =
     let p = err_from_is_err_and c.from_residual-in_err-attend.result c.from_residual-in_err-attend.ensures.1 in
-    record {
-      delivered = delivers_unstarted g.O.Out.taken g.O.Out.faults _ _ _ _ c.from_residual-in_err-attend.result
-          (begins_tailed c.each_text_has_an_answer.ensures g.H.KeyHash-1.hash_of (givens c.args.setup.now.how.now.rows c.args.setup.now.parts.now) (asked_of c.args.setup.now.asked) (lines c.args.script.now) _ _
-          (reached_so_far _ _ g.H.KeyHash-1.hash_of (givens c.args.setup.now.how.now.rows c.args.setup.now.parts.now) (last_first c.loop-bytes.yielded) c.loop-bytes.bytes-iterator (lines c.args.script.now) c.loop-bytes.desk c.loop-bytes.backlog c.loop-bytes.number
-          c.loop-bytes.invariant.reached c.each_text_has_an_answer.ensures))
-          c.in_err-attend.ensures.ended (p.1 ∙ ap Err p.2);
-      worker = λ late. has_want (givens c.args.setup.now.how.now.rows c.args.setup.now.parts.now) (asked_of c.args.setup.now.asked) (lines c.args.script.now) c.in_err-attend.ensures.asked;
-      place = λ late. c.in_err-attend.ensures.asked;
-    }
+    ends_unstarted g.O.Out.taken g.O.Out.faults _ _ _ _ c.from_residual-in_err-attend.result p.1
+    (begins_tailed c.each_text_has_an_answer.ensures g.H.KeyHash-1.hash_of (givens c.args.setup.now.how.now.rows c.args.setup.now.parts.now) (asked_of c.args.setup.now.viewing) (lines c.args.script.now) _ _
+    (reached_so_far _ _ g.H.KeyHash-1.hash_of (givens c.args.setup.now.how.now.rows c.args.setup.now.parts.now) (last_first c.loop-bytes.yielded) c.loop-bytes.bytes-iterator (lines c.args.script.now) c.loop-bytes.desk c.loop-bytes.backlog c.loop-bytes.number
+    c.loop-bytes.invariant.reached c.each_text_has_an_answer.ensures))
+    _ _ _ p.2 (has_want (givens c.args.setup.now.how.now.rows c.args.setup.now.parts.now) (asked_of c.args.setup.now.viewing) (lines c.args.script.now) c.in_err-attend.ensures.asked) c.in_err-attend.ensures.asked
 
 pub loop-bytes-preserved : goal.loop-bytes-preserved
 loop-bytes-preserved g c =
@@ -78,35 +71,26 @@ returns-in_err-add g c =
     let p = err_from_is_err_and c.from_residual-in_err-add.result c.from_residual-in_err-add.ensures.1 in
     let next = told _ _ g.H.KeyHash-1.hash_of (givens c.args.setup.now.how.now.rows c.args.setup.now.parts.now) (last_first c.loop-bytes.yielded) c.loop-bytes.bytes-iterator (lines c.args.script.now) c.loop-bytes.desk c.loop-bytes.backlog c.loop-bytes.number
     c.loop-bytes.invariant.reached c.in-Some.bytes.now c.next.new.self c.execute.new.desk c.in_ok-block.block c.in-Some.ensures.steps c.in_ok-block.ensures.step in
-    record {
-      delivered = delivers_refused g.O.Out.taken g.O.Out.faults _ _ _ _ _ c.from_residual-in_err-add.result
-          (begins_tailed c.each_text_has_an_answer.ensures g.H.KeyHash-1.hash_of (givens c.args.setup.now.how.now.rows c.args.setup.now.parts.now) (asked_of c.args.setup.now.asked) (lines c.args.script.now) _ _
-          (reached_beginning _ _ g.H.KeyHash-1.hash_of (givens c.args.setup.now.how.now.rows c.args.setup.now.parts.now) (last_first c.loop-bytes.yielded) c.loop-bytes.bytes-iterator (lines c.args.script.now) c.loop-bytes.desk c.loop-bytes.backlog c.loop-bytes.number
-          c.loop-bytes.invariant.reached c.in-Some.bytes.now c.next.new.self c.execute.new.desk c.in_ok-block.block c.in-Some.ensures.steps c.in_ok-block.ensures.step c.each_text_has_an_answer.ensures _
-          (c.in_err-add.ensures.goes_on.written _ (record { waiting = c.loop-bytes.invariant.reached.waiting; more = next.text; awaits = c.loop-bytes.invariant.reached.awaits; is_more = next.will; joined = refl })).beginning))
-          c.in_err-add.ensures.goes_on.refused p.2 (λ writer. let failed = c.in_err-add.ensures.goes_on.fault (ap Err writer) in omega (arith, failed, c.loop-bytes.invariant.sound)) p.1;
-      worker = λ late. may_want (givens c.args.setup.now.how.now.rows c.args.setup.now.parts.now) (asked_of c.args.setup.now.asked) (lines c.args.script.now)
-          (asked_for_workers _ _ g.H.KeyHash-1.hash_of (givens c.args.setup.now.how.now.rows c.args.setup.now.parts.now) (last_first c.loop-bytes.yielded) c.loop-bytes.bytes-iterator (lines c.args.script.now) c.loop-bytes.desk c.loop-bytes.backlog c.loop-bytes.number
-          c.loop-bytes.invariant.reached c.in-Some.bytes.now c.next.new.self c.execute.new.desk c.in_ok-block.block c.in-Some.ensures.steps c.in_ok-block.ensures.step
-          (c.in_err-add.ensures.worker (ap Err (only_worker _ _ c.in_err-add.ensures.goes_on.refused p.2 (same_error c.from_residual-in_err-add.result _ _ p.1 late)))));
-      place = λ late. absurd (never_place _ _ c.in_err-add.ensures.goes_on.refused p.2 (same_error c.from_residual-in_err-add.result _ _ p.1 late));
-    }
+    ends_unwritten g.O.Out.taken g.O.Out.faults _ _ _ _ c.from_residual-in_err-add.result p.1
+    (begins_tailed c.each_text_has_an_answer.ensures g.H.KeyHash-1.hash_of (givens c.args.setup.now.how.now.rows c.args.setup.now.parts.now) (asked_of c.args.setup.now.viewing) (lines c.args.script.now) _ _
+    (reached_beginning _ _ g.H.KeyHash-1.hash_of (givens c.args.setup.now.how.now.rows c.args.setup.now.parts.now) (last_first c.loop-bytes.yielded) c.loop-bytes.bytes-iterator (lines c.args.script.now) c.loop-bytes.desk c.loop-bytes.backlog c.loop-bytes.number
+    c.loop-bytes.invariant.reached c.in-Some.bytes.now c.next.new.self c.execute.new.desk c.in_ok-block.block c.in-Some.ensures.steps c.in_ok-block.ensures.step c.each_text_has_an_answer.ensures _
+    (c.in_err-add.ensures.goes_on.written _ (record { waiting = c.loop-bytes.invariant.reached.waiting; more = next.text; awaits = c.loop-bytes.invariant.reached.awaits; is_more = next.will; joined = refl })).beginning))
+    _ _ _ p.2 (λ writer. let failed = c.in_err-add.ensures.goes_on.fault (ap Err writer) in omega (arith, failed, c.loop-bytes.invariant.sound))
+    (λ late. may_want (givens c.args.setup.now.how.now.rows c.args.setup.now.parts.now) (asked_of c.args.setup.now.viewing) (lines c.args.script.now)
+    (asked_for_workers _ _ g.H.KeyHash-1.hash_of (givens c.args.setup.now.how.now.rows c.args.setup.now.parts.now) (last_first c.loop-bytes.yielded) c.loop-bytes.bytes-iterator (lines c.args.script.now) c.loop-bytes.desk c.loop-bytes.backlog c.loop-bytes.number
+    c.loop-bytes.invariant.reached c.in-Some.bytes.now c.next.new.self c.execute.new.desk c.in_ok-block.block c.in-Some.ensures.steps c.in_ok-block.ensures.step (c.in_err-add.ensures.worker (ap Err late))))
 
 pub returns-in_err-finish : goal.returns-in_err-finish
 returns-in_err-finish g c =
     let p = err_from_is_err_and c.from_residual-in_err-finish.result c.from_residual-in_err-finish.ensures.1 in
-    record {
-      delivered = delivers_refused g.O.Out.taken g.O.Out.faults _ _ _ _ _ c.from_residual-in_err-finish.result
-          (begins_tailed c.each_text_has_an_answer.ensures g.H.KeyHash-1.hash_of (givens c.args.setup.now.how.now.rows c.args.setup.now.parts.now) (asked_of c.args.setup.now.asked) (lines c.args.script.now) _ _
-          (reached_late _ _ g.H.KeyHash-1.hash_of (givens c.args.setup.now.how.now.rows c.args.setup.now.parts.now) (last_first c.loop-bytes.yielded) c.loop-bytes.bytes-iterator (lines c.args.script.now) c.loop-bytes.desk c.loop-bytes.backlog c.loop-bytes.number
-          c.loop-bytes.invariant.reached _ c.in-None.ensures.steps.0
-          (c.in_err-finish.ensures.whole.beginning c.loop-bytes.invariant.reached.waiting c.loop-bytes.invariant.reached.awaits)))
-          c.in_err-finish.ensures.whole.refused p.2 (λ writer. let failed = c.in_err-finish.ensures.whole.fault (ap Err writer) in omega (arith, failed, c.loop-bytes.invariant.sound)) p.1;
-      worker = λ late. may_want (givens c.args.setup.now.how.now.rows c.args.setup.now.parts.now) (asked_of c.args.setup.now.asked) (lines c.args.script.now)
-          (c.loop-bytes.invariant.reached.asked
-          (c.in_err-finish.ensures.worker (ap Err (only_worker _ _ c.in_err-finish.ensures.whole.refused p.2 (same_error c.from_residual-in_err-finish.result _ _ p.1 late)))));
-      place = λ late. absurd (never_place _ _ c.in_err-finish.ensures.whole.refused p.2 (same_error c.from_residual-in_err-finish.result _ _ p.1 late));
-    }
+    ends_unwritten g.O.Out.taken g.O.Out.faults _ _ _ _ c.from_residual-in_err-finish.result p.1
+    (begins_tailed c.each_text_has_an_answer.ensures g.H.KeyHash-1.hash_of (givens c.args.setup.now.how.now.rows c.args.setup.now.parts.now) (asked_of c.args.setup.now.viewing) (lines c.args.script.now) _ _
+    (reached_late _ _ g.H.KeyHash-1.hash_of (givens c.args.setup.now.how.now.rows c.args.setup.now.parts.now) (last_first c.loop-bytes.yielded) c.loop-bytes.bytes-iterator (lines c.args.script.now) c.loop-bytes.desk c.loop-bytes.backlog c.loop-bytes.number
+    c.loop-bytes.invariant.reached _ c.in-None.ensures.steps.0
+    (c.in_err-finish.ensures.whole.beginning c.loop-bytes.invariant.reached.waiting c.loop-bytes.invariant.reached.awaits)))
+    _ _ _ p.2 (λ writer. let failed = c.in_err-finish.ensures.whole.fault (ap Err writer) in omega (arith, failed, c.loop-bytes.invariant.sound))
+    (λ late. may_want (givens c.args.setup.now.how.now.rows c.args.setup.now.parts.now) (asked_of c.args.setup.now.viewing) (lines c.args.script.now) (c.loop-bytes.invariant.reached.asked (c.in_err-finish.ensures.worker (ap Err late))))
 
 pub returns : goal.returns
 returns g c =
@@ -116,7 +100,7 @@ returns g c =
     let stands = stands_end _ _ g.H.KeyHash-1.hash_of (givens c.args.setup.now.how.now.rows c.args.setup.now.parts.now) (last_first c.loop-bytes.yielded) c.loop-bytes.bytes-iterator (lines c.args.script.now) c.loop-bytes.desk c.loop-bytes.backlog c.loop-bytes.number c.loop-bytes.invariant.reached c.in-None.ensures.steps.0 in
     record {
       delivered = delivers_two g.O.Out.taken g.O.Out.faults _ _ _ _ _ c.write_tail.result first (c.in_ok-finish.ensures.whole.sound ∙ c.loop-bytes.invariant.sound) (c.write_tail.ensures.tail _ stands);
-      worker = λ late. has_want (givens c.args.setup.now.how.now.rows c.args.setup.now.parts.now) (asked_of c.args.setup.now.asked) (lines c.args.script.now) (if_err_of c.write_tail.result _ _ c.write_tail.ensures.asked late);
+      worker = λ late. has_want (givens c.args.setup.now.how.now.rows c.args.setup.now.parts.now) (asked_of c.args.setup.now.viewing) (lines c.args.script.now) (if_err_of c.write_tail.result _ _ c.write_tail.ensures.asked late);
       place = λ late. if_err_of c.write_tail.result _ _ c.write_tail.ensures.asked late;
     }
 

@@ -1,12 +1,9 @@
 use Rattle.std.proofs.Common.{arith}
-use Rattle.table_tests.proofs.AccsLemmas.{can_step, can_take, has_stepped}
+use Rattle.table_tests.proofs.AccsLemmas.{can_step, has_stepped}
 use Rattle.table_tests.proofs.of_aggs.step.Goals as goal
 
 pub step-requires : goal.step-requires
-step-requires g c = record {
-  kind = can_take c.args.kind c.args.cells.now c.args.acc.now c.requires c.args.cell.now c.assert_may_take.ensures;
-  room = can_step c.args.kind c.args.cells.now c.args.acc.now c.requires c.args.cell.now c.cells_are_stored.ensures c.cell_is_stored.ensures (omega arith);
-}
+step-requires g c = can_step c.args.kind c.args.cells.now c.args.acc.now c.requires c.args.cell.now (omega arith)
 
 pub returns-clause-stepped : goal.returns-clause-stepped
 returns-clause-stepped g c =

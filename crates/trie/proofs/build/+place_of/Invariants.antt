@@ -1,6 +1,5 @@
-use Rattle.std.proofs.Common.{◌≡◌, ◌+◌, ◌-◌, ◌<◌, ◌^◌, length, take, vec_len}
-use Rattle.std.specs.List.{flat_map}
-use Rattle.trie.specs.Building.{AreMadeOf, AreMadeOnce, AreMadeWhole, CountsEach, lists}
+use Rattle.std.proofs.Common.{◌-◌, length}
+use Rattle.trie.specs.Building.{HaveOnePrefix, IsBegun}
 use Rattle.trie.specs.Dense.{IsDense, places_in}
 use Rattle.trie.specs.Digits.{digit_count}
 use Rattle.trie.proofs.build.+place_of.Given as goal
@@ -11,11 +10,10 @@ decreases-place_of g l = digit_count - l.depth
 abbrev pub invariant-loop-digit : goal.invariant-loop-digit
 invariant-loop-digit g l =
     record {
-      made : AreMadeOf g.H.KeyHash.hash_of g.K.Ord.cmp l.depth l.digit l.pairs (places_in l.made.bitmap l.made.children.items);
+      left : HaveOnePrefix g.H.KeyHash.hash_of l.depth l.left;
+      begun : IsBegun g.H.KeyHash.hash_of g.K.Ord.cmp l.depth l.pairs l.left l.made.bitmap (places_in l.made.bitmap l.made.children.items);
       dense : IsDense l.made.bitmap (length l.made.children.items);
-      before : l.made.bitmap < 2 ^ l.digit;
-      once : AreMadeOnce g.H.KeyHash.hash_of g.K.Ord.cmp l.depth l.digit (places_in l.made.bitmap l.made.children.items) l.initial.ticks l.ticks;
-      whole : AreMadeWhole g.H.KeyHash.hash_of g.K.Ord.cmp l.depth l.digit (places_in l.made.bitmap l.made.children.items) l.initial.ticks l.ticks;
-      counted : CountsEach (l.depth + 1) (length (flat_map (λ part. part) (take l.digit (lists l.parts.items)))) l.initial.ticks l.ticks;
-      used : vec_len l.used ≡ digit_count;
     }
+
+abbrev pub decreases-loop-digit : goal.decreases-loop-digit
+decreases-loop-digit g l = length l.left

@@ -1,15 +1,22 @@
-use Rattle.std.proofs.Common.{◌≡◌, [], get_or, rules, ◌∙◌}
-use Rattle.std.proofs.lemmas.List.{map-append}
-use Rattle.trie.specs.Building.{pair_in}
-use Rattle.trie.proofs.ListsLemmas.{all-append, grown}
+use Rattle.std.proofs.Common.{◌≡◌, ◌<◌, ◌^◌, arith}
+use Rattle.std.proofs.lemmas.Grind.{common_steps}
+use Rattle.std.proofs.lemmas.List.Elements.{All-nil, All-push}
 use Rattle.trie.proofs.build.with_hashes.Goals as goal
+
+pub loop-pair-init : goal.loop-pair-init
+loop-pair-init g c =
+    rw c.in_ok-hashed.ensures.items (record {
+      pairs = c.into_iter-pair-iterator.ensures.into_iter_gives.0;
+      hashed = All-nil (λ one. one.hash ≡ g.H.KeyHash.hash_of one.pair.0);
+      small = All-nil (λ one. one.hash < 2 ^ 64);
+    })
 
 pub loop-pair-preserved : goal.loop-pair-preserved
 loop-pair-preserved g c =
-    let here : c.pair-item.result ≡ get_or c.args.pairs.now c.loop-pair.pair-index c.pair-item.result = c.pair-item.is in
-    rw c.in_ok-push.ensures.items (record {
-      pairs =
-          map-append pair_in _ _
-          ∙ grown (λ p. p.value) [] c.args.pairs.now _ c.loop-pair.pair-index c.pair-item.result (search rules) here c.loop-pair.invariant.pairs;
-      hashed = all-append (λ one. one.hash ≡ g.H.KeyHash.hash_of (pair_in one).0) _ _ c.loop-pair.invariant.hashed (search rules, tt);
-    })
+    let small : c.hash-hash.result < 2 ^ 64 = omega arith in
+    record {
+      pairs = grind (arith, common_steps);
+      hashed = rw c.in_ok-push.ensures.items
+          (All-push (λ one. one.hash ≡ g.H.KeyHash.hash_of one.pair.0) _ _ c.loop-pair.invariant.hashed c.hash-hash.ensures);
+      small = rw c.in_ok-push.ensures.items (All-push (λ one. one.hash < 2 ^ 64) _ _ c.loop-pair.invariant.small small);
+    }

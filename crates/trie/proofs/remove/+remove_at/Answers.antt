@@ -1,116 +1,98 @@
 use Rattle.std.proofs.Common.{◌≡◌, ◌<◌, ◌^◌, true, [], ◌∷◌, length, ap, ◌∙◌, arith, rules}
-use Rattle.std.proofs.lemmas.Result.{err_from_is_err_and}
+use Rattle.std.proofs.lemmas.Result.{IfOk-weaker, err_from_is_err_and}
 use Rattle.std.specs.Ordering.{is_eq}
-use Rattle.trie.specs.Dense.{places_in, places_of}
 use Rattle.trie.specs.Holding.{seen_in}
 use Rattle.trie.specs.Tree.{entries_in}
 use Rattle.trie.proofs.CountLemmas.{counts_above, counts_below}
-use Rattle.trie.proofs.WriteLemmas.{shared_places}
 use Rattle.trie.proofs.OrderLemmas.{same_hash, value_at-order, without_key-order}
 use Rattle.trie.proofs.PlacesLemmas.{value_at-below, without_key-below, without_key-bounds, without_key-missing}
-use Rattle.trie.proofs.RemoveLemmas.{value_alone}
-use Rattle.trie.proofs.VariantsLemmas.{branch_dense, branch_in, leaf_in, inner_is, leaf_is}
+use Rattle.trie.proofs.RemoveLemmas.{left_without, value_alone}
+use Rattle.trie.proofs.VariantsLemmas.{branch_dense, branch_in, leaf_in}
 use Rattle.trie.proofs.remove.+remove_at.Goals as goal
 
 pub step-requires-clause-dense : goal.step-requires-clause-dense
 step-requires-clause-dense g t c =
     branch_dense g.H.KeyHash.hash_of g.K.Ord.cmp _ _ _ _ _
-    (inner_is _ _ _ _ _ c.in-Some.is c.in-Inner.is c.deref-in-Inner.ensures c.in-Branch.is) c.requires.placed
+    c.in-Branch.ensures c.requires.placed
 
-pub with_place-requires-clause-dense : goal.with_place-requires-clause-dense
-with_place-requires-clause-dense g t c =
-    let dense =
-    branch_dense g.H.KeyHash.hash_of g.K.Ord.cmp _ _ _ _ _
-    (inner_is _ _ _ _ _ c.in-Some.is c.in-Inner.is c.deref-in-Inner.ensures c.in-Branch.is) c.requires.placed in
-    (shared_places c.in-Branch.bitmap c.in_ok-children-in-Branch.children.items c.in-Branch.children.items
-    c.in_ok-children-in-Branch.ensures dense).dense
+pub left_with-requires-clause-dense : goal.left_with-requires-clause-dense
+left_with-requires-clause-dense g t c =
+    branch_dense g.H.KeyHash.hash_of g.K.Ord.cmp _ _ _ _ _ c.in-Branch.ensures c.requires.placed
 
 pub step-requires-clause-places : goal.step-requires-clause-places
 step-requires-clause-places g t c =
     (branch_in g.H.KeyHash.hash_of g.K.Ord.cmp _ _ _ _ _
-    (inner_is _ _ _ _ _ c.in-Some.is c.in-Inner.is c.deref-in-Inner.ensures c.in-Branch.is) c.requires.placed).places_are
+    c.in-Branch.ensures c.requires.placed).places_are
 
 pub remove_at-requires : goal.remove_at-requires
 remove_at-requires g t c =
     let branch =
     branch_in g.H.KeyHash.hash_of g.K.Ord.cmp _ _ _ _ _
-    (inner_is _ _ _ _ _ c.in-Some.is c.in-Inner.is c.deref-in-Inner.ensures c.in-Branch.is) c.requires.placed in
+    c.in-Branch.ensures c.requires.placed in
     let fits : length (entries_in (seen_in c.step.result.0)) < 2 ^ 64 =
     omega (arith, c.step.ensures.fewer, ap length branch.entries_are, c.requires.fits) in
     search rules
 
-pub returns-in_default-2-clause-map : goal.returns-in_default-2-clause-map
-returns-in_default-2-clause-map g t c =
+pub returns-in_default-clause-map : goal.returns-in_default-clause-map
+returns-in_default-clause-map g t c =
     let branch =
     branch_in g.H.KeyHash.hash_of g.K.Ord.cmp _ _ _ _ _
-    (inner_is _ _ _ _ _ c.in-Some.is c.in-Inner.is c.deref-in-Inner.ensures c.in-Branch.is) c.requires.placed in
+    c.in-Branch.ensures c.requires.placed in
     rw branch.entries_are
     (without_key-missing g.H.KeyHash.hash_of g.K.Ord.cmp _ _ c.args.at.within _ branch.places_are c.args.key.now
-    c.requires.hashed _ c.step.ensures.place (rw c.in_default-2.is at c.in_ok-rest-in-Branch.ensures.map))
+    c.requires.hashed _ c.step.ensures.place (rw c.in_default.is at c.in_ok-rest-in-Branch.ensures.map))
 
-pub with_place-requires-clause-places : goal.with_place-requires-clause-places
-with_place-requires-clause-places g t c =
-    let same : places_in c.in-Branch.bitmap c.in_ok-children-in-Branch.children.items ≡ places_in c.in-Branch.bitmap c.in-Branch.children.items =
-    ap (places_of c.in-Branch.bitmap) c.in_ok-children-in-Branch.ensures in
+pub left_with-requires-clause-places : goal.left_with-requires-clause-places
+left_with-requires-clause-places g t c =
+    (branch_in g.H.KeyHash.hash_of g.K.Ord.cmp _ _ _ _ _ c.in-Branch.ensures c.requires.placed).places_are
+
+pub left_with-requires-clause-some : goal.left_with-requires-clause-some
+left_with-requires-clause-some g t c =
     let branch =
     branch_in g.H.KeyHash.hash_of g.K.Ord.cmp _ _ _ _ _
-    (inner_is _ _ _ _ _ c.in-Some.is c.in-Inner.is c.deref-in-Inner.ensures c.in-Branch.is) c.requires.placed in
-    rw same branch.places_are
-
-pub with_place-requires-clause-some : goal.with_place-requires-clause-some
-with_place-requires-clause-some g t c =
-    let same : places_in c.in-Branch.bitmap c.in_ok-children-in-Branch.children.items ≡ places_in c.in-Branch.bitmap c.in-Branch.children.items =
-    ap (places_of c.in-Branch.bitmap) c.in_ok-children-in-Branch.ensures in
-    let branch =
-    branch_in g.H.KeyHash.hash_of g.K.Ord.cmp _ _ _ _ _
-    (inner_is _ _ _ _ _ c.in-Some.is c.in-Inner.is c.deref-in-Inner.ensures c.in-Branch.is) c.requires.placed in
+    c.in-Branch.ensures c.requires.placed in
     let rest = rw c.in-Left.is at c.in_ok-rest-in-Branch.ensures.map in
     let bounds =
     without_key-bounds g.H.KeyHash.hash_of g.K.Ord.cmp _ _ c.args.at.within _ branch.places_are c.args.key.now
     c.requires.hashed _ c.step.ensures.place _ rest.entries_are in
-    rw same (omega (arith, branch.many, bounds.1))
+    omega (arith, branch.many, bounds.1)
 
-pub with_place-requires-clause-fits : goal.with_place-requires-clause-fits
-with_place-requires-clause-fits g t c =
-    let same : places_in c.in-Branch.bitmap c.in_ok-children-in-Branch.children.items ≡ places_in c.in-Branch.bitmap c.in-Branch.children.items =
-    ap (places_of c.in-Branch.bitmap) c.in_ok-children-in-Branch.ensures in
+pub left_with-requires-clause-fits : goal.left_with-requires-clause-fits
+left_with-requires-clause-fits g t c =
     let branch =
     branch_in g.H.KeyHash.hash_of g.K.Ord.cmp _ _ _ _ _
-    (inner_is _ _ _ _ _ c.in-Some.is c.in-Inner.is c.deref-in-Inner.ensures c.in-Branch.is) c.requires.placed in
+    c.in-Branch.ensures c.requires.placed in
     let rest = rw c.in-Left.is at c.in_ok-rest-in-Branch.ensures.map in
     let bounds =
     without_key-bounds g.H.KeyHash.hash_of g.K.Ord.cmp _ _ c.args.at.within _ branch.places_are c.args.key.now
     c.requires.hashed _ c.step.ensures.place _ rest.entries_are in
-    rw same (omega (arith, bounds.0, ap length branch.entries_are, c.requires.fits))
+    omega (arith, bounds.0, ap length branch.entries_are, c.requires.fits)
 
 pub returns-then-is_eq-clause-map : goal.returns-then-is_eq-clause-map
 returns-then-is_eq-clause-map g t c =
     let leaf =
-    leaf_in g.H.KeyHash.hash_of g.K.Ord.cmp _ _ _ (leaf_is _ _ _ c.in-Some.is c.in-Leaf.is)
+    leaf_in g.H.KeyHash.hash_of g.K.Ord.cmp _ _ _ c.in-Leaf.ensures
     c.requires.placed in
     let same =
     same_hash g.H.KeyHash.hash_of g.K.Ord.cmp g.K.PartialEq.eq g.met.K.Ord.matches_eq
     g.met.H.KeyHash.respects_eq in
-    record { placed = tt; entries_are = rw (leaf.entries_are, without_key-order g.H.KeyHash.hash_of g.K.Ord.cmp same c.args.key.now (c.in-Leaf.pair.value ∷ [])) (search rules) }
+    record { placed = tt; entries_are = rw (leaf.entries_are, without_key-order g.H.KeyHash.hash_of g.K.Ord.cmp same c.args.key.now (c.in-Leaf.pair.now.value ∷ [])) (search rules) }
 
-pub returns-in_ok-node-in-Branch-clause-map : goal.returns-in_ok-node-in-Branch-clause-map
-returns-in_ok-node-in-Branch-clause-map g t c =
-    let same : places_in c.in-Branch.bitmap c.in_ok-children-in-Branch.children.items ≡ places_in c.in-Branch.bitmap c.in-Branch.children.items =
-    ap (places_of c.in-Branch.bitmap) c.in_ok-children-in-Branch.ensures in
-    let branch =
-    branch_in g.H.KeyHash.hash_of g.K.Ord.cmp _ _ _ _ _
-    (inner_is _ _ _ _ _ c.in-Some.is c.in-Inner.is c.deref-in-Inner.ensures c.in-Branch.is) c.requires.placed in
+pub returns-in-Left-clause-map : goal.returns-in-Left-clause-map
+returns-in-Left-clause-map g t c =
+    let branch = branch_in g.H.KeyHash.hash_of g.K.Ord.cmp _ _ _ _ _ c.in-Branch.ensures c.requires.placed in
     let rest = rw c.in-Left.is at c.in_ok-rest-in-Branch.ensures.map in
     let whole =
     without_key-below g.H.KeyHash.hash_of g.K.Ord.cmp _ _ c.args.at.within _ branch.places_are c.args.key.now
     c.requires.hashed _ c.step.ensures.place _ rest.entries_are in
-    rw (branch.entries_are, ← whole) (rw same at c.in_ok-node-in-Branch.ensures.held)
+    IfOk-weaker c.left_with.result _ _
+    (λ r left. rw branch.entries_are (left_without g.H.KeyHash.hash_of g.K.Ord.cmp c.args.at c.args.key.now _ _ r whole left)) c.left_with.ensures.left
 
 pub returns-in_err-rest-in-Branch-clause-missed : goal.returns-in_err-rest-in-Branch-clause-missed
 returns-in_err-rest-in-Branch-clause-missed g t c = λ none.
     let branch =
     branch_in g.H.KeyHash.hash_of g.K.Ord.cmp _ _ _ _ _
-    (inner_is _ _ _ _ _ c.in-Some.is c.in-Inner.is c.deref-in-Inner.ensures c.in-Branch.is) c.requires.placed in
+    c.in-Branch.ensures c.requires.placed in
     let below =
     value_at-below g.H.KeyHash.hash_of g.K.Ord.cmp _ _ c.args.at.within _ branch.places_are c.args.key.now
     c.requires.hashed _ c.step.ensures.place in
@@ -118,42 +100,21 @@ returns-in_err-rest-in-Branch-clause-missed g t c = λ none.
     let err = err_from_is_err_and c.from_residual.result c.from_residual.ensures.1 in
     rw err.1 missed
 
-pub returns-in_default-2-clause-missed : goal.returns-in_default-2-clause-missed
-returns-in_default-2-clause-missed g t c = λ none.
+pub returns-in_default-clause-missed : goal.returns-in_default-clause-missed
+returns-in_default-clause-missed g t c = λ none.
     let branch =
     branch_in g.H.KeyHash.hash_of g.K.Ord.cmp _ _ _ _ _
-    (inner_is _ _ _ _ _ c.in-Some.is c.in-Inner.is c.deref-in-Inner.ensures c.in-Branch.is) c.requires.placed in
+    c.in-Branch.ensures c.requires.placed in
     let below =
     value_at-below g.H.KeyHash.hash_of g.K.Ord.cmp _ _ c.args.at.within _ branch.places_are c.args.key.now
     c.requires.hashed _ c.step.ensures.place in
-    (rw c.in_default-2.is at c.in_ok-rest-in-Branch.ensures.missed) (below ∙ rw branch.entries_are at none)
+    (rw c.in_default.is at c.in_ok-rest-in-Branch.ensures.missed) (below ∙ rw branch.entries_are at none)
 
-pub returns-in_err-children-in-Branch-clause-missed :
-    goal.returns-in_err-children-in-Branch-clause-missed
-returns-in_err-children-in-Branch-clause-missed g t c = λ none.
+pub returns-in-Left-clause-missed : goal.returns-in-Left-clause-missed
+returns-in-Left-clause-missed g t c = λ none.
     let branch =
     branch_in g.H.KeyHash.hash_of g.K.Ord.cmp _ _ _ _ _
-    (inner_is _ _ _ _ _ c.in-Some.is c.in-Inner.is c.deref-in-Inner.ensures c.in-Branch.is) c.requires.placed in
-    let below =
-    value_at-below g.H.KeyHash.hash_of g.K.Ord.cmp _ _ c.args.at.within _ branch.places_are c.args.key.now
-    c.requires.hashed _ c.step.ensures.place in
-    absurd ((rw c.in-Left.is at c.in_ok-rest-in-Branch.ensures.missed) (below ∙ rw branch.entries_are at none))
-
-pub returns-in_err-node-in-Branch-clause-missed : goal.returns-in_err-node-in-Branch-clause-missed
-returns-in_err-node-in-Branch-clause-missed g t c = λ none.
-    let branch =
-    branch_in g.H.KeyHash.hash_of g.K.Ord.cmp _ _ _ _ _
-    (inner_is _ _ _ _ _ c.in-Some.is c.in-Inner.is c.deref-in-Inner.ensures c.in-Branch.is) c.requires.placed in
-    let below =
-    value_at-below g.H.KeyHash.hash_of g.K.Ord.cmp _ _ c.args.at.within _ branch.places_are c.args.key.now
-    c.requires.hashed _ c.step.ensures.place in
-    absurd ((rw c.in-Left.is at c.in_ok-rest-in-Branch.ensures.missed) (below ∙ rw branch.entries_are at none))
-
-pub returns-in_ok-node-in-Branch-clause-missed : goal.returns-in_ok-node-in-Branch-clause-missed
-returns-in_ok-node-in-Branch-clause-missed g t c = λ none.
-    let branch =
-    branch_in g.H.KeyHash.hash_of g.K.Ord.cmp _ _ _ _ _
-    (inner_is _ _ _ _ _ c.in-Some.is c.in-Inner.is c.deref-in-Inner.ensures c.in-Branch.is) c.requires.placed in
+    c.in-Branch.ensures c.requires.placed in
     let below =
     value_at-below g.H.KeyHash.hash_of g.K.Ord.cmp _ _ c.args.at.within _ branch.places_are c.args.key.now
     c.requires.hashed _ c.step.ensures.place in
@@ -162,33 +123,26 @@ returns-in_ok-node-in-Branch-clause-missed g t c = λ none.
 pub returns-then-is_eq-clause-missed : goal.returns-then-is_eq-clause-missed
 returns-then-is_eq-clause-missed g t c = λ none.
     let leaf =
-    leaf_in g.H.KeyHash.hash_of g.K.Ord.cmp _ _ _ (leaf_is _ _ _ c.in-Some.is c.in-Leaf.is)
+    leaf_in g.H.KeyHash.hash_of g.K.Ord.cmp _ _ _ c.in-Leaf.ensures
     c.requires.placed in
     let same =
     same_hash g.H.KeyHash.hash_of g.K.Ord.cmp g.K.PartialEq.eq g.met.K.Ord.matches_eq
     g.met.H.KeyHash.respects_eq in
-    let here = rw (leaf.entries_are, value_at-order g.H.KeyHash.hash_of g.K.Ord.cmp same c.args.key.now (c.in-Leaf.pair.value ∷ [])) at none in
-    let found : is_eq (g.K.Ord.cmp c.args.key.now c.in-Leaf.pair.value.0) ≡ true = search rules in
-    value_alone (λ k. is_eq (g.K.Ord.cmp c.args.key.now k)) c.in-Leaf.pair.value found here
+    let here = rw (leaf.entries_are, value_at-order g.H.KeyHash.hash_of g.K.Ord.cmp same c.args.key.now (c.in-Leaf.pair.now.value ∷ [])) at none in
+    let found : is_eq (g.K.Ord.cmp c.args.key.now c.in-Leaf.pair.now.value.0) ≡ true = search rules in
+    value_alone (λ k. is_eq (g.K.Ord.cmp c.args.key.now k)) c.in-Leaf.pair.now.value found here
 
-pub with_place-requires-clause-placed : goal.with_place-requires-clause-placed
-with_place-requires-clause-placed g t c =
+pub left_with-requires-clause-placed : goal.left_with-requires-clause-placed
+left_with-requires-clause-placed g t c =
     let rest = rw c.in-Left.is at c.in_ok-rest-in-Branch.ensures.map in
     rw (c.step.ensures.hash, c.step.ensures.depth) at rest.placed
 
 pub returns-in_err-rest-in-Branch-clause-counted : goal.returns-in_err-rest-in-Branch-clause-counted
 returns-in_err-rest-in-Branch-clause-counted g t c = counts_below _ _ _ _ c.step.ensures.depth c.remove_at.ensures.counted
 
-pub returns-in_default-2-clause-counted : goal.returns-in_default-2-clause-counted
-returns-in_default-2-clause-counted g t c = counts_below _ _ _ _ c.step.ensures.depth c.remove_at.ensures.counted
+pub returns-in_default-clause-counted : goal.returns-in_default-clause-counted
+returns-in_default-clause-counted g t c = counts_below _ _ _ _ c.step.ensures.depth c.remove_at.ensures.counted
 
-pub returns-in_err-children-in-Branch-clause-counted : goal.returns-in_err-children-in-Branch-clause-counted
-returns-in_err-children-in-Branch-clause-counted g t c = counts_below _ _ _ _ c.step.ensures.depth c.remove_at.ensures.counted
-
-pub returns-in_err-node-in-Branch-clause-counted : goal.returns-in_err-node-in-Branch-clause-counted
-returns-in_err-node-in-Branch-clause-counted g t c =
-    counts_above _ _ _ _ _ c.step.ensures.depth c.remove_at.ensures.counted c.with_place.ensures.counted
-
-pub returns-in_ok-node-in-Branch-clause-counted : goal.returns-in_ok-node-in-Branch-clause-counted
-returns-in_ok-node-in-Branch-clause-counted g t c =
-    counts_above _ _ _ _ _ c.step.ensures.depth c.remove_at.ensures.counted c.with_place.ensures.counted
+pub returns-in-Left-clause-counted : goal.returns-in-Left-clause-counted
+returns-in-Left-clause-counted g t c =
+    counts_above _ _ _ _ _ c.step.ensures.depth c.remove_at.ensures.counted c.left_with.ensures.counted

@@ -14,7 +14,7 @@ returns-then-contains-clause-stepped g c =
 pub with_cell-requires : goal.with_cell-requires
 with_cell-requires g c =
     let one = new_is_one c.args.cell.now (sym c.is_null.ensures ∙ c.if-is_null.false) in
-    omega (arith, one, c.requires.room)
+    omega (arith, one, c.requires)
 
 pub returns-clause-stepped : goal.returns-clause-stepped
 returns-clause-stepped g c =

@@ -7,7 +7,7 @@ piece-requires g c = place_within c.args.self.now c.args.made.now c.args.place c
 
 pub take-taken-requires : goal.take-taken-requires
 take-taken-requires g c =
-    may_take_more c.args.self.now c.args.made.now c.args.place c.piece.result.now c.piece.ensures c.rows_may_fold.ensures.share c.requires
+    may_take_more c.args.self.now c.args.made.now c.args.place c.piece.result.now c.piece.ensures c.rows_are_few.ensures c.requires
 
 pub returns : goal.returns
 returns g c = λ places folds.

@@ -9,7 +9,7 @@ use Rattle.crew.proofs.ranging.Ranging.with_range.Goals as goal
 pub join-requires : goal.join-requires
 join-requires g c =
     let ranged = c.args.self.now in
-    let it = c.rows_may_fold.ensures in
+    let it = c.rows_are_few.ensures in
     let folds = subst (λ made. IfSome made (Folds ranged.plan (kept ranged.plan.condition (range_rows ranged.count it.rows c.args.place)))) c.in-Some.is (c.in_ok-range.ensures it.rows it.held) in
     range_meets ranged c.args.before c.in-Some.range c.args.place it c.requires folds
 

@@ -11,7 +11,7 @@ loop-one-init g c =
     let items = c.into_iter-one-iterator.ensures.into_iter_gives.0 in
     let none = c.requires.empty.0 in
     record {
-      reached = reached_none c.args.self.now.deal.now (g.K.Task.gives c.args.self.now.task.now) _ _ none c.requires.empty.1;
+      reached = reached_none c.args.self.now.deal.now (g.K.Task.makes c.args.self.now.task.now) _ _ none c.requires.empty.1;
       many = omega (arith, c.requires.many, ap length items, ap length none);
       started = rw (none, items) c.requires.started;
       refused = rw (none, items) c.requires.refused;
@@ -23,7 +23,7 @@ pub loop-one-preserved : goal.loop-one-preserved
 loop-one-preserved g c =
     let l = c.loop-one.invariant in
     let deal = c.args.self.now.deal.now in
-    let gives = g.K.Task.gives c.args.self.now.task.now in
+    let makes = g.K.Task.makes c.args.self.now.task.now in
     let seats = c.loop-one.seats.items in
     let n = length seats in
     let old = into_iter_items c.loop-one.one-iterator in
@@ -35,11 +35,11 @@ loop-one-preserved g c =
     let sum = as_many deal.seats seats c.push_reserved.new.self.items back.seat old new one more less l.many in
     let started = taken _ n old new one less l.started in
     let refused = taken _ n old new one less l.refused in
-    let is : IsBack deal gives n back =
-    whichever (λ number. IsBack deal gives number back) (λ handle. handle.promise.number) (λ seat. seat.number) n one
+    let is : IsBack deal makes n back =
+    whichever (λ number. IsBack deal makes number back) (λ handle. handle.promise.number) (λ seat. seat.number) n one
     (IfOk-weaker one _ _ (λ handle so. so.2) started.0) (IfErr-weaker one _ _ (λ seat so. so.1) refused.0) c.back-back.ensures.started c.back-back.ensures.refused in
     record {
-      reached = reached_more deal gives seats c.push_reserved.new.self.items c.loop-one.given.items c.push_reserved-in-loop-one.new.self.items back more c.push_reserved-in-loop-one.ensures.items l.reached is;
+      reached = reached_more deal makes seats c.push_reserved.new.self.items c.loop-one.given.items c.push_reserved-in-loop-one.new.self.items back more c.push_reserved-in-loop-one.ensures.items l.reached is;
       many = sum.0;
       started = rw sum.1 started.1;
       refused = rw sum.1 refused.1;

@@ -3,11 +3,8 @@ use Rattle.std.proofs.lemmas.Slice.Zip.{either_empty_from_Zip}
 use Rattle.groups.proofs.AccumulatorsLemmas.{joining_all, joining_may, joining_more}
 use Rattle.groups.proofs.accumulators.Accumulators.join.Goals as goal
 
-pub join-requires-clause-fits : goal.join-requires-clause-fits
-join-requires-clause-fits g c = let step = c.in-Some.ensures.steps in (joining_may c.loop-first.invariant step.0 step.1).fits
-
-pub join-requires-clause-one : goal.join-requires-clause-one
-join-requires-clause-one g c = let step = c.in-Some.ensures.steps in (joining_may c.loop-first.invariant step.0 step.1).one
+pub join-requires : goal.join-requires
+join-requires g c = let step = c.in-Some.ensures.steps in joining_may c.loop-first.invariant step.0 step.1
 
 pub loop-first-preserved : goal.loop-first-preserved
 loop-first-preserved g c =

@@ -3,8 +3,7 @@ use Rattle.groups.proofs.folding.Folding.into_partial.Goals as goal
 
 pub tries_of-requires-clause-can : goal.tries_of-requires-clause-can
 tries_of-requires-clause-can g c =
-    end_counted (record { cells = c.rows_fit_columns.ensures.cells; integers = c.rows_fit_columns.ensures.integers })
-    c.args.self c.as_slice.result.now c.as_slice.ensures.value c.requires
+    end_counted c.args.self c.as_slice.result.now c.as_slice.ensures.value c.requires
 
 pub tries_of-requires-clause-finer : goal.tries_of-requires-clause-finer
 tries_of-requires-clause-finer g c = end_finer c.args.self c.sets.result.now c.sets.ensures c.requires

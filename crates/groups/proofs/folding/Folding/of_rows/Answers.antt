@@ -1,32 +1,25 @@
 use Rattle.std.proofs.Common.{◌≡◌, ◌+◌, ◌<◌, ◌≤◌, List, ℕ, ap, arith, length, refl, subst, sym, ◌∙◌}
 use Rattle.std.specs.List.{AllByRecursion}
 use Rattle.std.specs.Prelude.{IfSome}
-use Rattle.groups.specs.Bags.{CanCount}
-use Rattle.groups.specs.Columnar.{MayCount}
 use Rattle.groups.specs.Groups.{kept}
-use Rattle.groups.specs.Numbered.{picked_rows}
+use Rattle.groups.specs.Numbered.{HaveRows, picked_rows}
 use Rattle.groups.specs.Pools.{IsPool, sets_of}
 use Rattle.groups.specs.Ranges.{rows_from}
-use Rattle.groups.proofs.RangesLemmas.{can_count_rows, folds_rows, within_all}
+use Rattle.groups.proofs.RangesLemmas.{folds_rows, within_all}
 use Rattle.groups.proofs.folding.Folding.of_rows.Goals as goal
 
 pub sources_from-requires : goal.sources_from-requires
 sources_from-requires g c =
     let may = c.requires in
     let places : List ℕ = c.in-Some.rows.items in
-    let same : picked_rows may.rows places ≡ kept c.args.plan.now.condition (rows_from c.args.first c.args.count may.rows) =
-    subst (λ o. IfSome o (λ v. picked_rows may.rows v.items ≡ kept c.args.plan.now.condition (rows_from c.args.first c.args.count may.rows))) c.in-Some.is (c.in_ok-rows.ensures.kept may.rows may.held) in
     let within : AllByRecursion (λ i. i < c.args.first + c.args.count) places =
     subst (λ o. IfSome o (λ v. AllByRecursion (λ i. i < c.args.first + c.args.count) v.items)) c.in-Some.is c.in_ok-rows.ensures.within in
     let few : length places ≤ c.args.count = subst (λ o. IfSome o (λ v. length v.items ≤ c.args.count)) c.in-Some.is c.in_ok-rows.ensures.few in
-    subst (λ l. MayCount c.as_slice.result.now c.args.columns.now l) (sym c.as_slice-2.ensures.value) (record {
+    subst (λ l. HaveRows c.args.columns.now l) (sym c.as_slice-2.ensures.value) (record {
       rows = may.rows;
       held = may.held;
       within = within_all (c.args.first + c.args.count) (length may.rows) places may.within within;
       few = omega (arith, few, may.few);
-      can = subst (CanCount c.as_slice.result.now) (sym same)
-          (can_count_rows (record { cells = c.rows_fit_columns.ensures.cells; integers = c.rows_fit_columns.ensures.integers }) c.args.plan.now c.as_slice.result.now
-          (rows_from c.args.first c.args.count may.rows) (c.as_slice.ensures.value ∙ (c.in_ok-none.ensures).aggregations) may.may);
     })
 
 pub returns : goal.returns
@@ -40,6 +33,3 @@ returns g c = λ all held.
     (subst (λ a. IsPool a rows c.in-Some-made.sources.items) c.as_slice.ensures.value
     (subst (λ r. IsPool c.as_slice.result.now r c.in-Some-made.sources.items) same
     (subst (λ o. IfSome o (λ v. IsPool c.as_slice.result.now (picked_rows all c.as_slice-2.result.now) v.items)) c.in-Some-made.is (c.in_ok-made.ensures.pool all held))))
-
-pub kept_rows-requires : goal.kept_rows-requires
-kept_rows-requires g c = record { rows = c.requires.rows; held = c.requires.held; within = c.requires.within; few = c.requires.few }

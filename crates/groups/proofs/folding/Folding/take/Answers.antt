@@ -4,8 +4,7 @@ use Rattle.groups.proofs.folding.Folding.take.Goals as goal
 
 pub fill_sources-requires : goal.fill_sources-requires
 fill_sources-requires g c =
-    may_fill_sources (record { cells = c.rows_fit_columns.ensures.cells; integers = c.rows_fit_columns.ensures.integers })
-    c.args.self.now _ refl c.as_slice.ensures.value c.requires
+    may_fill_sources c.args.self.now _ c.as_slice.ensures.value c.requires
 
 pub returns : goal.returns
 returns g c = λ plan rows folds. folds_more plan rows c.args.self.now _ _ folds refl refl refl c.as_slice.ensures.value c.in_ok-fill_sources.ensures

@@ -3,8 +3,8 @@ use Rattle.groups.proofs.BagLemmas.{can_take}
 use Rattle.groups.proofs.VisitingLemmas.{takes_kept}
 use Rattle.groups.proofs.visiting.BagFillerVisitorCellRow.visit.Goals as goal
 
-pub take-requires-clause-can : goal.take-requires-clause-can
-take-requires-clause-can g c = can_take c.args.self.now.aggregations.now c.args.self.now.set.now c.args.row.now c.args.self.now.bag c.requires.room
+pub take-requires : goal.take-requires
+take-requires g c = can_take c.args.self.now.aggregations.now c.args.self.now.set.now c.args.row.now c.args.self.now.bag c.requires
 
 pub returns : goal.returns
 returns g c = record {

@@ -26,7 +26,6 @@ returns-in_err-write_oldest-clause-whole g c = record {
       let so_far = c.loop-self.invariant.written text awaits in
       ends_early _ _ _ _ _ _ _ _ so_far (c.in_err-write_oldest.ensures.goes_on.written so_far.rest so_far.awaits);
   sound = search rules;
-  refused = search rules;
   fault = search rules;
 }
 
@@ -42,6 +41,5 @@ returns-clause-whole g c = record {
       let none : c.loop-self.self.reports ≡ [] = search rules in
       begins_wholly _ _ _ _ _ _ none (c.loop-self.invariant.written text awaits) c.write_after.ensures.beginning;
   sound = search rules;
-  refused = search rules;
   fault = search rules;
 }

@@ -11,7 +11,6 @@ pub returns-in_err-push_text-clause-goes_on : goal.returns-in_err-push_text-clau
 returns-in_err-push_text-clause-goes_on g c = record {
   written = λ text p. stops _ _ _ _ c.from_residual.result c.from_residual.ensures.0 (takes_nothing _ _);
   sound = search rules;
-  refused = search rules;
   fault = search rules;
 }
 
@@ -20,7 +19,6 @@ returns-then-len-gt0-clause-goes_on g c = record {
   written = λ text p. rw (p.joined, ← p.is_more)
       (waits_all _ _ _ _ (awaits_text c.args.self.now c.push_text.new.self p.waiting c.args.text.now c.in_ok-push_text.ensures.reports c.in_ok-push_text.ensures.after p.awaits));
   sound = search rules;
-  refused = search rules;
   fault = search rules;
 }
 
@@ -35,6 +33,5 @@ returns-clause-goes_on g c = record {
       (subst (λ said. OnErr c.write_after.result (TakesBeginning (g.O.Out.taken c.args.out.now) (g.O.Out.taken c.write_after.new.out) said)) (sym all) c.write_after.ensures.beginning)
       (on_ok_weaker c.write_after.result (awaits_nothing c.write_after.new.self c.write_after.ensures.idle) c.write_after.ensures.nothing));
   sound = search rules;
-  refused = search rules;
   fault = search rules;
 }

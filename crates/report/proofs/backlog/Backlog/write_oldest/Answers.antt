@@ -11,6 +11,5 @@ returns-clause-goes_on g c = record {
       (λ answer has. c.write.ensures.whole.written _ (record { answer = answer; has = has; joined = refl }))
       (λ answer has. c.write.ensures.whole.beginning _ (record { answer = answer; has = has; joined = refl }));
   sound = c.write.ensures.whole.sound;
-  refused = c.write.ensures.whole.refused;
   fault = c.write.ensures.whole.fault;
 }

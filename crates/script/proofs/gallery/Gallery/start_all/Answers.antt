@@ -1,6 +1,5 @@
 use Rattle.std.proofs.Common.{◌∙◌, ◌∷◌, [], ap, arith, length, length-append, refl, subst, sym}
 use Rattle.board.specs.Editions.{board, schema}
-use Rattle.query.specs.Plans.{IsPlanOf}
 use Rattle.report.specs.Watching.{watch_from}
 use Rattle.script.specs.Viewers.{ArePlans, viewing_of}
 use Rattle.script.proofs.TailsLemmas.{started_more}
@@ -9,27 +8,21 @@ use Rattle.script.proofs.gallery.Gallery.start_all.Goals as goal
 pub loop-plan-init : goal.loop-plan-init
 loop-plan-init g c = record {
   same = refl;
-  left = subst (ArePlans (schema c.args.keeper.now) c.args.request.query.now) (sym c.into_iter-plan-iterator.ensures.into_iter_gives.0) c.requires.plans;
+  left = subst (ArePlans (schema c.args.keeper.now) c.args.viewing.query.now) (sym c.into_iter-plan-iterator.ensures.into_iter_gives.0) c.requires.plans;
   many = rw (c.requires.nobody, c.into_iter-plan-iterator.ensures.into_iter_gives.0) (omega arith);
   started = rw c.requires.nobody tt;
 }
 
-pub begin-requires-clause-planned : goal.begin-requires-clause-planned
-begin-requires-clause-planned g c κs within =
-    let inv = c.loop-plan.invariant in
-    let plans = subst (ArePlans (schema c.args.keeper.now) c.args.request.query.now) c.in-Some.ensures.steps.0 inv.left in
-    subst (λ t. IsPlanOf t c.in-Some.plan) (sym (c.in_ok-viewer.ensures.viewer.schema ∙ ap schema inv.same)) plans.0.1
-
 pub loop-plan-preserved : goal.loop-plan-preserved
 loop-plan-preserved g c =
     let inv = c.loop-plan.invariant in
-    let plans = subst (ArePlans (schema c.args.keeper.now) c.args.request.query.now) c.in-Some.ensures.steps.0 inv.left in
+    let plans = subst (ArePlans (schema c.args.keeper.now) c.args.viewing.query.now) c.in-Some.ensures.steps.0 inv.left in
     let fewer = ap length c.in-Some.ensures.steps.0 in
     let more = ap length c.in_ok-begin.ensures.watching in
     record {
-      same = c.in_ok-viewer.ensures.same ∙ inv.same;
+      same = c.in-Ok.ensures.same ∙ inv.same;
       left = plans.1;
-      many = omega (arith, inv.many, fewer, more, length-append c.loop-plan.self.audience (watch_from c.in_ok-viewer.viewer c.in-Some.plan c.args.request.shots ∷ []));
-      started = rw c.in_ok-begin.ensures.watching (started_more (viewing_of c.args.request) c.args.keeper.now c.loop-plan.self.audience c.in_ok-viewer.viewer c.in-Some.plan inv.started
-          (c.in_ok-viewer.ensures.viewer.board ∙ ap board inv.same) (c.in_ok-viewer.ensures.viewer.schema ∙ ap schema inv.same) plans.0.0);
+      many = omega (arith, inv.many, fewer, more, length-append c.loop-plan.self.audience (watch_from c.in-Ok.viewer c.in-Some.plan c.args.viewing.shots ∷ []));
+      started = rw c.in_ok-begin.ensures.watching (started_more (viewing_of c.args.viewing) c.args.keeper.now c.loop-plan.self.audience c.in-Ok.viewer c.in-Some.plan inv.started
+          (c.in-Ok.ensures.viewer.board ∙ ap board inv.same) (c.in-Ok.ensures.viewer.schema ∙ ap schema inv.same) plans.0);
     }

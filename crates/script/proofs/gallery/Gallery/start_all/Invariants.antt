@@ -8,7 +8,7 @@ use Rattle.script.proofs.gallery.Gallery.start_all.Given as goal
 abbrev pub invariant-loop-plan : goal.invariant-loop-plan
 invariant-loop-plan g l = record {
   same : l.keeper ≡ l.fn.keeper;
-  left : ArePlans (schema l.fn.keeper) l.request.query.now (into_iter_items l.plan-iterator);
+  left : ArePlans (schema l.fn.keeper) l.viewing.query.now (into_iter_items l.plan-iterator);
   many : length l.self.audience + length (into_iter_items l.plan-iterator) ≡ length l.fn.plans.items;
-  started : AllByRecursion (IsStarted (viewing_of l.request) l.fn.keeper) l.self.audience;
+  started : AllByRecursion (IsStarted (viewing_of l.viewing) l.fn.keeper) l.self.audience;
 }

@@ -1,0 +1,33 @@
+//! What a run is made with, beside its script and its writer.
+use crate::how::How;
+use crate::viewing::Viewing;
+use crew::Gate;
+use report::Answering;
+use std::alloc::Global;
+
+/// What a run is made with: where the threads of reports, viewers and workers come from, where memory comes from, how the run
+/// is made, the parts that may be loaded, what viewers are asked where there are some, and who is told of each publish, of a
+/// report's pieces, of a load's parts and of what viewers see.
+#[derive(Drop)]
+pub struct Setup<'a, R, G: Gate> {
+    pub rt: &'a R,
+    pub alloc: Global,
+    pub how: &'a How,
+    pub parts: &'a [Vec<u8>],
+    pub viewing: Option<Viewing<&'a str>>,
+    pub gate: &'a G,
+}
+
+impl<'a, R, G: Gate> Setup<'a, R, G> {
+    /// What the reports of the run are answered with.
+    pub(crate) fn answering(&self) -> Answering<'a, R, G> {
+        Answering {
+            rt: self.rt,
+            alloc: self.alloc,
+            workers: self.how.workers(),
+            cutting: self.how.cutting(),
+            columns_from: self.how.columns_from(),
+            gate: self.gate,
+        }
+    }
+}

@@ -1,0 +1,12 @@
+//! What viewers beside a run are asked.
+
+/// What viewers beside a run are asked: a query, as an owner or a reader has it, and two numbers.
+#[derive(Clone, Copy, Debug, Drop)]
+pub struct Viewing<Q> {
+    /// The query that each of them answers.
+    pub query: Q,
+    /// How many there are.
+    pub viewers: u64,
+    /// How many reports each of them makes before its last one.
+    pub shots: u64,
+}
