@@ -236,7 +236,9 @@ fn written<R: Threads + Wait + Sync>(
     let Some(how) = How::new(1, CUTTING, sample.rows) else {
         return Ok(None);
     };
-    let mut tape = Tape::new(alloc, ROOM, most, Some(failing))?;
+    let Ok(mut tape) = Tape::new(alloc, ROOM, most, Some(failing)) else {
+        return Err(Ended::OutOfMemory);
+    };
     let ended = sample.write(rt, alloc, &how, parts, &mut tape);
     let output = sample.output.as_bytes();
     let taken = tape.bytes();
