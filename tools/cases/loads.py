@@ -4,6 +4,8 @@ from cases.table import block, lines_by, script
 
 TWO = ["K,V\n1,10\n2,20\n", "K,V\n1,11\n"]
 FAULTY = ["ID,REGION,ITEM,UNITS\n1,north,pen,x\n", "ID,REGION,ITEM,UNITS\n9,a,b,1\n8,a,b,1.5\n"]
+# Of two parts the second has no column V: in its header, and in a record.
+NARROW = ["K,V\n1,1\n2,2\n", "K\n3\n4\n", "K,V\n5,5\n6\n"]
 # A header of no bytes, one in small letters, and one of too few names.
 BEFORE_FAULTS = ["K,V\n1,1\n", "", "k,v\n5,5\n", "K\n6\n"]
 SALES = "ID,REGION,ITEM,UNITS\n1,north,pen,10\n2,north,ink,\n3,,pen,5\n4,south,pen,-2\n"
@@ -139,6 +141,19 @@ LOADS = [
             "put 1,9",
             "publish",
             ("report SELECT COUNT(*), SUM(V) FROM T", block(1, "COUNT(*) | SUM(V)", "2 | 14")),
+        ],
+    ),
+    (
+        "a second part without a column",
+        NARROW,
+        100,
+        [
+            "table T (K INT KEY, V INT)",
+            ("load 1 2", "refused 6 part 2 record 0"),
+            ("load 1 3", "refused 6 part 3 record 2"),
+            ("load 2 3", "refused 6 part 2 record 0"),
+            "publish",
+            ("report SELECT COUNT(*), SUM(V) FROM T", block(1, "COUNT(*) | SUM(V)", "0 | NULL")),
         ],
     ),
     (

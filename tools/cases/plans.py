@@ -142,6 +142,24 @@ NO_ROWS = [
     ("report SELECT COUNT(*) FROM W GROUP BY ROLLUP(A" + ", A" * 255 + ")", 14),
 ]
 MANY = [(SIXTEEN, None), ("report SELECT COUNT(*) FROM W GROUP BY CUBE(A" + ", A" * 199 + ")", 14)]
+# the same of nine columns, with DISTINCT and without
+TWO_HUNDRED = [
+    lines(
+        f"{distinct or 'a '}CUBE of a column two hundred times",
+        [(NINE, None), (f"report SELECT COUNT(*) FROM W GROUP BY {distinct}CUBE(A{', A' * 199})", 14)],
+    )
+    for distinct in ("", "DISTINCT ")
+]
+# 200 sets of four columns, all of them equal, over one row
+FOUR = "table W (A INT KEY, B INT, C INT, D INT)"
+EQUAL_SETS = f"GROUPING SETS ((A, B, C, D){', (D, C, B, A)' * 199})"
+FOURS = [
+    (FOUR, None),
+    ("put 1,2,,4", None),
+    ("publish", None),
+    (f"report SELECT A, D, C, COUNT(*) FROM W GROUP BY {EQUAL_SETS}", block("A | D | C | COUNT(*)", *["1 | 4 | NULL | 1"] * 200)),
+    (f"report SELECT A, D, C, COUNT(*) FROM W GROUP BY DISTINCT {EQUAL_SETS}", block("A | D | C | COUNT(*)", "1 | 4 | NULL | 1")),
+]
 
 # by the number of rows for which the condition is true, and for which its NOT is
 TRUE, FALSE, UNKNOWN = (1, 0), (0, 1), (0, 0)
@@ -174,6 +192,8 @@ CASES = [
     lines("numbers of grouping sets", reports((f"{COUNT} GROUP BY {elements}", gives) for elements, gives in NUMBERS)),
     lines("grouping sets of no rows", NO_ROWS),
     lines("a CUBE of two hundred columns", MANY),
+    *TWO_HUNDRED,
+    lines("two hundred sets of four columns", FOURS),
     lines("grouping sets", reports(LISTED)),
     lines("headings", reports(HEADINGS)),
     lines("three truths", reports(truths())),

@@ -1,5 +1,7 @@
 """How the program is started: its words, its files, its streams."""
 
+import gzip
+
 from cases.table import Case, Text
 
 TABLE = "table T (K INT KEY)\n"
@@ -10,6 +12,9 @@ SHAPE = TABLE + "put 2\nput 34\npublish\nshape\n"
 LOAD = TABLE + "load 1 2\nload 3\npublish\n" + COUNT
 ONE_CSV = "k\n1\n"
 TWO_CSV = b'\xef\xbb\xbfK\r\n"1"\r\n2\r\n'
+LARGE = TABLE + "load 1\npublish\nreport SELECT COUNT(*), MAX(K) FROM T\n"
+# (more than a pipe holds)
+LARGE_CSV = "K\n" + "".join(f"{key}\n" for key in range(100_000))
 LIMIT = "line 0 refused 15\n"
 LONG = "\n" * 1_048_577
 MORE = "\n\nFor more information, try '--help'.\n"
@@ -120,9 +125,26 @@ UNREAD = [
     Case("standard input that is a folder", [], {"folder": None}, "folder", status=2, errors="olap: cannot read -\n"),
 ]
 
-CASES = RUNS + HELP + REFUSED + UNREAD
+LOADED_WRITES = "line 3 refused 5\nline 5 edition 1\nCOUNT(*)\n2\n"
 
-# A full disk, and a reader that goes away after one line.
+# Standard input by the name that the system has for it, and files that the shell makes of what another program writes.
+# `-` is a file's name like any other.
+STREAMS = [
+    Case("a script as /dev/stdin", ["run", "/dev/stdin"], {"two.olap": TWO}, "two.olap", TWO_WRITES),
+    Case(
+        "a part as /dev/stdin",
+        ["run", "load.olap", "one.csv", "/dev/stdin"],
+        {"load.olap": LOAD, "one.csv": ONE_CSV, "two.csv": TWO_CSV},
+        "two.csv",
+        LOADED_WRITES,
+    ),
+    run("a file of the name -", ["-"], {"-": TWO}, TWO_WRITES),
+    Case("no file of the name -", ["run", "-"], {"two.olap": TWO}, "two.olap", status=2, errors="olap: cannot read -\n"),
+]
+
+CASES = RUNS + HELP + REFUSED + UNREAD + STREAMS
+
+# A full disk, a reader that goes away after one line, and what other programs write.
 WRITTEN_TO = [
     (
         run("a full disk", ["two.olap"], {"two.olap": TWO}, status=3, errors="olap: ended 92\n"),
@@ -138,5 +160,40 @@ WRITTEN_TO = [
             errors="olap: ended 92\n",
         ),
         'echo 0 > status; { "$@" 2> errors || echo $? > status; } | head -n 1',
+    ),
+    (
+        run("a script through a pipe", ["/dev/stdin"], {"two.olap": TWO}, TWO_WRITES),
+        'cat two.olap | { "$@" 2> errors; echo $? > status; }',
+    ),
+    (
+        run("a script through a pipe, with no words of its own", ["/dev/stdin"], {"long.olap": LONG}, LIMIT),
+        'cat long.olap | { "$1" 2> errors; echo $? > status; }',
+    ),
+    (
+        run(
+            "packed parts",
+            ["--workers", "2", "load.olap"],
+            {"load.olap": LOAD, "one.csv.gz": gzip.compress(ONE_CSV.encode()), "two.csv.gz": gzip.compress(TWO_CSV)},
+            LOADED_WRITES,
+        ),
+        '"$@" <(zcat one.csv.gz) <(zcat two.csv.gz) 2> errors; echo $? > status',
+    ),
+    (
+        run(
+            "a packed part through a pipe",
+            ["load.olap", "one.csv", "/dev/stdin"],
+            {"load.olap": LOAD, "one.csv": ONE_CSV, "two.csv.gz": gzip.compress(TWO_CSV)},
+            LOADED_WRITES,
+        ),
+        'zcat two.csv.gz | { "$@" 2> errors; echo $? > status; }',
+    ),
+    (
+        run(
+            "a large packed part",
+            ["large.olap"],
+            {"large.olap": LARGE, "large.csv.gz": gzip.compress(LARGE_CSV.encode())},
+            "line 4 edition 1\nCOUNT(*) | MAX(K)\n100000 | 99999\n",
+        ),
+        '"$@" <(zcat large.csv.gz) 2> errors; echo $? > status',
     ),
 ]

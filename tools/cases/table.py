@@ -2,6 +2,8 @@
 
 from dataclasses import dataclass, field
 
+import tails
+
 SCRIPT = "script.olap"
 
 
@@ -38,6 +40,28 @@ class OneOf(Text):
 
     def __str__(self):
         return " or ".join(map(repr, self.texts))
+
+
+@dataclass
+class Viewed(Text):
+    """What a script writes, and behind it a lawful tail of so many viewers and shots; `editions` has the lines of the report
+    on each edition, by its number."""
+
+    output: str = ""
+    viewers: int = 0
+    shots: int = 0
+    editions: dict = field(default_factory=dict)
+
+    def is_met_by(self, got):
+        return self.fault_in(got.decode(errors="backslashreplace")) is None
+
+    def fault_in(self, text):
+        if not text.startswith(self.output):
+            return "another output"
+        return tails.fault_of(text[len(self.output) :], self.viewers, self.shots, self.editions)
+
+    def __str__(self):
+        return f"({self.output!r} and a lawful tail of {self.viewers} viewers)"
 
 
 @dataclass

@@ -1,6 +1,6 @@
 """The words of the command line: options on both sides of their ranges, words that are refused, and help."""
 
-from cases.table import Case, Text
+from cases.table import Case, Text, Viewed, block, of_lines
 
 MORE = "\n\nFor more information, try '--help'.\n"
 RANGES = {
@@ -127,4 +127,52 @@ HELP = [
     help("live --help", ", 1 to 1000 [default: 1]\n"),
 ]
 
-CASES = OPTIONS + REFUSED + HELP
+# What the words say, by a script that shows it: how many rows the draft may have, the hash, which file is which part, and how
+# many viewers there are and how often they are asked. The parts have a fault each, P in its record 1 and Q in its record 2.
+# By the hash `fnv` the keys 1 and 257 have no digit in common at the front, and by `plain` one.
+SHOWN = "SELECT COUNT(*) FROM T"
+SHOWS = {"P": "K\nx\n", "Q": "K\n5\nx\n"}
+SHAPES = {"fnv": ["- 2"], "plain": ["- 2", "1 2"]}
+
+
+def fault(part, parts):
+    """What a load of the part gives."""
+    return f"refused 6 part {part} record {'_PQ'.index(parts[part - 1])}" if part <= len(parts) else 5
+
+
+def of_job(words, rows=3, hash="fnv", parts="", viewers=None, shots=None):
+    """The words beside the job that they say."""
+    lines = [
+        "table T (K INT KEY)",
+        *[f"put {key}" if place < rows else (f"put {key}", 9) for place, key in enumerate((1, 257))],
+        ("load 1", fault(1, parts)),
+        ("load 2", fault(2, parts)),
+        "publish",
+        ("shape", block(1, *(SHAPES[hash] if rows > 1 else []))),
+    ]
+    text, output = of_lines(lines)
+    if viewers:
+        editions = {0: ["COUNT(*)", "0"], 1: ["COUNT(*)", str(min(rows, 2))]}
+        output = Viewed(output=output, viewers=viewers, shots=shots, editions=editions)
+    return Case(f"{' '.join(words)}, by what it shows", words, {**SHOWS, "S": text}, output=output)
+
+
+JOBS = [
+    of_job(["run", "S"]),
+    of_job(["run", "S", "P"], parts="P"),
+    of_job(["run", "S", "P", "Q"], parts="PQ"),
+    of_job(["run", "S", "Q", "P"], parts="QP"),
+    of_job(["run", "S", "Q", "Q"], parts="QQ"),
+    of_job(["run", "--", "S", "Q"], parts="Q"),
+    of_job(["run", "S", "--rows", "1"], rows=1),
+    of_job(["run", "S", "--rows", "2"], rows=2),
+    of_job(["run", "--hash", "plain", "S"], hash="plain"),
+    of_job(["run", "--hash=fnv", "S"]),
+    of_job(["run", "--workers", "7", "S", "--depth=13", "P", "--small", "5", "--hash", "plain", "Q", "--rows=2"], 2, "plain", "PQ"),
+    of_job(["live", "S", "--query", SHOWN], viewers=2, shots=1),
+    of_job(["live", "--query", SHOWN, "--viewers", "1", "S", "Q"], parts="Q", viewers=1, shots=1),
+    of_job(["live", "--query", SHOWN, "--viewers=16", "--shots", "3", "S"], viewers=16, shots=3),
+    of_job(["live", "--shots=7", "--rows", "1", "S", f"--query={SHOWN}", "--hash=plain", "P", "P"], 1, "plain", "PP", 2, 7),
+]
+
+CASES = OPTIONS + REFUSED + HELP + JOBS

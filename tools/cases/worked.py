@@ -1,5 +1,5 @@
-"""Worked reports: queries over sales and other tables, and their bytes, under both hashes and at three depths, and by two
-workers."""
+"""Worked reports: queries over sales and other tables, and their bytes, each in a script of its own, under both hashes and at
+three depths, and by two and 64 workers."""
 
 from cases.table import block, lines_by
 
@@ -26,6 +26,7 @@ TEXTS = [
     "put 5,late,1",
 ]
 WIDE = ["table W (A INT KEY, B INT, C INT, D INT, E INT, F INT, G INT, H INT, I INT)"]
+SUMS = "SELECT REGION, SUM(UNITS) FROM SALES GROUP BY ROLLUP(REGION)"
 LETTERS = ", ".join("ABCDEFGHIJKLMNOP")
 SIXTEEN = [
     "table S (A INT KEY" + "".join(f", {letter} INT" for letter in "BCDEFGHIJKLMNOP") + ")",
@@ -147,6 +148,54 @@ REPORTS = [
             "NULL | 2 | 2",
         ),
     ),
+    (
+        "the first of equal sets",
+        SALES,
+        "SELECT REGION, ITEM, GROUPING(REGION, ITEM), COUNT(*) FROM SALES"
+        " GROUP BY DISTINCT GROUPING SETS (REGION, ITEM, ROLLUP(REGION))",
+        block(
+            1,
+            "REGION | ITEM | GROUPING(REGION, ITEM) | COUNT(*)",
+            "NULL | NULL | 1 | 1",
+            "'north' | NULL | 1 | 2",
+            "'south' | NULL | 1 | 1",
+            "NULL | 'ink' | 2 | 1",
+            "NULL | 'pen' | 2 | 3",
+            "NULL | NULL | 3 | 4",
+        ),
+    ),
+    (
+        "groups of which some stay",
+        SALES,
+        f"{SUMS} HAVING SUM(UNITS) > 0 AND COUNT(*) < 4",
+        block(1, "REGION | SUM(UNITS)", "NULL | 5", "'north' | 10"),
+    ),
+    (
+        "groups of NULL and a subtotal that stay",
+        SALES,
+        f"{SUMS} HAVING REGION IS NULL",
+        block(1, "REGION | SUM(UNITS)", "NULL | 5", "NULL | 13"),
+    ),
+    (
+        "the one group of no rows, which is dropped",
+        SALES,
+        "SELECT COUNT(*) FROM SALES WHERE UNITS > 100 HAVING SUM(UNITS) > 0",
+        block(1, "COUNT(*)"),
+    ),
+    (
+        "the one group of no rows, which stays",
+        SALES,
+        "SELECT COUNT(*) FROM SALES WHERE UNITS > 100 HAVING SUM(UNITS) IS NULL",
+        block(1, "COUNT(*)", "0"),
+    ),
+    (
+        "a sum that is compared beyond 64 bits",
+        GREAT,
+        "SELECT SUM(V) FROM T HAVING SUM(V) > 9223372036854775807",
+        block(1, "SUM(V)", "27670116110564327421"),
+    ),
+    ("HAVING of a column that is in no set", SALES, "SELECT REGION FROM SALES GROUP BY REGION HAVING ITEM = 'pen'", 12),
+    ("HAVING of a text beside a number", SALES, "SELECT REGION FROM SALES GROUP BY REGION HAVING REGION = 1", 13),
     ("a column that is in no set", SALES, "SELECT ITEM, COUNT(*) FROM SALES GROUP BY REGION", 12),
     ("a sum of texts", SALES, "SELECT ITEM, SUM(REGION) FROM SALES GROUP BY UNITS", 13),
     ("a name that is no column", SALES, "SELECT ITEM, SUM(REGION) FROM SALES GROUP BY X", 11),
@@ -190,7 +239,7 @@ REPORTS = [
 ]
 
 OPTIONS = [("--depth", depth, "--hash", hash) for depth in ("0", "1", "13") for hash in ("fnv", "plain")]
-OPTIONS.append(("--workers", "2", "--depth", "13"))
+OPTIONS += [("--workers", workers, "--depth", "13") for workers in ("2", "64")]
 
 CASES = [
     case

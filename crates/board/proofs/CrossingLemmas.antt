@@ -24,7 +24,6 @@ use Rattle.board.specs.contracts.told.Told as Told
 use Rattle.board.specs.contracts.viewer.Viewer as Viewer
 use Rattle.cells.specs.contracts.cell.Cell as CellType
 use Rattle.cells.specs.contracts.row.Row as RowType
-use Rattle.cells.specs.contracts.schema.Schema as SchemaType
 use Rattle.cells.specs.declared.cell.Cell.{Cell}
 use Rattle.cells.specs.declared.hash.KeyHash as KeyHash
 use Rattle.std.specs.contracts.alloc.Global as Global
@@ -46,69 +45,39 @@ module _ (K V : RattleType) (ks : IsSend K) (ky : IsSync K) (vs : IsSend V) (vy 
         let layer : IsSync (row (Inner.the_layer K V h)) = search (sendable, crosses) depth 40 in layer;
   }
 
-  hole_send : IsSend (Inner.the_hole K V)
-  hole_send = both_send (Inner.the_ring K V) (Inner.by_members K V (Crosses (Inner.the_ring K V)) inner_crosses) (Inner.the_member K V)
+  hole : IsSend (Inner.the_hole K V) × IsSync (Inner.the_hole K V)
+  hole = (
+    both_send (Inner.the_ring K V) (Inner.by_members K V (Crosses (Inner.the_ring K V)) inner_crosses) (Inner.the_member K V),
+    both_sync (Inner.the_ring K V) (Inner.by_members K V (Crosses (Inner.the_ring K V)) inner_crosses) (Inner.the_member K V),
+  )
 
-  hole_sync : IsSync (Inner.the_hole K V)
-  hole_sync = both_sync (Inner.the_ring K V) (Inner.by_members K V (Crosses (Inner.the_ring K V)) inner_crosses) (Inner.the_member K V)
+  inner : IsSend (Inner.the_field K V).row × IsSync (Inner.the_field K V).row
+  inner = let sent = hole.0 in let shared = hole.1 in (search (sendable, crosses) depth 40, search (sendable, crosses) depth 40)
 
-  inner_send : IsSend (Inner.the_field K V).row
-  inner_send = let sent = hole_send in let shared = hole_sync in search (sendable, crosses) depth 40
+  node_crosses : IsSend (node K V) × IsSync (node K V)
+  node_crosses = let sent = inner.0 in let shared = inner.1 in (search (sendable, crosses) depth 40, search (sendable, crosses) depth 40)
 
-  inner_sync : IsSync (Inner.the_field K V).row
-  inner_sync = let sent = hole_send in let shared = hole_sync in search (sendable, crosses) depth 40
+-- ---- cells, rows, and the nodes of a table
+cell : IsSend CellType.the_row × IsSync CellType.the_row
+cell = (search (sendable, crosses) depth 40, search (sendable, crosses) depth 40)
 
-  node_send : IsSend (node K V)
-  node_send = let send = inner_send in let sync = inner_sync in search (sendable, crosses) depth 40
+row_crosses : IsSend RowType.the_row × IsSync RowType.the_row
+row_crosses = let sent = cell.0 in let shared = cell.1 in (search (sendable, crosses) depth 40, search (sendable, crosses) depth 40)
 
-  node_sync : IsSync (node K V)
-  node_sync = let send = inner_send in let sync = inner_sync in search (sendable, crosses) depth 40
-
--- ---- cells, tuples, rows, and the nodes of a table
-cell_send : IsSend CellType.the_row
-cell_send = search (sendable, crosses) depth 40
-
-cell_sync : IsSync CellType.the_row
-cell_sync = search (sendable, crosses) depth 40
-
-row_send : IsSend RowType.the_row
-row_send = let cell = cell_send in search (sendable, crosses) depth 40
-
-row_sync : IsSync RowType.the_row
-row_sync = let cell = cell_sync in search (sendable, crosses) depth 40
-
-rows_send : IsSend (node CellType.the_row RowType.the_row)
-rows_send = node_send _ _ cell_send cell_sync row_send row_sync
-
-rows_sync : IsSync (node CellType.the_row RowType.the_row)
-rows_sync = node_sync _ _ cell_send cell_sync row_send row_sync
-
-schema_send : IsSend SchemaType.the_row
-schema_send = search (sendable, crosses) depth 40
-
-schema_sync : IsSync SchemaType.the_row
-schema_sync = search (sendable, crosses) depth 40
+rows : IsSend (node CellType.the_row RowType.the_row) × IsSync (node CellType.the_row RowType.the_row)
+rows = node_crosses _ _ cell.0 cell.1 row_crosses.0 row_crosses.1
 
 -- ---- what was told, which has no bytes
-pub badge_send : IsSend (Badge.the_row View.the_row)
-badge_send = TheBadge.the_send View.the_row
-
 pub told_send : IsSend Told.the_field.row
-told_send = let badge = badge_send in search (sendable, crosses) depth 40
+told_send = let badge = TheBadge.the_send View.the_row in search (sendable, crosses) depth 40
 
 -- ---- snapshots, the board, and viewers
 module _ (H : RattleType) (cells : KeyHash.Ghosts H.Denot Cell) (s : IsSend H) (y : IsSync H) where
   pub root_send : IsSend (Root.the_field H cells).row
-  root_send = let send = rows_send in let sync = rows_sync in search (sendable, crosses) depth 40
-
-  beside_send : IsSend (Beside.the_row H cells)
-  beside_send = TheBeside.the_send H cells
-
-  beside_sync : IsSync (Beside.the_row H cells)
-  beside_sync = TheBeside.the_sync H cells
+  root_send = let send = rows.0 in let sync = rows.1 in search (sendable, crosses) depth 40
 
   pub snapshot_send : IsSend (Snapshot.the_field H cells).row
-  snapshot_send = let root = root_send in let sent = beside_send in let shared = beside_sync in search (sendable, crosses) depth 40
+  snapshot_send = let root = root_send in let sent = TheBeside.the_send H cells in let shared = TheBeside.the_sync H cells in search (sendable, crosses) depth 40
 
   abbrev slot : RattleType
   slot = OptionType.the_row (Snapshot.the_row H cells)
@@ -119,14 +88,11 @@ module _ (H : RattleType) (cells : KeyHash.Ghosts H.Denot Cell) (s : IsSend H) (
   abbrev board : RattleType
   board = Table.the_row slot View.the_row About.the_row Law.the_row Global.the_row (Rule.ghosts H cells Rule.no_dict) Heap.ghosts
 
-  board_send : IsSend board
-  board_send = let slot = slot_send in search (TheShared.the_send, TheLease.the_send, sendable, crosses) depth 40
-
-  board_sync : IsSync board
-  board_sync = let slot = slot_send in search (TheShared.the_sync, TheLease.the_sync, sendable, crosses) depth 40
+  board_crosses : IsSend board × IsSync board
+  board_crosses = let slot = slot_send in (search (TheShared.the_send, TheLease.the_send, sendable, crosses) depth 40, search (TheShared.the_sync, TheLease.the_sync, sendable, crosses) depth 40)
 
   reader_send : IsSend (Reader.the_field H cells).row
-  reader_send = let send = board_send in let sync = board_sync in let badge = badge_send in search (sendable, crosses) depth 40
+  reader_send = let send = board_crosses.0 in let sync = board_crosses.1 in let badge = TheBadge.the_send View.the_row in search (sendable, crosses) depth 40
 
   pub viewer_send : IsSend (Viewer.the_field H cells).row
-  viewer_send = let reader = reader_send in let schema = schema_send in let shared = schema_sync in search (sendable, crosses) depth 40
+  viewer_send = let reader = reader_send in search (sendable, crosses) depth 40

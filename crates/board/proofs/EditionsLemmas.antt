@@ -1,10 +1,11 @@
--- How many rows a draft has.
+-- What a draft may be, and how many rows it has.
 use Rattle.std.proofs.Common.{◌≡◌, ℕ, ◌+◌, ◌-◌, ◌≤◌, Bool, true, false, None, Some, Option, refl, ◌∙◌, arith, cond}
 use Rattle.std.specs.FinMap.{contains_key, empty, get, insert, len, len-empty, len-insert, len-remove, remove}
 use Rattle.cells.specs.CellOrder.{cell_cmp, cell_cmp-total}
 use Rattle.cells.specs.Values.{RowValue}
 use Rattle.cells.specs.declared.cell.Cell.{Cell}
-use Rattle.cells.specs.Tables.{Rows}
+use Rattle.cells.specs.Tables.{AreRowsOf, Rows}
+use Rattle.board.specs.Editions.{Editions, IsKept, limit, schema}
 
 -- no rows keep any limit
 pub empty_within : (rows : Rows) (most : ℕ) → rows ≡ empty → len rows ≤ most
@@ -21,6 +22,18 @@ remove_within old new key most is within =
 -- the same rows keep it
 pub same_within : (old new : Rows) (most : ℕ) → new ≡ old → len old ≤ most → len new ≤ most
 same_within old new most is within = rw is within
+
+-- a keeper whose draft has other rows of the table, within its limit
+pub kept_draft : (k : Editions) (rows : Rows) → IsKept k → AreRowsOf (schema k) rows → len rows ≤ limit k → IsKept (record k { drafted = rows })
+kept_draft k rows kept fit within = record {
+  some = kept.some;
+  most = kept.most;
+  within = within;
+  drafted = fit;
+  begun = kept.begun;
+  last = kept.last;
+  published = kept.published;
+}
 
 -- what the calls of a keeper make of rows that keep a limit keeps it
 pub ruleset limit_stays = (empty_within, remove_within, same_within)

@@ -107,10 +107,6 @@ last_rows_push [] x = refl
 last_rows_push (y ∷ []) x = refl
 last_rows_push (y ∷ z ∷ ys) x = last_rows_push (z ∷ ys) x
 
-pub all_one : {X : Type 0} (P : X → Type 0) (x : X) → P x → All P (x ∷ [])
-all_one P x p zero d low = p
-all_one P x p (suc k) d low = absurd (omega arith)
-
 pub zeros_at : (m i : ℕ) → ◌≡◌ {A = ℕ} (get_or (replicate m 0) i 0) 0
 zeros_at zero i = refl
 zeros_at (suc m) zero = refl

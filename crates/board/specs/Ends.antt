@@ -1,13 +1,11 @@
 -- The ends of the board between two calls: a viewer's, what was told, and the keeper's.
-use Rattle.std.specs.Prelude.{◌≡◌, ℕ, ◌+◌, ◌-◌, ◌*◌, ◌<◌, List, [], ◌∷◌, Option, Some, None}
-use Rattle.std.specs.FinMap as map
+use Rattle.std.specs.Prelude.{◌≡◌, ℕ, ◌+◌, ◌-◌, ◌*◌, ◌<◌, List, [], ◌∷◌, Option}
 use mathlib.Core.List.{IsPrefix}
 use Rattle.atomic_table.specs.declared.badge.Badge.{Badge}
 use Rattle.atomic_table.specs.declared.shared.Seat.{Seat}
-use Rattle.cells.specs.Values.{Table}
-use Rattle.board.specs.Editions.{BeginWithAll, Edition, History, IsHistory, IsLastOf}
-use Rattle.board.specs.Law.{keeping, nobody, plan_of}
-use Rattle.board.specs.declared.law.Plan.{Plan}
+use Rattle.board.specs.Editions.{BeginWithAll, Edition, IsHistory}
+use Rattle.board.specs.Law.{keeping, nobody, progress_of}
+use Rattle.board.specs.declared.law.Progress.{Progress}
 use Rattle.board.specs.declared.law.View.{View}
 
 abbrev pub first_view : List View → View
@@ -26,24 +24,19 @@ pub record HasLooked (v w : View) : Type 0 where
   pub told : w.told ≡ []
   pub schema : w.schema ≡ v.schema
 
--- the snapshot of a side of a box, where nothing stands for edition 0
-abbrev pub IsCopy : Table → Option Edition → Edition → Type 0
-IsCopy table None s = s ≡ record { number = 0; rows = map.empty; schema = table }
-IsCopy table (Some e) s = s ≡ e
-
-abbrev pub plan_at : Seat (Option Edition) View → Plan
-plan_at s = plan_of s.me.0.role
+abbrev pub progress_at : Seat (Option Edition) View → Progress
+progress_at s = progress_of s.me.0.role
 
 -- the seat is the keeper's, and has no slot: the boxes up to `done` show the last edition
 abbrev pub IsAt : ℕ → Seat (Option Edition) View → Type 0
-IsAt done s = s.me ≡ (keeping (record (plan_at s) { done = done; hand = 0 }) s.me.0.schema s.me.0.seen, [])
+IsAt done s = s.me ≡ (keeping (record (progress_at s) { done = done; hand = 0 }) s.me.0.schema s.me.0.seen, [])
 
 -- the seat is the keeper's, and has the hidden side of a box, which shows the other side; the boxes before show the last
 -- edition
 pub record HasSide (word side : ℕ) (s : Seat (Option Edition) View) : Type 0 where
   pub low : side < 2
   pub found : Option Edition
-  pub at : s.me ≡ (keeping (record (plan_at s) { done = word - 1; hand = word; side = side }) s.me.0.schema s.me.0.seen, (2 * word + (1 - side), found) ∷ [])
+  pub at : s.me ≡ (keeping (record (progress_at s) { done = word - 1; hand = word; side = side }) s.me.0.schema s.me.0.seen, (2 * word + (1 - side), found) ∷ [])
 
 -- the keeper takes the hidden side of a box, and has seen as much
 pub record TakesSide (word side : ℕ) (s t : Seat (Option Edition) View) : Type 0 where
@@ -51,7 +44,7 @@ pub record TakesSide (word side : ℕ) (s t : Seat (Option Edition) View) : Type
   pub has : HasSide word side t
   pub seen : t.me.0.seen ≡ s.me.0.seen
   pub schema : t.me.0.schema ≡ s.me.0.schema
-  pub made : (plan_at t).made ≡ (plan_at s).made
+  pub made : (progress_at t).made ≡ (progress_at s).made
 
 -- the keeper goes on: its boxes up to `done` show the last edition
 pub record GoesOn (done : ℕ) (s t : Seat (Option Edition) View) : Type 0 where
@@ -59,9 +52,4 @@ pub record GoesOn (done : ℕ) (s t : Seat (Option Edition) View) : Type 0 where
   pub at : IsAt done t
   pub seen : t.me.0.seen ≡ s.me.0.seen
   pub schema : t.me.0.schema ≡ s.me.0.schema
-  pub made : (plan_at t).made ≡ (plan_at s).made
-
--- it is the last edition of the history, of that table
-pub record IsEnd (seen : History) (table : Table) (e : Edition) : Type 0 where
-  pub last : IsLastOf seen e.number e.rows
-  pub schema : e.schema ≡ table
+  pub made : (progress_at t).made ≡ (progress_at s).made

@@ -43,9 +43,9 @@ impl<H: KeyHash<Cell>> RowsOf<H> {
 }
 
 impl<H: KeyHash<Cell>> Promise<Columns<H>> for RowsOf<H> {
-    ghost use Rattle.board.specs.Beside.{HoldEdition};
+    ghost use Rattle.board.specs.Beside.{AreColumnsOf};
 
-    ghost kept_by = { λ rows columns. HoldEdition rows columns };
+    ghost kept_by = { λ rows columns. AreColumnsOf rows columns };
 }
 
 /// What lies beside an edition's rows. All snapshots of the edition share it.
@@ -74,8 +74,8 @@ impl<H: KeyHash<Cell>> Beside<H> {
         })
     }
 
-    /// As of [`Snapshot::columns`](crate::Snapshot::columns).
-    pub(crate) fn columns(&self) -> Option<&Shelf<Columns<H>, RowsOf<H>>>
+    /// As of [`Snapshot::columns_if_asked_before`](crate::Snapshot::columns_if_asked_before).
+    pub(crate) fn columns_if_asked_before(&self) -> Option<&Shelf<Columns<H>, RowsOf<H>>>
         ensures { IfSome result (λ shelf. shelf.now ≡ self.now.columns) }
     {
         if self.asked.swap(true, SeqCst) {

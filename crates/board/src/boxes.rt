@@ -1,7 +1,8 @@
 //! The boxes of the viewers, as their keeper fills them. A box has two sides: the keeper writes the hidden one and then
 //! turns the box, so that no viewer ever waits for the keeper.
 ghost use Rattle.std.specs.Prelude.{◌≡◌, ◌≢◌, ◌+◌, ◌-◌, ◌<◌, ◌≤◌, length, All, IfSome, None};
-ghost use Rattle.board.specs.Ends.{GoesOn, HasSide, IsAt, IsEnd, TakesSide, plan_at};
+ghost use Rattle.board.specs.Ends.{GoesOn, HasSide, IsAt, TakesSide, progress_at};
+ghost use Rattle.board.specs.Law.{IsEnd};
 
 use crate::law::{About, Flip, Grab, Law, Place, View};
 use crate::snapshot::Snapshot;
@@ -18,7 +19,7 @@ fn take_side<H: KeyHash<Cell>>(boxes: &Boxes<H>, seat: &mut Place<H>, word: usiz
     requires ready { IsAt (word - 1) seat.old }
     ensures taken { IfSome result (λ side. TakesSide word side seat.old seat.new) }
     ensures busy { result ≡ None → (seat.new.me ≡ seat.old.me) × (seat.new.table_id ≡ seat.old.table_id) }
-    ensures free { (plan_at seat.old).made < word → result ≢ None }
+    ensures free { (progress_at seat.old).made < word → result ≢ None }
 {
     let found = boxes.load::<Grab>(seat, word);
     if found < 2 {
@@ -74,7 +75,7 @@ pub(crate) fn fill_new<H: KeyHash<Cell>>(
 )
     requires table { (seat.old.table_id ≡ boxes.now.table_id) × (word < boxes.now.table_id.words) × (0 < word) × (word ≤ boxes.now.key.places) × (word < 1024) }
     requires ready { IsAt (word - 1) seat.old }
-    requires new { (plan_at seat.old).made < word }
+    requires new { (progress_at seat.old).made < word }
     requires last { IsEnd seat.old.me.0.seen seat.old.me.0.schema edition }
     ensures { GoesOn word seat.old seat.new }
 {

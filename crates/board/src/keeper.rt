@@ -163,17 +163,13 @@ impl<H: KeyHash<Cell>> Keeper<H> {
         ensures viewer { IfOk result (IsNewViewer self.old) }
         ensures refused { IfErr result (λ e. e ≡ Refused.NotShown) }
     {
-        let (Ok(schema), Ok(last)) = (self.last.share_schema(), self.last.share()) else {
+        let Ok(last) = self.last.share() else {
             return Err(Refused::NotShown);
         };
         let Some(reader) = self.writer.reader(last) else {
             return Err(Refused::NotShown);
         };
-        Ok(Viewer {
-            alloc: self.alloc,
-            reader,
-            schema,
-        })
+        Ok(Viewer { reader })
     }
 
     /// Ends the keeper. Snapshots stay as they are, and viewers go on seeing the last edition. It takes no memory.

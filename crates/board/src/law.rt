@@ -27,8 +27,8 @@ impl Model for EditionRows {
     ghost view = { λ _. empty };
 }
 
-/// What the keeper is at.
-pub struct Plan {
+/// How far the keeper is.
+pub struct Progress {
     /// The boxes up to this one show the last edition.
     pub done: u64,
     /// The box whose hidden side the keeper has, or 0.
@@ -43,7 +43,7 @@ pub struct Plan {
 /// side.
 pub enum Role {
     Noted,
-    Keeping(Plan),
+    Keeping(Progress),
     Outside(u64),
     Inside(u64, u64),
 }

@@ -1,15 +1,15 @@
 //! A viewer's end of the board.
-ghost use Rattle.std.specs.Prelude.{◌≡◌, ◌+◌, ◌<◌, ◌≤◌, [], ◌∷◌, ◌++◌, IfOk};
+ghost use Rattle.std.specs.Prelude.{◌≡◌, ◌≢◌, ◌+◌, ◌<◌, ◌≤◌, [], ◌∷◌, ◌++◌, IfOk, None, Some};
 ghost use Rattle.std.specs.Arc.{arc_value};
-ghost use Rattle.board.specs.Editions.{IsLastOf};
-ghost use Rattle.board.specs.Ends.{HasLooked, IsCopy, IsEnd, known};
+ghost use Rattle.board.specs.Ends.{HasLooked, known};
+ghost use Rattle.board.specs.Law.{IsEnd};
 ghost use Rattle.board.specs.declared.law.Role.TheVariants.{Noted, Outside};
 
 use crate::law::{Board, Enter, Leave, Place, Tell, View};
 use crate::snapshot::Snapshot;
 use atomic_table::Badge;
-use cells::{Cell, KeyHash, Schema};
-use std::alloc::{AllocError, Global};
+use cells::{Cell, KeyHash};
+use std::alloc::AllocError;
 use std::mem::replace;
 use std::sync::Arc;
 
@@ -24,34 +24,23 @@ pub(crate) struct Reader<H: KeyHash<Cell>> {
     ghost out: { (badge.views ≡ known badge ∷ []) × ((known badge).role ≡ Outside index) },
 }
 
-/// The edition that a side of a box holds.
-fn copy_of<H: KeyHash<Cell>>(
-    alloc: Global,
-    schema: &Arc<Schema>,
-    held: &Option<Snapshot<H>>,
-) -> Result<Snapshot<H>, AllocError>
-    ensures { IfOk result (IsCopy schema.now.value held.now) }
+/// One owner more of the edition that a side of a box holds.
+fn copy_of<H: KeyHash<Cell>>(held: &Option<Snapshot<H>>) -> Result<Snapshot<H>, AllocError>
+    requires { held.now ≢ None }
+    ensures { IfOk result (λ s. held.now ≡ Some s) }
 {
     match held {
         Some(snapshot) => snapshot.share(),
-        None => {
-            let schema = Arc::try_clone(schema)?;
-            Snapshot::first(alloc, schema)
-        }
+        None => unreachable!(),
     }
 }
 
 impl<H: KeyHash<Cell>> Reader<H> {
     /// The edition that the box shows. The viewer enters its box, and leaves it whatever the answer.
-    pub(crate) fn look(
-        &mut self,
-        alloc: Global,
-        schema: &Arc<Schema>,
-    ) -> Result<Snapshot<H>, AllocError>
-        requires { (known self.old.badge).schema ≡ schema.now.value }
+    pub(crate) fn look(&mut self) -> Result<Snapshot<H>, AllocError>
         ensures board { self.new.badge.table_id ≡ self.old.badge.table_id }
         ensures looked { HasLooked (known self.old.badge) (known self.new.badge) }
-        ensures shown { IfOk result (IsEnd (known self.new.badge).seen schema.now.value) }
+        ensures shown { IfOk result (IsEnd (known self.new.badge).seen (known self.old.badge).schema) }
     {
         let mut seat: Place<H> = replace(&mut self.badge, Badge::blank()).into_seat();
         let table = &self.table;
@@ -59,7 +48,7 @@ impl<H: KeyHash<Cell>> Reader<H> {
         let side = top.fetch_add::<Enter>(&mut seat, self.index, 2) as usize;
         let slot = 2 * self.index + side;
         let held = top.exchange(&mut seat, slot, None);
-        let copy = copy_of(alloc, schema, &held);
+        let copy = copy_of(&held);
         top.exchange(&mut seat, slot, held);
         top.fetch_sub::<Leave>(&mut seat, self.index, 2);
         self.badge = seat.into_badge();

@@ -118,11 +118,11 @@ impl<H: KeyHash<Cell>> Snapshot<H> {
     }
 
     /// The shelf for the columns of the edition's rows, which all snapshots of the edition share. The first call for an edition
-    /// answers None, so that who asks an edition once pays for no columns. It takes no memory.
-    pub fn columns(&self) -> Option<&Shelf<Columns<H>, RowsOf<H>>>
+    /// answers None and marks it as asked, so that who asks an edition once pays for no columns. It takes no memory.
+    pub fn columns_if_asked_before(&self) -> Option<&Shelf<Columns<H>, RowsOf<H>>>
         ensures { IfSome result (λ shelf. shelf.now ≡ self.now.rows) }
     {
         let beside = &self.beside;
-        beside.columns()
+        beside.columns_if_asked_before()
     }
 }

@@ -5,22 +5,17 @@ ghost use Rattle.board.specs.Editions.{IsLastOf, Learns, Looks};
 use crate::reader::Reader;
 use crate::snapshot::Snapshot;
 use crate::told::Told;
-use cells::{Cell, KeyHash, Refused, Schema};
-use std::alloc::Global;
+use cells::{Cell, KeyHash, Refused};
 use std::marker::Model;
-use std::sync::Arc;
 
 /// Sees what a keeper publishes, from any thread. What it knows is a beginning of the keeper's history: what it has seen,
 /// and what it was told of.
 #[derive(Drop)]
 pub struct Viewer<H: KeyHash<Cell>> {
-    pub(crate) alloc: Global,
     pub(crate) reader: Reader<H>,
-    pub(crate) schema: Arc<Schema>,
 }
 
 impl<H: KeyHash<Cell>> Model for Viewer<H> {
-    ghost use Rattle.std.specs.Prelude.{◌≡◌};
     ghost use Rattle.board.specs.Editions.{Known, coded_known};
     ghost use Rattle.board.specs.Ends.{known};
 
@@ -28,9 +23,7 @@ impl<H: KeyHash<Cell>> Model for Viewer<H> {
 
     ghost coded = { coded_known };
 
-    ghost view = { λ v. record { history = (known v.reader.badge).seen; told = (known v.reader.badge).told; board = v.reader.badge.table_id; schema = v.schema.value } };
-
-    ghost invariant = { λ v. (known v.reader.badge).schema ≡ v.schema.value };
+    ghost view = { λ v. record { history = (known v.reader.badge).seen; told = (known v.reader.badge).told; board = v.reader.badge.table_id; schema = (known v.reader.badge).schema } };
 }
 
 impl<H: KeyHash<Cell>> Viewer<H> {
@@ -53,6 +46,6 @@ impl<H: KeyHash<Cell>> Viewer<H> {
         ensures schema { IfOk result (λ s. s.schema ≡ self.old.schema) }
         ensures refused { IfErr result (λ e. e ≡ Refused.OutOfMemory) }
     {
-        Ok(self.reader.look(self.alloc, &self.schema)?)
+        Ok(self.reader.look()?)
     }
 }

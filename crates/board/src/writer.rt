@@ -2,7 +2,8 @@
 ghost use Rattle.std.specs.Prelude.{◌≡◌, ◌+◌, ◌<◌, ◌≤◌, [], ◌∷◌, ◌++◌, length, All, IfOk, IfSome};
 ghost use Rattle.std.specs.FinMap as map;
 ghost use Rattle.std.specs.Arc.{arc_value};
-ghost use Rattle.board.specs.Ends.{IsAt, IsEnd, known, plan_at};
+ghost use Rattle.board.specs.Ends.{IsAt, known, progress_at};
+ghost use Rattle.board.specs.Law.{IsEnd};
 ghost use Rattle.board.specs.Limits.{place_limit};
 ghost use Rattle.board.specs.declared.law.Role.TheVariants.{Noted};
 
@@ -25,7 +26,7 @@ pub(crate) struct Writer<H: KeyHash<Cell>> {
     ghost seated: { seat.table_id ≡ (arc_value table).shared.table_id },
     ghost sized: { ((arc_value table).shared.key.places ≡ places) × (seat.table_id.words ≡ places + 1) × (0 < places) × (places ≤ place_limit) },
     ghost resting: { IsAt made seat },
-    ghost counted: { ((plan_at seat).made ≡ made) × (made ≤ places) },
+    ghost counted: { ((progress_at seat).made ≡ made) × (made ≤ places) },
 }
 
 /// Adds an edition to the history, in one step, and gives it back.
@@ -35,10 +36,10 @@ fn append<H: KeyHash<Cell>>(
     edition: Snapshot<H>,
 ) -> Snapshot<H>
     requires table { (seat.old.table_id ≡ boxes.now.table_id) × (0 < boxes.now.table_id.words) }
-    requires ready { IsAt (plan_at seat.old).done seat.old }
+    requires ready { IsAt (progress_at seat.old).done seat.old }
     requires next { (length seat.old.me.0.seen ≡ edition.number) × (0 < edition.number) }
     ensures result { result ≡ edition }
-    ensures same { (seat.new.table_id ≡ seat.old.table_id) × IsAt 0 seat.new × ((plan_at seat.new).made ≡ (plan_at seat.old).made) × (seat.new.me.0.schema ≡ seat.old.me.0.schema) }
+    ensures same { (seat.new.table_id ≡ seat.old.table_id) × IsAt 0 seat.new × ((progress_at seat.new).made ≡ (progress_at seat.old).made) × (seat.new.me.0.schema ≡ seat.old.me.0.schema) }
     ensures seen { seat.new.me.0.seen ≡ seat.old.me.0.seen ++ edition.rows ∷ [] }
 {
     let number = edition.edition();

@@ -1,5 +1,5 @@
 //! A text that contracts see as the list of its bytes.
-ghost use Rattle.std.specs.Prelude.{◌≡◌, Some, IfOk, bytes_eq, string_bytes, refl};
+ghost use Rattle.std.specs.Prelude.{◌≡◌, ◌<◌, Some, IfOk, OnErr, bytes_eq, length, string_bytes, refl};
 ghost use Rattle.std.specs.Cmp;
 ghost use Rattle.std.specs.Cmp.Lexicographic.{nat_list_cmp_total, nat_list_eq_equiv, texts_po, texts_ties};
 ghost use Rattle.cells.specs.TextOrder.{bytes_cmp};
@@ -35,9 +35,10 @@ impl Model for Text {
 }
 
 impl Text {
-    /// The text of a string. Up to 14 bytes take no memory.
+    /// The text of a string. Up to 14 bytes take no memory, so want of memory comes of a longer one alone.
     pub fn new(alloc: Global, string: String) -> Result<Text, AllocError>
-        ensures { IfOk result (λ text. text ≡ string_bytes string) }
+        ensures bytes { IfOk result (λ text. text ≡ string_bytes string) }
+        ensures long { OnErr result (14 < length (string_bytes string)) }
     {
         if string.len() <= SHORT_BYTES {
             return Ok(Text {
@@ -49,9 +50,10 @@ impl Text {
         })
     }
 
-    /// A copy of the characters. Up to 14 bytes take no memory.
+    /// A copy of the characters. Up to 14 bytes take no memory, so want of memory comes of a longer one alone.
     pub fn copied(alloc: Global, characters: &str) -> Result<Text, AllocError>
-        ensures { IfOk result (λ text. text ≡ characters.now) }
+        ensures bytes { IfOk result (λ text. text ≡ characters.now) }
+        ensures long { OnErr result (14 < length characters.now) }
     {
         if characters.len() <= SHORT_BYTES {
             return Ok(Text {

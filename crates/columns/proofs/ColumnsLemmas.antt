@@ -1,18 +1,13 @@
 -- Codes, and the cells that they stand for.
-use Rattle.std.specs.Prelude.{◌≡◌, ℕ, zero, suc, ◌+◌, ◌<◌, List, [], ◌∷◌, ◌++◌, length, map, take, refl}
+use Rattle.std.specs.Prelude.{◌≡◌, ℕ, ◌+◌, ◌<◌, List, [], ◌∷◌, ◌++◌, length, map, take, refl}
 use Rattle.std.proofs.Common.{get_or, ap, ap₂, sym, ◌∙◌, subst, arith}
-use Rattle.std.proofs.lemmas.List.{append_assoc, length-append, length-map, map-append, take_more}
+use Rattle.std.proofs.lemmas.List.{append_assoc, get_or_append_left, get_or-map, length-append, length-map, map-append, take_more}
 use Rattle.cells.specs.declared.cell.Cell.{Cell}
 use Rattle.cells.specs.declared.cell.Cell.TheVariants.{Null}
 use Rattle.columns.specs.Coding.{Puts, Recode}
 use Rattle.columns.specs.Columns.{AreCodes, ColumnValue, cells_of, decoded}
 
 -- ---- codes behind which cells came
-cell_before : (cells more : List Cell) (code : ℕ) → code < length cells → get_or (cells ++ more) code Null ≡ get_or cells code Null
-cell_before [] more code h = absurd (omega (arith, h))
-cell_before (c ∷ cells) more zero h = refl
-cell_before (c ∷ cells) more (suc code) h = cell_before cells more code (omega (arith, h))
-
 pub still_codes : (cells more : List Cell) (codes : List ℕ) → AreCodes cells codes → AreCodes (cells ++ more) codes
 still_codes cells more [] are = tt
 still_codes cells more (c ∷ codes) are = (omega (arith, are.0, length-append cells more), still_codes cells more codes are.1)
@@ -22,7 +17,7 @@ codes_behind cells more both codes e are = subst (λ l. AreCodes l codes) (sym e
 
 pub still_stand : (cells more : List Cell) (codes : List ℕ) → AreCodes cells codes → decoded (cells ++ more) codes ≡ decoded cells codes
 still_stand cells more [] are = refl
-still_stand cells more (c ∷ codes) are = ap₂ (λ (x : Cell) (xs : List Cell). x ∷ xs) (cell_before cells more c are.0) (still_stand cells more codes are.1)
+still_stand cells more (c ∷ codes) are = ap₂ (λ (x : Cell) (xs : List Cell). x ∷ xs) (get_or_append_left cells more Null c are.0) (still_stand cells more codes are.1)
 
 pub both_codes : (cells : List Cell) (xs ys : List ℕ) → AreCodes cells xs → AreCodes cells ys → AreCodes cells (xs ++ ys)
 both_codes cells [] ys one two = two
@@ -33,7 +28,7 @@ decoded_both cells xs ys = map-append (λ code. get_or cells code Null) xs ys
 
 -- ---- codes of cells
 
-pub recode_more : (xs : List Cell) (x : Cell) (old mid new : ColumnValue) (codes : List ℕ) (code : ℕ) → Recode xs old mid codes → Recode (x ∷ []) mid new (code ∷ []) →
+recode_more : (xs : List Cell) (x : Cell) (old mid new : ColumnValue) (codes : List ℕ) (code : ℕ) → Recode xs old mid codes → Recode (x ∷ []) mid new (code ∷ []) →
     Recode (xs ++ x ∷ []) old new (codes ++ code ∷ [])
 recode_more xs x old mid new codes code one two =
     let grown : new.cells ≡ mid.cells ++ two.more = two.grown in
@@ -63,11 +58,6 @@ recode_next cells i cell old mid new codes added code h is one two e =
     subst (Recode (take (i + 1) cells) old new) (sym e) (subst (λ l. Recode l old new (codes ++ code ∷ [])) (sym (take_more cells i cell h ∙ ap (λ (d : Cell). take i cells ++ d ∷ []) (sym is))) (recode_more (take i cells) cell old mid new codes code one two))
 
 -- ---- codes of another column's cells
-at_decoded : (cells : List Cell) (codes : List ℕ) (i : ℕ) → i < length codes → get_or (decoded cells codes) i Null ≡ get_or cells (get_or codes i 0) Null
-at_decoded cells [] i h = absurd (omega (arith, h))
-at_decoded cells (c ∷ codes) zero h = refl
-at_decoded cells (c ∷ codes) (suc i) h = at_decoded cells codes i (omega (arith, h))
-
 -- the code that a code became
 abbrev pub recoded_by : List ℕ → List ℕ → List ℕ
 recoded_by recoded codes = map (λ code. get_or recoded code 0) codes
@@ -77,7 +67,7 @@ recoded_stand : (cells others : List Cell) (recoded codes : List ℕ) → decode
 recoded_stand cells others recoded [] stand are = refl
 recoded_stand cells others recoded (c ∷ codes) stand are =
     ap₂ (λ (x : Cell) (xs : List Cell). x ∷ xs)
-    (sym (at_decoded cells recoded c (omega (arith, are.0, ap (λ l. length l) stand, length-map recoded (λ c. get_or cells c Null)))) ∙ ap (λ l. get_or l c Null) stand)
+    (sym (get_or-map (λ code. get_or cells code Null) recoded c 0 Null (omega (arith, are.0, ap (λ l. length l) stand, length-map recoded (λ c. get_or cells c Null)))) ∙ ap (λ l. get_or l c Null) stand)
     (recoded_stand cells others recoded codes stand are.1)
 
 -- what a column is whose codes are put behind those of another, the first so many of them

@@ -1,4 +1,4 @@
--- Rows put into columns, place by place.
+-- Rows put into columns, column by column.
 use Rattle.std.specs.Prelude.{◌≡◌, ℕ, zero, suc, ◌+◌, ◌<◌, ◌≤◌, List, [], ◌∷◌, ◌++◌, length, set, Option, Some, None, IfSome, refl, ⊤}
 use Rattle.std.proofs.Common.{get_or, ap, sym, ◌∙◌, subst, arith}
 use Rattle.std.proofs.lemmas.List.{append_assoc, append-nil, map-append}
@@ -10,40 +10,40 @@ use Rattle.columns.specs.Columns.{ColumnValue, ColumnsValue, Hold, HoldFrom, cel
 use Rattle.trie.specs.Walks.{TakesAll}
 
 -- ---- no rows
-pub hold_none : (place : ℕ) (columns : ColumnsValue) (column : ColumnValue) → cells_of column ≡ [] → HoldFrom place [] columns → HoldFrom place [] (columns ++ Some column ∷ [])
-hold_none place [] column e held = (e, tt)
-hold_none place (c ∷ columns) column e held = (held.0, hold_none (suc place) columns column e held.1)
+pub hold_none : (index : ℕ) (columns : ColumnsValue) (column : ColumnValue) → cells_of column ≡ [] → HoldFrom index [] columns → HoldFrom index [] (columns ++ Some column ∷ [])
+hold_none index [] column e held = (e, tt)
+hold_none index (c ∷ columns) column e held = (held.0, hold_none (suc index) columns column e held.1)
 
--- ---- cells for each place
+-- ---- cells for each column
 module _ (more : ℕ → List Cell) where
-  -- they came behind the first i columns, of which the first is that of the place, and no other has changed
+  -- they came behind the first i columns, of which the first has this index, and no other has changed
   abbrev pub GoneOn : ℕ → ℕ → ColumnsValue → ColumnsValue → Type 0
-  GoneOn i place [] [] = ⊤
-  GoneOn i place [] (n ∷ new) = ⊥
-  GoneOn i place (o ∷ old) [] = ⊥
-  GoneOn zero place (o ∷ old) (n ∷ new) = (n ≡ o) × GoneOn zero (suc place) old new
-  GoneOn (suc i) place (o ∷ old) (n ∷ new) = PutsAny (more place) o n × GoneOn i (suc place) old new
+  GoneOn i index [] [] = ⊤
+  GoneOn i index [] (n ∷ new) = ⊥
+  GoneOn i index (o ∷ old) [] = ⊥
+  GoneOn zero index (o ∷ old) (n ∷ new) = (n ≡ o) × GoneOn zero (suc index) old new
+  GoneOn (suc i) index (o ∷ old) (n ∷ new) = PutsAny (more index) o n × GoneOn i (suc index) old new
 
-  pub gone_none : (place : ℕ) (old : ColumnsValue) → GoneOn 0 place old old
-  gone_none place [] = tt
-  gone_none place (o ∷ old) = (refl, gone_none (suc place) old)
+  pub gone_none : (index : ℕ) (old : ColumnsValue) → GoneOn 0 index old old
+  gone_none index [] = tt
+  gone_none index (o ∷ old) = (refl, gone_none (suc index) old)
 
-  pub gone_length : (i place : ℕ) (old new : ColumnsValue) → GoneOn i place old new → length new ≡ length old
-  gone_length i place [] [] now = refl
-  gone_length i place [] (n ∷ new) now = absurd now
-  gone_length i place (o ∷ old) [] now = absurd now
-  gone_length zero place (o ∷ old) (n ∷ new) now = ap suc (gone_length zero (suc place) old new now.1)
-  gone_length (suc i) place (o ∷ old) (n ∷ new) now = ap suc (gone_length i (suc place) old new now.1)
+  pub gone_length : (i index : ℕ) (old new : ColumnsValue) → GoneOn i index old new → length new ≡ length old
+  gone_length i index [] [] now = refl
+  gone_length i index [] (n ∷ new) now = absurd now
+  gone_length i index (o ∷ old) [] now = absurd now
+  gone_length zero index (o ∷ old) (n ∷ new) now = ap suc (gone_length zero (suc index) old new now.1)
+  gone_length (suc i) index (o ∷ old) (n ∷ new) now = ap suc (gone_length i (suc index) old new now.1)
 
-  gone_next : (i place : ℕ) (old now : ColumnsValue) (into : Option ColumnValue) → i < length old → GoneOn i place old now → PutsAny (more (place + i)) (get_or now i None) into →
-      GoneOn (suc i) place old (set now i into)
-  gone_next i place [] now into h gone puts = absurd (omega (arith, h))
-  gone_next i place (o ∷ old) [] into h gone puts = absurd gone
-  gone_next zero place (o ∷ old) (n ∷ now) into h gone puts =
-      (subst (λ k. PutsAny (more k) o into) (omega arith) (subst (λ x. PutsAny (more (place + 0)) x into) gone.0 puts), gone.1)
-  gone_next (suc i) place (o ∷ old) (n ∷ now) into h gone puts =
-      let same : place + suc i ≡ suc place + i = omega arith in
-      (gone.0, gone_next i (suc place) old now into (omega (arith, h)) gone.1 (subst (λ k. PutsAny (more k) (get_or now i None) into) same puts))
+  gone_next : (i index : ℕ) (old now : ColumnsValue) (into : Option ColumnValue) → i < length old → GoneOn i index old now → PutsAny (more (index + i)) (get_or now i None) into →
+      GoneOn (suc i) index old (set now i into)
+  gone_next i index [] now into h gone puts = absurd (omega (arith, h))
+  gone_next i index (o ∷ old) [] into h gone puts = absurd gone
+  gone_next zero index (o ∷ old) (n ∷ now) into h gone puts =
+      (subst (λ k. PutsAny (more k) o into) (omega arith) (subst (λ x. PutsAny (more (index + 0)) x into) gone.0 puts), gone.1)
+  gone_next (suc i) index (o ∷ old) (n ∷ now) into h gone puts =
+      let same : index + suc i ≡ suc index + i = omega arith in
+      (gone.0, gone_next i (suc index) old now into (omega (arith, h)) gone.1 (subst (λ k. PutsAny (more k) (get_or now i None) into) same puts))
 
   pub gone_step : (i : ℕ) (old now new : ColumnsValue) → i < length old → GoneOn i 0 old now → PutsAt i (more i) now new → GoneOn (i + 1) 0 old new
   gone_step i old now new h gone puts =
@@ -52,16 +52,16 @@ module _ (more : ℕ → List Cell) where
       subst (λ k. GoneOn k 0 old new) next
       (subst (GoneOn (suc i) 0 old) (sym puts.is) (gone_next i 0 old now puts.into h gone (subst (λ k. PutsAny (more k) (get_or now i None) puts.into) here puts.puts)))
 
-  gone_held : (rows both : List RowValue) → ((k : ℕ) → cells_at k both ≡ cells_at k rows ++ more k) → (i place : ℕ) (old new : ColumnsValue) → length old ≤ i → GoneOn i place old new →
-      HoldFrom place rows old → HoldFrom place both new
-  gone_held rows both is i place [] [] h gone held = tt
-  gone_held rows both is i place [] (n ∷ new) h gone held = absurd gone
-  gone_held rows both is i place (o ∷ old) [] h gone held = absurd gone
-  gone_held rows both is zero place (o ∷ old) (n ∷ new) h gone held = absurd (omega (arith, h))
-  gone_held rows both is (suc i) place (o ∷ old) (None ∷ new) h gone held = (tt, gone_held rows both is i (suc place) old new (omega (arith, h)) gone.1 held.1)
-  gone_held rows both is (suc i) place (None ∷ old) (Some n ∷ new) h gone held = absurd gone.0
-  gone_held rows both is (suc i) place (Some o ∷ old) (Some n ∷ new) h gone held =
-      ((gone.0).behind ∙ ap (λ l. l ++ more place) held.0 ∙ sym (is place), gone_held rows both is i (suc place) old new (omega (arith, h)) gone.1 held.1)
+  gone_held : (rows both : List RowValue) → ((k : ℕ) → cells_at k both ≡ cells_at k rows ++ more k) → (i index : ℕ) (old new : ColumnsValue) → length old ≤ i → GoneOn i index old new →
+      HoldFrom index rows old → HoldFrom index both new
+  gone_held rows both is i index [] [] h gone held = tt
+  gone_held rows both is i index [] (n ∷ new) h gone held = absurd gone
+  gone_held rows both is i index (o ∷ old) [] h gone held = absurd gone
+  gone_held rows both is zero index (o ∷ old) (n ∷ new) h gone held = absurd (omega (arith, h))
+  gone_held rows both is (suc i) index (o ∷ old) (None ∷ new) h gone held = (tt, gone_held rows both is i (suc index) old new (omega (arith, h)) gone.1 held.1)
+  gone_held rows both is (suc i) index (None ∷ old) (Some n ∷ new) h gone held = absurd gone.0
+  gone_held rows both is (suc i) index (Some o ∷ old) (Some n ∷ new) h gone held =
+      ((gone.0).behind ∙ ap (λ l. l ++ more index) held.0 ∙ sym (is index), gone_held rows both is i (suc index) old new (omega (arith, h)) gone.1 held.1)
 
   pub gone_all : (rows both : List RowValue) → ((k : ℕ) → cells_at k both ≡ cells_at k rows ++ more k) → (i : ℕ) (old new : ColumnsValue) → length old ≤ i → GoneOn i 0 old new →
       Hold rows old → Hold both new
@@ -75,16 +75,16 @@ taken_all old new [] e rows held = subst (λ l. Hold l new) (sym (append-nil row
 taken_all old new (x ∷ entries) (mid, one, rest) rows held =
     subst (λ l. Hold l new) (append_assoc rows (x.1 ∷ []) (rows_of entries)) (taken_all mid new entries rest (rows ++ x.1 ∷ []) (one.serves rows held))
 
--- ---- the column at a place
-hold_at_from : (i place : ℕ) (rows : List RowValue) (columns : ColumnsValue) (column : ColumnValue) → Some column ≡ get_or columns i None → HoldFrom place rows columns →
-    cells_of column ≡ cells_at (place + i) rows
-hold_at_from i place rows [] column e held = absurd (cc (e))
-hold_at_from zero place rows (c ∷ columns) column e held =
-    let here : cells_of column ≡ cells_at place rows = subst (λ o. IfSome o (λ x. cells_of x ≡ cells_at place rows)) (sym e) held.0 in
+-- ---- the column of an index
+hold_at_from : (i index : ℕ) (rows : List RowValue) (columns : ColumnsValue) (column : ColumnValue) → Some column ≡ get_or columns i None → HoldFrom index rows columns →
+    cells_of column ≡ cells_at (index + i) rows
+hold_at_from i index rows [] column e held = absurd (cc (e))
+hold_at_from zero index rows (c ∷ columns) column e held =
+    let here : cells_of column ≡ cells_at index rows = subst (λ o. IfSome o (λ x. cells_of x ≡ cells_at index rows)) (sym e) held.0 in
     here ∙ ap (λ k. cells_at k rows) (omega arith)
-hold_at_from (suc i) place rows (c ∷ columns) column e held =
-    let same : suc place + i ≡ place + suc i = omega arith in
-    hold_at_from i (suc place) rows columns column e held.1 ∙ ap (λ k. cells_at k rows) same
+hold_at_from (suc i) index rows (c ∷ columns) column e held =
+    let same : suc index + i ≡ index + suc i = omega arith in
+    hold_at_from i (suc index) rows columns column e held.1 ∙ ap (λ k. cells_at k rows) same
 
 pub hold_at : (i : ℕ) (rows : List RowValue) (columns : ColumnsValue) (column : ColumnValue) → Some column ≡ get_or columns i None → Hold rows columns → cells_of column ≡ cells_at i rows
 hold_at i rows columns column e held =
@@ -94,14 +94,14 @@ hold_at i rows columns column e held =
 pub puts_behind : (cells others : List Cell) (old new : ColumnValue) → others ≡ cells → Puts others old new → Puts cells old new
 puts_behind cells others old new e puts = subst (λ l. Puts l old new) e puts
 
-pub puts_some : (place : ℕ) (cells : List Cell) (old : ColumnsValue) (column new : ColumnValue) → get_or old place None ≡ Some column → Puts cells column new →
-    PutsAny cells (get_or old place None) (Some new)
-puts_some place cells old column new is puts = subst (λ o. PutsAny cells o (Some new)) (sym is) puts
+pub puts_some : (index : ℕ) (cells : List Cell) (old : ColumnsValue) (column new : ColumnValue) → get_or old index None ≡ Some column → Puts cells column new →
+    PutsAny cells (get_or old index None) (Some new)
+puts_some index cells old column new is puts = subst (λ o. PutsAny cells o (Some new)) (sym is) puts
 
-pub set_again : (columns : ColumnsValue) (place : ℕ) (one two : Option ColumnValue) → set (set columns place one) place two ≡ set columns place two
-set_again [] place one two = refl
+pub set_again : (columns : ColumnsValue) (index : ℕ) (one two : Option ColumnValue) → set (set columns index one) index two ≡ set columns index two
+set_again [] index one two = refl
 set_again (c ∷ columns) zero one two = refl
-set_again (c ∷ columns) (suc place) one two = ap (λ (l : ColumnsValue). c ∷ l) (set_again columns place one two)
+set_again (c ∷ columns) (suc index) one two = ap (λ (l : ColumnsValue). c ∷ l) (set_again columns index one two)
 
 pub cells_both : (rows more : List RowValue) (k : ℕ) → cells_at k (rows ++ more) ≡ cells_at k rows ++ cells_at k more
 cells_both rows more k = map-append (λ r. get_or r.cells k Null) rows more
@@ -112,10 +112,10 @@ hold_option i rows columns None e held = tt
 hold_option i rows columns (Some column) e held = hold_at i rows columns column e held
 
 -- ---- a column is left out
-left_from : (i place : ℕ) (rows : List RowValue) (columns : ColumnsValue) → HoldFrom place rows columns → HoldFrom place rows (set columns i None)
-left_from i place rows [] held = tt
-left_from zero place rows (c ∷ columns) held = (tt, held.1)
-left_from (suc i) place rows (c ∷ columns) held = (held.0, left_from i (suc place) rows columns held.1)
+left_from : (i index : ℕ) (rows : List RowValue) (columns : ColumnsValue) → HoldFrom index rows columns → HoldFrom index rows (set columns i None)
+left_from i index rows [] held = tt
+left_from zero index rows (c ∷ columns) held = (tt, held.1)
+left_from (suc i) index rows (c ∷ columns) held = (held.0, left_from i (suc index) rows columns held.1)
 
 pub hold_left : (i : ℕ) (old new : ColumnsValue) → new ≡ set old i None → (rows : List RowValue) → Hold rows old → Hold rows new
 hold_left i old new e rows held = record { each = subst (HoldFrom 0 rows) (sym e) (left_from i 0 rows old held.each) }

@@ -22,11 +22,11 @@ PutsAny cells old None = ⊤
 PutsAny cells None (Some new) = ⊥
 PutsAny cells (Some old) (Some new) = Puts cells old new
 
--- they came behind those of the column at the place, or it was left out
-pub record PutsAt (place : ℕ) (cells : List Cell) (old new : ColumnsValue) : Type 0 where
+-- they came behind those of the column of the index, or it was left out
+pub record PutsAt (index : ℕ) (cells : List Cell) (old new : ColumnsValue) : Type 0 where
   pub into : Option ColumnValue
-  pub puts : PutsAny cells (slice_index_or old place None) into
-  pub is : new ≡ set old place into
+  pub puts : PutsAny cells (slice_index_or old index None) into
+  pub is : new ≡ set old index into
 
 -- whatever rows the columns hold, they hold this one behind them
 pub record TakesRow (row : RowValue) (old new : ColumnsValue) : Type 0 where

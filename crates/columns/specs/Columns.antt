@@ -1,24 +1,24 @@
--- Columns of rows: place by place their cells, in the order of the rows, as numbers that stand for cells.
+-- Columns of rows: column by column their cells, in the order of the rows, as numbers that stand for cells.
 use Rattle.std.specs.Prelude.{◌≡◌, ℕ, suc, ◌<◌, List, [], ◌∷◌, length, map, slice_index_or, Option, IfSome, ⊤}
 use Rattle.std.specs.List.{AllByRecursion}
 use Rattle.cells.specs.Values.{RowValue}
 use Rattle.cells.specs.declared.cell.Cell.{Cell}
 use Rattle.cells.specs.declared.cell.Cell.TheVariants.{Null}
 
--- the rows' cells at a place
+-- the rows' cells in the column of an index
 abbrev pub cells_at : ℕ → List RowValue → List Cell
-cells_at place rows = map (λ r. slice_index_or r.cells place Null) rows
+cells_at index rows = map (λ r. slice_index_or r.cells index Null) rows
 
 -- the rows of entries, each under its key
 abbrev pub rows_of : List (Cell × RowValue) → List RowValue
 rows_of entries = map (λ e. e.1) entries
 
--- a column: cells, and row by row a code, the place of one of them
+-- a column: cells, and row by row a code, the index of one of them
 pub record ColumnValue : Type 0 where
   pub cells : List Cell
   pub by_row : List ℕ
 
--- each code is the place of a cell
+-- each code is the index of a cell
 abbrev pub AreCodes : List Cell → List ℕ → Type 0
 AreCodes cells codes = AllByRecursion (λ code. code < length cells) codes
 
@@ -34,11 +34,11 @@ cells_of column = decoded column.cells column.by_row
 abbrev pub ColumnsValue : Type 0
 ColumnsValue = List (Option ColumnValue)
 
--- those that are there, the first for this place and so on, have the rows' cells
+-- those that are there, the first of which has this index, have the rows' cells
 abbrev pub HoldFrom : ℕ → List RowValue → ColumnsValue → Type 0
-HoldFrom place rows [] = ⊤
-HoldFrom place rows (c ∷ columns) = IfSome c (λ column. cells_of column ≡ cells_at place rows) × HoldFrom (suc place) rows columns
+HoldFrom index rows [] = ⊤
+HoldFrom index rows (c ∷ columns) = IfSome c (λ column. cells_of column ≡ cells_at index rows) × HoldFrom (suc index) rows columns
 
--- the columns hold the rows: each that is there has their cells at its place
+-- the columns hold the rows: each that is there has their cells of its index
 pub record Hold (rows : List RowValue) (columns : ColumnsValue) : Type 0 where
   pub each : HoldFrom 0 rows columns

@@ -5,18 +5,18 @@ ghost use Rattle.cells.specs.Values.{RowValue};
 ghost use Rattle.columns.specs.Coding.{PutsAt};
 ghost use Rattle.columns.specs.Columns.{Hold, cells_at, cells_of, rows_of};
 
-use crate::column::Column;
+use crate::code_column::CodeColumn;
 use cells::{Cell, KeyHash, Row};
 use std::alloc::{AllocError, Global};
 use std::marker::Model;
 use std::mem;
 use trie::{Piece, Visitor};
 
-/// The columns of rows, a column for each place of the table. Rows come one behind another; a column that would have too many
+/// The columns of rows, one for each column of the table. Rows come one behind another; a column that would have too many
 /// different cells is left out, and its memory given back. It owns copies of the cells.
 #[derive(Drop)]
 pub struct Columns<H: KeyHash<Cell>> {
-    columns: Vec<Option<Column<H>>>,
+    columns: Vec<Option<CodeColumn<H>>>,
 }
 
 impl<H: KeyHash<Cell>> Model for Columns<H> {
@@ -32,23 +32,24 @@ impl<H: KeyHash<Cell>> Model for Columns<H> {
 }
 
 impl<H: KeyHash<Cell>> Columns<H> {
-    /// Columns of no rows, for a table of so many places.
-    pub fn new(alloc: Global, places: usize) -> Result<Columns<H>, AllocError>
-        ensures { IfOk result (Hold []) }
+    /// Columns of no rows, for a table of `count` columns.
+    pub fn new(alloc: Global, count: usize) -> Result<Columns<H>, AllocError>
+        ensures none { IfOk result (Hold []) }
+        ensures long { IfOk result (λ c. length c ≡ count) }
     {
-        let mut columns = Vec::with_capacity(alloc, places)?;
-        for _place in 0..places {
-            columns.push(Some(Column::new(alloc)))?;
+        let mut columns = Vec::with_capacity(alloc, count)?;
+        for _column in 0..count {
+            columns.push(Some(CodeColumn::new(alloc)))?;
         }
         Ok(Columns { columns })
     }
 
-    /// The column of the place; None where there is none, or it was left out. It takes no memory.
-    pub fn at(&self, place: usize) -> Option<&Column<H>>
-        ensures value { option_copied result ≡ slice_index_or self.now place None }
-        ensures cells { (rows : List RowValue) → Hold rows self.now → IfSome (option_copied result) (λ column. cells_of column ≡ cells_at place rows) }
+    /// The column of the index; None where there is none, or it was left out. It takes no memory.
+    pub fn at(&self, index: usize) -> Option<&CodeColumn<H>>
+        ensures value { option_copied result ≡ slice_index_or self.now index None }
+        ensures cells { (rows : List RowValue) → Hold rows self.now → IfSome (option_copied result) (λ column. cells_of column ≡ cells_at index rows) }
     {
-        match self.columns.get(place) {
+        match self.columns.get(index) {
             Some(column) => column.as_ref(),
             None => None,
         }
@@ -68,65 +69,65 @@ impl<H: KeyHash<Cell>> Columns<H> {
     pub fn append(&mut self, alloc: Global, other: &Columns<H>) -> Result<(), AllocError>
         ensures { (rows more : List RowValue) → Hold rows self.old → Hold more other.now → OnOk result (Hold (rows ++ more) self.new) }
     {
-        for place in 0..self.places() {
-            self.append_at(alloc, place, other)?;
+        for index in 0..self.column_count() {
+            self.append_at(alloc, index, other)?;
         }
         Ok(())
     }
 
-    /// How many places the table has.
-    pub fn places(&self) -> usize
+    /// How many columns the table has, with those that were left out.
+    pub fn column_count(&self) -> usize
         ensures { result ≡ length self.now }
     {
         self.columns.len()
     }
 
-    /// Puts the row's cell behind the column of the place, or leaves the column out.
-    fn push_at(&mut self, place: usize, row: &Row) -> Result<(), AllocError>
-        requires { place < length self.old }
-        ensures { OnOk result (PutsAt place (cells_at place (row.now ∷ [])) self.old self.new) }
+    /// Puts the row's cell behind the column of the index, or leaves the column out.
+    fn push_at(&mut self, index: usize, row: &Row) -> Result<(), AllocError>
+        requires { index < length self.old }
+        ensures { OnOk result (PutsAt index (cells_at index (row.now ∷ [])) self.old self.new) }
     {
-        let Some(column) = &mut self.columns[place] else {
+        let Some(column) = &mut self.columns[index] else {
             return Ok(());
         };
-        let cell = row.cells().get(place).unwrap_or(&Cell::Null);
+        let cell = row.cells().get(index).unwrap_or(&Cell::Null);
         if !column.push(cell)? {
-            self.leave_out(place);
+            self.leave_out(index);
         }
         Ok(())
     }
 
-    /// Puts the cells of the other column of the place behind the column there, or leaves it out.
+    /// Puts the cells of the other column of the index behind the column there, or leaves it out.
     fn append_at(
         &mut self,
         alloc: Global,
-        place: usize,
+        index: usize,
         other: &Columns<H>,
     ) -> Result<(), AllocError>
-        requires { place < length self.old }
+        requires { index < length self.old }
         ensures count { OnOk result (length self.new ≡ length self.old) }
-        ensures puts { (more : List RowValue) → Hold more other.now → OnOk result (PutsAt place (cells_at place more) self.old self.new) }
+        ensures puts { (more : List RowValue) → Hold more other.now → OnOk result (PutsAt index (cells_at index more) self.old self.new) }
     {
-        let Some(other) = other.at(place) else {
-            self.leave_out(place);
+        let Some(other) = other.at(index) else {
+            self.leave_out(index);
             return Ok(());
         };
-        let Some(column) = &mut self.columns[place] else {
+        let Some(column) = &mut self.columns[index] else {
             return Ok(());
         };
         if !column.append(alloc, other)? {
-            self.leave_out(place);
+            self.leave_out(index);
         }
         Ok(())
     }
 
-    /// Leaves the column of the place out, which is one of the table, as its key may be, which no two rows have in common.
-    pub fn leave_out(&mut self, place: usize)
-        requires { place < length self.old }
-        ensures left { self.new ≡ set self.old place None }
+    /// Leaves the column of the index out, which is one of the table, as its key may be, which no two rows have in common.
+    pub fn leave_out(&mut self, index: usize)
+        requires { index < length self.old }
+        ensures left { self.new ≡ set self.old index None }
         ensures held { (rows : List RowValue) → Hold rows self.old → Hold rows self.new }
     {
-        let column = mem::replace(&mut self.columns[place], None);
+        let column = mem::replace(&mut self.columns[index], None);
         drop(column);
     }
 }
@@ -140,8 +141,8 @@ impl<H: KeyHash<Cell>> Visitor<Cell, Row> for Columns<H> {
     ghost takes = { λ old key row new. TakesRow row old new };
 
     fn visit(&mut self, _key: &Cell, row: &Row) -> Result<(), AllocError> {
-        for place in 0..self.places() {
-            self.push_at(place, row)?;
+        for index in 0..self.column_count() {
+            self.push_at(index, row)?;
         }
         Ok(())
     }

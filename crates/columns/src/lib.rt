@@ -1,11 +1,11 @@
-//! The columns of an edition: the cells of its rows place by place, as small numbers that stand for the column's different
+//! The columns of an edition: the cells of its rows column by column, as small numbers that stand for the column's different
 //! cells, in the order in which the rows are walked (Copeland and Khoshafian, A Decomposition Storage Model, 1985).
 #![tactic(auto)]
 
-mod column;
+mod code_column;
 mod columns;
 mod limits;
 
-pub use column::Column;
+pub use code_column::CodeColumn;
 pub use columns::Columns;
 pub use limits::MAX_CODES;

@@ -20,7 +20,7 @@ use Rattle.cells.specs.contracts.row.Row as RowType
 use Rattle.cells.specs.contracts.tuple.Tuple as TupleType
 use Rattle.cells.specs.declared.cell.Cell.{Cell}
 use Rattle.cells.specs.declared.hash.KeyHash as KeyHash
-use Rattle.columns.specs.contracts.column.Column as Column
+use Rattle.columns.specs.contracts.code_column.CodeColumn as CodeColumn
 use Rattle.columns.specs.contracts.columns.Columns as Columns
 use Rattle.crew.specs.contracts.gathering.Gathering as Gathering
 use Rattle.crew.specs.contracts.ranging.Ranging as Ranging
@@ -147,7 +147,7 @@ module _ (H : RattleType) (cells : KeyHash.Ghosts H.Denot Cell) (s : IsSend H) (
   pub gathering_sync : (life : NamedLft) (G : RattleType) → IsSync G → IsSync (Gathering.the_field life H G cells).row
   gathering_sync life G g = let plan = plan_sync in search (piece_sync, sendable, crosses) depth 40
 
-  column_sync : IsSync (Column.the_field H cells).row
+  column_sync : IsSync (CodeColumn.the_field H cells).row
   column_sync = let cell = cell_sync in search (HashMap-sync, sendable, crosses) depth 40
 
   columns_sync : IsSync (Columns.the_field H cells).row

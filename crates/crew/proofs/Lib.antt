@@ -1,11 +1,10 @@
 pub mod BackLemmas
 pub mod CrossingLemmas
-pub mod FoldingsLemmas
 pub mod GatheringLemmas
 pub mod HistoryLemmas
-pub mod JoiningLemmas
 pub mod LayingLemmas
 pub mod ListsLemmas
+pub mod PartsLemmas
 pub mod PlacesLemmas
 pub mod RangingLemmas
 pub mod RisingLemmas

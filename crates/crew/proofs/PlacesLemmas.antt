@@ -1,9 +1,7 @@
--- Places of a range: what some of them leave, and lists that are made of each element under a permutation.
-use Rattle.std.proofs.Common.{◌≡◌, ℕ, zero, suc, ◌+◌, ◌<◌, ◌≤◌, Bool, true, false, cond, ltb, List, [], ◌∷◌, ◌++◌, filter, flat_map, length, get_or, set, swap, refl, sym, ap, subst, arith, append_assoc, IsPermutation}
-use Rattle.std.specs.List.{AllByRecursion, range_with_len}
-use Rattle.std.proofs.lemmas.Bool.{ltb-false, ltb-true}
-use Rattle.std.proofs.lemmas.List.Sorted.{IsPermutation-refl, IsPermutation-keeps, IsPermutation-trans, IsPermutation-cons, IsPermutation-middle, IsPermutation-append_left, IsPermutation-append_right, IsPermutation-append_comm}
-use Rattle.crew.specs.Draws.{PlacesRise}
+-- Lists that are made of each element under a permutation, and what holds of all places.
+use Rattle.std.proofs.Common.{ℕ, zero, suc, ◌<◌, List, [], ◌∷◌, ◌++◌, flat_map, length, get_or, set, swap, arith, append_assoc, IsPermutation}
+use Rattle.std.specs.List.{AllByRecursion}
+use Rattle.std.proofs.lemmas.List.Sorted.{IsPermutation-refl, IsPermutation-keeps, IsPermutation-trans, IsPermutation-append_left, IsPermutation-append_right, IsPermutation-append_comm}
 
 -- ---- permutations
 
@@ -40,22 +38,7 @@ permutation_flat_map f = along_permutation (λ xs ys. IsPermutation (flat_map f 
     (λ x y xs. rw (← append_assoc (f x), ← append_assoc (f y)) (IsPermutation-append_left (flat_map f xs) _ _ (IsPermutation-append_comm (f x) (f y))))
     (λ xs ys zs. IsPermutation-trans _ _ _)
 
-filter_by_each : {A : Type 0} (p : A → Bool) (xs : List A) → filter p xs ≡ flat_map (λ x. cond (p x) (x ∷ []) []) xs
-filter_by_each p [] = refl
-filter_by_each p (x ∷ xs) =
-    elim (p x) as (λ b. cond b (x ∷ filter p xs) (filter p xs) ≡ cond b (x ∷ []) [] ++ flat_map (λ y. cond (p y) (y ∷ []) []) xs)
-    [ true ↦ ap (λ l. x ∷ l) (filter_by_each p xs) | false ↦ filter_by_each p xs ]
-
--- and so do those that pass a test
-pub permutation_filter : {A : Type 0} (p : A → Bool) (xs ys : List A) → IsPermutation xs ys → IsPermutation (filter p xs) (filter p ys)
-permutation_filter p xs ys moved = rw (filter_by_each p xs, filter_by_each p ys) (permutation_flat_map (λ x. cond (p x) (x ∷ []) []) xs ys moved)
-
--- ---- ranges
-
--- the places are some of a range, and these are left of it
-pub record IsPartOf (from count : ℕ) (places : List ℕ) : Type 0 where
-  pub left : List ℕ
-  pub whole : IsPermutation (places ++ left) (range_with_len from count)
+-- ---- what holds of all
 
 pub all_weaker : (P Q : ℕ → Type 0) → ((n : ℕ) → P n → Q n) → (ns : List ℕ) → AllByRecursion P ns → AllByRecursion Q ns
 all_weaker P Q weaker [] all = tt
@@ -69,45 +52,3 @@ all_of P each (n ∷ ns) = (each n, all_of P each ns)
 pub at_last : (P : ℕ → Type 0) (ns : List ℕ) (n : ℕ) → AllByRecursion P (ns ++ n ∷ []) → P n
 at_last P [] n all = all.0
 at_last P (m ∷ ns) n all = at_last P ns n all.1
-
--- the first of the range is one of the places, or is left
-first_of : (from count place : ℕ) (places : List ℕ) → from ≤ place → (place ≡ from → IsPartOf (from + 1) count places) →
-    (from < place → IsPartOf (from + 1) count (place ∷ places)) → IsPartOf from (suc count) (place ∷ places)
-first_of from count place places low here later = by (ltb from place) refl
-  where
-    by : (b : Bool) → ltb from place ≡ b → IsPartOf from (suc count) (place ∷ places)
-    by true is =
-        let part = later (ltb-true from place is) in
-        record {
-          left = from ∷ part.left;
-          whole = IsPermutation-trans (place ∷ places ++ from ∷ part.left) (from ∷ (place ∷ places ++ part.left)) (range_with_len from (suc count))
-              (IsPermutation-middle (place ∷ places) from part.left)
-              (IsPermutation-cons from (place ∷ places ++ part.left) (range_with_len (from + 1) count) part.whole);
-        }
-    by false is =
-        let high : place ≤ from = ltb-false from place is in
-        let same : place ≡ from = omega arith in
-        let part = here same in
-        record {
-          left = part.left;
-          whole = subst (λ n. IsPermutation (n ∷ places ++ part.left) (range_with_len from (suc count))) (sym same)
-              (IsPermutation-cons from (places ++ part.left) (range_with_len (from + 1) count) part.whole);
-        }
-
--- rising places of a range are a part of it
-pub part_of : (count from : ℕ) (places : List ℕ) → PlacesRise places → AllByRecursion (λ place. from ≤ place) places →
-    AllByRecursion (λ place. place < from + count) places → IsPartOf from count places
-part_of zero from [] rising low high = record { left = []; whole = IsPermutation-refl [] }
-part_of zero from (place ∷ places) rising low high =
-    let at_least : from ≤ place = low.0 in
-    let below : place < from + 0 = high.0 in
-    absurd (omega arith)
-part_of (suc count) from [] rising low high = record { left = range_with_len from (suc count); whole = IsPermutation-refl (range_with_len from (suc count)) }
-part_of (suc count) from (place ∷ places) rising low high =
-    let at_least : from ≤ place = low.0 in
-    let below : AllByRecursion (λ n. n < from + 1 + count) (place ∷ places) =
-    all_weaker (λ n. n < from + suc count) (λ n. n < from + 1 + count) (λ n h. omega arith) (place ∷ places) high in
-    let above : AllByRecursion (λ n. from + 1 ≤ n) places = all_weaker (λ n. place < n) (λ n. from + 1 ≤ n) (λ n h. omega arith) places rising.0 in
-    first_of from count place places at_least
-    (λ same. part_of count (from + 1) places rising.1 above below.1)
-    (λ later. part_of count (from + 1) (place ∷ places) rising (omega arith, above) below)

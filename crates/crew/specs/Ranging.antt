@@ -1,11 +1,10 @@
 -- Rows whose columns are at hand, as workers share them: range by range.
 use Rattle.std.specs.Prelude.{◌≡◌, ℕ, ◌-◌, ◌*◌, ◌≤◌, ◌^◌, List, length, min, Option, IfSome}
 use Rattle.std.specs.Int.{div_ceil}
-use Rattle.std.specs.List.{flat_map}
 use Rattle.cells.specs.Values.{RowValue}
 use Rattle.columns.specs.Columns.{ColumnsValue, Hold}
+use Rattle.crew.specs.Gathering.{kept_at}
 use Rattle.groups.specs.Folds.{Folds}
-use Rattle.groups.specs.Groups.{kept}
 use Rattle.groups.specs.Ranges.{rows_from}
 use Rattle.groups.specs.declared.folding.Folding.{Folding}
 use Rattle.query.specs.Plans.{PlanTree}
@@ -21,10 +20,6 @@ range_count count = div_ceil count range_limit
 -- the rows of the range at a place, of so many rows
 abbrev pub range_rows : ℕ → List RowValue → ℕ → List RowValue
 range_rows count rows place = rows_from (place * range_limit) (min (count - place * range_limit) range_limit) rows
-
--- those of the ranges at these places, in this order
-abbrev pub ranges_rows : ℕ → List RowValue → List ℕ → List RowValue
-ranges_rows count rows places = flat_map (range_rows count rows) places
 
 -- a plan, and the columns of so many rows
 pub record Ranged : Type 0 where
@@ -43,4 +38,4 @@ pub record MayGatherRows (columns : ColumnsValue) (count : ℕ) : Type 0 where
 -- at these places
 pub record FoldsRanges {H : Type 0} (ranged : Ranged) (places : List ℕ) (made : Option (Folding H)) : Type 0 where
   pub folds : (rows : List RowValue) → Hold rows ranged.columns → length rows ≡ ranged.count →
-      IfSome made (Folds ranged.plan (kept ranged.plan.condition (ranges_rows ranged.count rows places)))
+      IfSome made (Folds ranged.plan (kept_at ranged.plan (range_rows ranged.count rows) places))

@@ -4,8 +4,8 @@
 /// it returns, and so holds the thread that called it there; what a run writes does not depend on its
 /// gate. Each method does nothing unless an implementation says otherwise.
 pub trait Gate: Sync {
-    /// The work on the piece of this number, counted from 0, is about to begin. Called by the worker that drew
-    /// the piece, before it reads it.
+    /// The work on the piece of this number, counted from 0, is about to begin: its rows are folded, or laid out as
+    /// columns. Called by the worker that drew the piece, before it reads it.
     fn entered(&self, _piece: u64) {}
 
     /// The work on the piece of this number is done, or was given up for want of memory. Called by the worker

@@ -1,8 +1,9 @@
 //! The partial result of the pieces of a table, which workers gather.
-ghost use Rattle.std.specs.Prelude.{◌≡◌, ◌<◌, ◌≤◌, ◌⊎◌, ℕ, List, [], length, min, slice_index_or, vec_len, IfErr, IfOk};
+ghost use Rattle.std.specs.Prelude.{◌≡◌, ◌<◌, ◌≤◌, ◌⊎◌, List, [], length, min, slice_index_or, vec_len, IfErr, IfOk};
 ghost use Rattle.aggs.specs.Room.{cell_limit};
 ghost use Rattle.cells.specs.declared.refused.Refused.TheVariants as Refused;
-ghost use Rattle.crew.specs.Gathering.{kept_at, kept_in, rows_in};
+ghost use Rattle.cells.specs.Values.{RowValue};
+ghost use Rattle.crew.specs.Gathering.{AreMadeOf, MayBeJoined, kept_at, rows_at_place, rows_in};
 ghost use Rattle.crew.specs.Limits.{piece_limit, workers_of};
 ghost use Rattle.crew.specs.Shares.{AreShared};
 ghost use Rattle.groups.specs.Folds.{Folds};
@@ -44,7 +45,7 @@ pub fn gather<H: KeyHash<Cell> + KeyHash<Tuple> + Send + Sync, G: Gate, R: Threa
 {
     let gathering = Gathering { plan, pieces, gate };
     let foldings = foldings_of(rt, alloc, &gathering, workers)?;
-    Ok(joined(alloc, &gathering, foldings)?)
+    Ok(joined(alloc, plan, foldings)?)
 }
 
 /// A folding of each worker, of the pieces that it drew. There are as many workers as the smaller of `workers` and the
@@ -56,7 +57,7 @@ fn foldings_of<'a, H: KeyHash<Cell> + KeyHash<Tuple> + Send + Sync, G: Gate, R: 
     workers: u64,
 ) -> Result<Vec<Folding<'a, H>>, Refused>
     requires pieces { length gathering.now.pieces ≤ piece_limit }
-    ensures shared { IfOk result (λ v. AreShared (λ places. Folds gathering.now.plan (kept_at gathering.now places)) (length gathering.now.pieces) v.items) }
+    ensures shared { IfOk result (λ v. AreShared (λ places. Folds gathering.now.plan (kept_at gathering.now.plan (rows_at_place gathering.now.pieces) places)) (length gathering.now.pieces) v.items) }
     ensures workers { IfOk result (λ v. vec_len v ≡ min (workers_of workers) (length gathering.now.pieces)) }
     ensures refused { IfErr result (λ e. (e ≡ Refused.NoWorker) ⊎ (e ≡ Refused.OutOfMemory)) }
 {
@@ -108,14 +109,14 @@ impl<'a, H: KeyHash<Cell> + KeyHash<Tuple>, G> Gathering<'a, H, G> {
 
 impl<'a, H: KeyHash<Cell> + KeyHash<Tuple> + Send + Sync, G: Gate> Task for Gathering<'a, H, G> {
     ghost use Rattle.std.specs.Prelude.{length};
-    ghost use Rattle.crew.specs.Gathering.{kept_at};
+    ghost use Rattle.crew.specs.Gathering.{kept_at, rows_at_place};
     ghost use Rattle.groups.specs.Folds.{Folds};
 
     type Made = Folding<'a, H>;
 
     ghost count = { λ g. length g.pieces };
 
-    ghost makes = { λ g places made. Folds g.plan (kept_at g places) made };
+    ghost makes = { λ g places made. Folds g.plan (kept_at g.plan (rows_at_place g.pieces) places) made };
 
     fn begin(&self, alloc: Global) -> Result<Folding<'a, H>, AllocError> {
         Folding::new(alloc, self.plan)
@@ -130,20 +131,20 @@ impl<'a, H: KeyHash<Cell> + KeyHash<Tuple> + Send + Sync, G: Gate> Task for Gath
     }
 }
 
-/// The partial result of all pieces, from the foldings of the workers who shared them, which are joined in their order. So
-/// the groups of all are made tries once.
-fn joined<'a, H: KeyHash<Cell> + KeyHash<Tuple>, G>(
+/// The partial result of rows for which the plan's WHERE is true, from the foldings of the workers who shared them, which are
+/// joined in their order. So the groups of all are made tries once.
+pub(crate) fn joined<'a, H: KeyHash<Cell> + KeyHash<Tuple>>(
     alloc: Global,
-    gathering: &Gathering<'a, H, G>,
+    plan: &'a Plan,
     foldings: Vec<Folding<'a, H>>,
 ) -> Result<Partial<H>, AllocError>
-    requires { AreShared (λ places. Folds gathering.now.plan (kept_at gathering.now places)) (length gathering.now.pieces) foldings.items }
-    ensures { IfOk result (λ partial. Stands H.KeyHash-2.hash_of gathering.now.plan (kept_in gathering.now) partial) }
+    requires { MayBeJoined plan.now foldings.items }
+    ensures { (rows : List RowValue) → AreMadeOf (Folds plan.now) rows foldings.entry.items →
+        IfOk result (Stands H.KeyHash-2.hash_of plan.now rows) }
 {
-    // These do nothing: they are the laws by which shares may be joined, and are all rows in the end.
+    // This does nothing: it is the law that the order of rows does not count.
     any_order::<H>();
-    gathering.rows_are_few();
-    let mut all = Folding::new(alloc, gathering.plan)?;
+    let mut all = Folding::new(alloc, plan)?;
     for folding in foldings {
         all = all.join(alloc, folding)?;
     }

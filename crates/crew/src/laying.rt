@@ -7,6 +7,7 @@ ghost use Rattle.crew.specs.Laying.{HoldAll};
 ghost use Rattle.crew.specs.Limits.{piece_limit, workers_of};
 ghost use Rattle.crew.specs.Shares.{AreShared};
 
+use crate::gate::Gate;
 use crate::sharing::share_out;
 use crate::task::Task;
 use cells::{Cell, KeyHash, Refused, Row, Tuple};
@@ -16,21 +17,23 @@ use std::sync::Wait;
 use std::thread::Threads;
 use trie::Piece;
 
-/// The columns of the rows of all pieces, of which there are at most [`MAX_PIECES`](crate::MAX_PIECES), for a table of so
-/// many places, of which that of the key has no column. As many workers as the smaller of `workers`, taken as 1 at least
-/// and [`MAX_SEATS`](crate::MAX_SEATS) at most, and the number of pieces draw pieces until none are left, each in a thread
-/// of its own. The rows stand in the order in which the workers drew their pieces, which another run may change. The
-/// columns own copies of the cells.
+/// The columns of the rows of all pieces, of which there are at most [`MAX_PIECES`](crate::MAX_PIECES), for a table of `width`
+/// columns, of which that of the key, the one at the index `key`, is left out. As many workers as the smaller of `workers`,
+/// taken as 1 at least and [`MAX_SEATS`](crate::MAX_SEATS) at most, and the number of pieces draw pieces until none are left,
+/// each in a thread of its own. The rows stand in the order in which the workers drew their pieces, which another run may
+/// change. The columns own copies of the cells. The gate is told of each piece that a worker takes, before and after, also
+/// where memory was refused.
 ///
 /// [`Refused::NoWorker`] where a thread could not be started; otherwise [`Refused::OutOfMemory`] where there was no
 /// memory, here or for a worker. All threads that were started are joined before this returns, however it ends.
-pub fn columns_of<H: KeyHash<Cell> + KeyHash<Tuple> + Send + Sync, R: Threads + Wait>(
+pub fn columns_of<H: KeyHash<Cell> + KeyHash<Tuple> + Send + Sync, G: Gate, R: Threads + Wait>(
     rt: &R,
     alloc: Global,
     pieces: &[Piece<Cell, Row, H>],
-    places: usize,
+    width: usize,
     key: usize,
     workers: u64,
+    gate: &G,
 ) -> Result<Columns<H>, Refused>
     requires pieces { length pieces.now ≤ piece_limit }
     ensures held { IfOk result (HoldAll (rows_in pieces.now)) }
@@ -38,8 +41,9 @@ pub fn columns_of<H: KeyHash<Cell> + KeyHash<Tuple> + Send + Sync, R: Threads + 
 {
     let laying = Laying {
         pieces,
-        places,
+        width,
         key,
+        gate,
     };
     let parts = parts_of(rt, alloc, &laying, workers)?;
     Ok(appended(alloc, &laying, parts)?)
@@ -47,10 +51,10 @@ pub fn columns_of<H: KeyHash<Cell> + KeyHash<Tuple> + Send + Sync, R: Threads + 
 
 /// The columns of each worker, of the pieces that it drew. There are as many workers as the smaller of `workers` and the
 /// number of pieces.
-fn parts_of<'a, H: KeyHash<Cell> + Send + Sync, R: Threads + Wait>(
+fn parts_of<'a, H: KeyHash<Cell> + Send + Sync, G: Gate, R: Threads + Wait>(
     rt: &R,
     alloc: Global,
-    laying: &Laying<'a, H>,
+    laying: &Laying<'a, H, G>,
     workers: u64,
 ) -> Result<Vec<Columns<H>>, Refused>
     requires pieces { length laying.now.pieces.now ≤ piece_limit }
@@ -63,20 +67,21 @@ fn parts_of<'a, H: KeyHash<Cell> + Send + Sync, R: Threads + Wait>(
 
 /// The work on all pieces: each worker puts the rows of those that it draws into columns of its own.
 #[derive(Drop)]
-struct Laying<'a, H: KeyHash<Cell>> {
+struct Laying<'a, H: KeyHash<Cell>, G> {
     pieces: &'a [Piece<Cell, Row, H>],
-    // how many the table has
-    places: usize,
+    // how many columns the table has
+    width: usize,
     key: usize,
+    gate: &'a G,
 }
 
-impl<'a, H: KeyHash<Cell>> Laying<'a, H> {
+impl<'a, H: KeyHash<Cell>, G> Laying<'a, H, G> {
     /// Columns of no rows, without one of the key: each of its cells is another one.
     fn none(&self, alloc: Global) -> Result<Columns<H>, AllocError>
         ensures { IfOk result (Hold []) }
     {
-        let mut columns = Columns::new(alloc, self.places)?;
-        if self.key < columns.places() {
+        let mut columns = Columns::new(alloc, self.width)?;
+        if self.key < columns.column_count() {
             columns.leave_out(self.key);
         }
         Ok(columns)
@@ -92,7 +97,7 @@ impl<'a, H: KeyHash<Cell>> Laying<'a, H> {
     }
 }
 
-impl<'a, H: KeyHash<Cell> + Send + Sync> Task for Laying<'a, H> {
+impl<'a, H: KeyHash<Cell> + Send + Sync, G: Gate> Task for Laying<'a, H, G> {
     ghost use Rattle.std.specs.Prelude.{length};
     ghost use Rattle.columns.specs.Columns.{Hold};
     ghost use Rattle.crew.specs.Gathering.{rows_at};
@@ -108,15 +113,18 @@ impl<'a, H: KeyHash<Cell> + Send + Sync> Task for Laying<'a, H> {
     }
 
     fn take(&self, _alloc: Global, made: &mut Columns<H>, place: u64) -> Result<(), AllocError> {
-        made.take(self.piece(place))
+        self.gate.entered(place);
+        let taken = made.take(self.piece(place));
+        self.gate.left(place);
+        taken
     }
 }
 
 /// The columns of all pieces, from those of the workers who shared them: the first worker's, with those of the others
 /// behind them in their order.
-fn appended<'a, H: KeyHash<Cell>>(
+fn appended<'a, H: KeyHash<Cell>, G>(
     alloc: Global,
-    laying: &Laying<'a, H>,
+    laying: &Laying<'a, H, G>,
     parts: Vec<Columns<H>>,
 ) -> Result<Columns<H>, AllocError>
     requires { AreShared (λ places. Hold (rows_at laying.now.pieces.now places)) (length laying.now.pieces.now) parts.items }

@@ -1,5 +1,5 @@
 //! The partial result of rows whose columns are at hand, which workers gather range by range.
-ghost use Rattle.std.specs.Prelude.{◌≡◌, ◌<◌, ◌≤◌, ◌⊎◌, ◌++◌, ◌∷◌, ℕ, List, [], length, min, vec_len, IfErr, IfOk, IfSome, Some};
+ghost use Rattle.std.specs.Prelude.{◌≡◌, ◌<◌, ◌≤◌, ◌⊎◌, ◌++◌, ◌∷◌, ℕ, List, [], length, map, min, vec_len, IfErr, IfOk, IfSome, Some};
 ghost use Rattle.cells.specs.Values.{RowValue};
 ghost use Rattle.cells.specs.declared.refused.Refused.TheVariants as Refused;
 ghost use Rattle.columns.specs.Columns.{Hold};
@@ -11,11 +11,12 @@ ghost use Rattle.groups.specs.Folds.{Folds};
 ghost use Rattle.groups.specs.Groups.{kept};
 ghost use Rattle.groups.specs.Partials.{Stands};
 
+use crate::gathering::joined;
 use crate::sharing::share_out;
 use crate::task::Task;
 use cells::{Cell, KeyHash, Refused, Tuple};
 use columns::Columns;
-use groups::{Folding, Partial, any_order};
+use groups::{Folding, Partial};
 use query::Plan;
 use std::alloc::{AllocError, Global};
 use std::marker::Model;
@@ -54,7 +55,10 @@ pub fn gather_rows<H: KeyHash<Cell> + KeyHash<Tuple> + Send + Sync, R: Threads +
         count,
     };
     let foldings = range_foldings(rt, alloc, &ranging, workers)?;
-    Ok(joined_ranges(alloc, &ranging, foldings)?)
+    let Some(foldings) = all_of(alloc, foldings)? else {
+        return Ok(None);
+    };
+    Ok(Some(joined(alloc, plan, foldings)?))
 }
 
 /// A folding of each worker, of the ranges that it drew, or None where one of them could not be folded. There are as many
@@ -174,26 +178,16 @@ impl<'a, H: KeyHash<Cell> + KeyHash<Tuple> + Send + Sync> Task for Ranging<'a, H
     }
 }
 
-/// The partial result of all ranges, from the foldings of the workers who shared them, which are joined in their order; None
-/// where a worker has none.
-fn joined_ranges<'a, H: KeyHash<Cell> + KeyHash<Tuple>>(
-    alloc: Global,
-    ranging: &Ranging<'a, H>,
-    foldings: Vec<Option<Folding<'a, H>>>,
-) -> Result<Option<Partial<H>>, AllocError>
-    requires { AreShared (FoldsRanges ranging.now) (range_count ranging.now.count) foldings.items }
-    ensures { (rows : List RowValue) → Hold rows ranging.now.columns → length rows ≡ ranging.now.count →
-        IfOk result (λ made. IfSome made (λ partial. Stands H.KeyHash-2.hash_of ranging.now.plan (kept ranging.now.plan.condition rows) partial)) }
+/// All foldings, where each worker has one.
+fn all_of<T: Drop>(alloc: Global, some: Vec<Option<T>>) -> Result<Option<Vec<T>>, AllocError>
+    ensures { IfOk result (λ made. IfSome made (λ all. some.items ≡ map Some all.items)) }
 {
-    // These do nothing: they are the laws by which shares may be joined, and are all rows in the end.
-    any_order::<H>();
-    ranging.rows_are_few();
-    let mut all = Folding::new(alloc, ranging.plan)?;
-    for folding in foldings {
-        let Some(folding) = folding else {
+    let mut all = Vec::with_capacity(alloc, some.len())?;
+    for one in some {
+        let Some(one) = one else {
             return Ok(None);
         };
-        all = all.join(alloc, folding)?;
+        all.push(one)?;
     }
-    Ok(Some(all.into_partial(alloc)?))
+    Ok(Some(all))
 }

@@ -13,11 +13,12 @@ use Rattle.cells.specs.Values.{RowValue}
 use Rattle.cells.specs.declared.cell.Cell.{Cell}
 use Rattle.groups.specs.Accumulators.{AllFit, CanStep, accs_of, accs_together, both, group, group_or, is_start, no_rows, stepped}
 use Rattle.groups.specs.Bags.{AreParts, CanTake, Covers, Group, HasRoom, IsPart, Takes, joined, picked}
+use Rattle.groups.specs.Coarsening.{TakesGroup}
 use Rattle.groups.specs.Groups.{cell_at, column_of, members, tuple_of}
 use Rattle.groups.specs.Laws.{accs_join, group_any_order, group_joins}
 use Rattle.groups.specs.Laying.{given, met_from}
 use Rattle.groups.specs.declared.aggregation.Aggregation.{Aggregation}
-use Rattle.groups.proofs.TuplesLemmas.{all_push}
+use Rattle.groups.proofs.TuplesLemmas.{all_both}
 
 -- ---- there is room for few rows
 module _ (H : Type 0) where
@@ -45,17 +46,12 @@ module _ {H : Type 0} where
       (ap (λ k. acc_together (acc_of {H = H} a.kind (column_of a.column part)) (acc_of k (cell_at a.column row ∷ []))) (acc_kind H a.kind (column_of a.column part)))
       (stepped_is row aggregations part)
 
-  stepped_more : (row : RowValue) (aggregations : List Aggregation) (part : List RowValue) →
-      stepped row aggregations (accs_of {H = H} aggregations part) ≡ accs_of aggregations (part ++ row ∷ [])
-  stepped_more row aggregations part = stepped_is row aggregations part ∙ sym (accs_join aggregations part (row ∷ []))
+some_both : (xs ys : List RowValue) → no_rows xs ≡ false → no_rows (xs ++ ys) ≡ false
+some_both [] ys e = cc
+some_both (x ∷ xs) ys e = refl
 
-some_push : (xs : List RowValue) (x : RowValue) → no_rows (xs ++ x ∷ []) ≡ false
-some_push [] x = refl
-some_push (y ∷ xs) x = refl
-
-to_end : (p q : List RowValue) (row : RowValue) → IsPermutation ((p ++ q) ++ row ∷ []) ((p ++ row ∷ []) ++ q)
-to_end p q row = rw (append_assoc p q (row ∷ []), append_assoc p (row ∷ []) q)
-    (IsPermutation-append_right p (q ++ row ∷ []) (row ∷ q) (IsPermutation-append_comm q (row ∷ [])))
+to_end : (p q r : List RowValue) → IsPermutation ((p ++ q) ++ r) ((p ++ r) ++ q)
+to_end p q r = rw (append_assoc p q r, append_assoc p r q) (IsPermutation-append_right p (q ++ r) (r ++ q) (IsPermutation-append_comm q r))
 
 -- ---- the rows of one tuple
 module _ (columns : List ℕ) where
@@ -86,83 +82,138 @@ module _ {H : Type 0} (aggregations : List Aggregation) (columns : List ℕ) whe
   pub covers_none : Covers {H = H} aggregations columns [] []
   covers_none = record { parts = []; each = tt; all = IsPermutation-refl [] }
 
-  -- each group can take one row more: a part of some rows has no more than they
-  each_can_take : (row : RowValue) (groups : List (Group H)) (parts : List (List RowValue)) → AreParts aggregations columns groups parts → length (joined parts) + 1 ≤ cell_limit →
-      AllByRecursion (λ g. CanStep row aggregations g.1) groups
-  each_can_take row [] parts are few = tt
-  each_can_take row (g ∷ groups) [] are few = absurd are
-  each_can_take row (g ∷ groups) (p ∷ parts) are few = (
-    subst (CanStep row aggregations) (sym (are.0).accs) (can_step H row p (omega (arith, few, length-append p (joined parts))) aggregations),
-    each_can_take row groups parts are.1 (omega (arith, few, length-append p (joined parts))),
+  -- what holds of the accumulators of few rows holds of those of each part
+  pub parts_have : (P : List (Acc H) → Type 0) (more : ℕ) → ((part : List RowValue) → length part + more ≤ cell_limit → P (accs_of aggregations part)) →
+      (groups : List (Group H)) (parts : List (List RowValue)) → AreParts aggregations columns groups parts → length (joined parts) + more ≤ cell_limit → AllByRecursion (λ g. P g.1) groups
+  parts_have P more each [] parts are few = tt
+  parts_have P more each (g ∷ groups) [] are few = absurd are
+  parts_have P more each (g ∷ groups) (p ∷ parts) are few = (
+    subst P (sym (are.0).accs) (each p (omega (arith, few, length-append p (joined parts)))),
+    parts_have P more each groups parts are.1 (omega (arith, few, length-append p (joined parts))),
   )
 
   pub can_take : (row : RowValue) (groups : List (Group H)) → HasRoom aggregations columns groups → CanTake aggregations row groups
   can_take row groups room = record {
-    each = each_can_take row groups (room.covers).parts (room.covers).each (omega (arith, room.few, length_permutation room.rows (joined (room.covers).parts) (room.covers).all));
+    each = parts_have (CanStep row aggregations) 1 (λ part few. can_step H row part few aggregations) groups (room.covers).parts (room.covers).each
+        (omega (arith, room.few, length_permutation room.rows (joined (room.covers).parts) (room.covers).all));
     new = can_step H row [] (omega (arith, room.few)) aggregations;
   }
 
-  record Later (groups : List (Group H)) (parts : List (List RowValue)) (row : RowValue) : Type 0 where
+  record Later (groups : List (Group H)) (parts : List (List RowValue)) (part : List RowValue) : Type 0 where
     new : List (List RowValue)
     each : AreParts aggregations columns groups new
-    all : IsPermutation (joined parts ++ row ∷ []) (joined new)
+    all : IsPermutation (joined parts ++ part) (joined new)
 
-  part_more : (g : Group H) (p : List RowValue) (row : RowValue) (accs : List (Acc H)) → IsPart aggregations columns g p →
-      g ≡ (tuple_of columns row, accs) → IsPart aggregations columns (tuple_of columns row, stepped row aggregations accs) (p ++ row ∷ [])
-  part_more g p row accs is e = record {
-    some = some_push p row;
-    alike = all_push (λ r. tuple_of columns r ≡ tuple_of columns row) p row (subst (λ (t : List Cell). AllByRecursion (λ r. tuple_of columns r ≡ t) p) (ap (λ h. h.0) e) is.alike) refl;
-    accs = ap (stepped row aggregations) (sym (ap (λ h. h.1) e) ∙ is.accs) ∙ stepped_more row aggregations p;
+  part_joined : (g : Group H) (p : List RowValue) (t : List Cell) (accs were : List (Acc H)) (part : List RowValue) →
+      IsPart aggregations columns g p → IsPart aggregations columns (t, accs) part →
+      g ≡ (t, were) → IsPart aggregations columns (t, accs_together were accs) (p ++ part)
+  part_joined g p t accs were part is more e = record {
+    some = some_both p part is.some;
+    alike = all_both _ p part (subst (λ (t : List Cell). AllByRecursion (λ r. tuple_of columns r ≡ t) p) (ap (λ h. h.0) e) is.alike) more.alike;
+    accs = ap₂ accs_together (sym (ap (λ h. h.1) e) ∙ is.accs) more.accs ∙ sym (accs_join aggregations p part);
   }
 
-  stepped_at : (row : RowValue) (accs : List (Acc H)) → (groups : List (Group H)) (parts : List (List RowValue)) (i : ℕ) →
-      AreParts aggregations columns groups parts → i < length groups → ((d : Group H) → get_or groups i d ≡ (tuple_of columns row, accs)) →
-      Later (set groups i (tuple_of columns row, stepped row aggregations accs)) parts row
-  stepped_at row accs [] parts i are h e = absurd (omega arith)
-  stepped_at row accs (g ∷ groups) [] i are h e = absurd are
-  stepped_at row accs (g ∷ groups) (p ∷ parts) zero are h e = record {
-    new = (p ++ row ∷ []) ∷ parts;
-    each = (part_more g p row accs are.0 (e g), are.1);
-    all = to_end p (joined parts) row;
-  }
-  stepped_at row accs (g ∷ groups) (p ∷ parts) (suc i) are h e =
-      let rest = stepped_at row accs groups parts i are.1 (omega arith) e in
-      record {
-        new = p ∷ rest.new;
-        each = (are.0, rest.each);
-        all = rw append_assoc (IsPermutation-append_right p (joined parts ++ row ∷ []) (joined rest.new) rest.all);
-      }
+  module _ (t : List Cell) (accs : List (Acc H)) (part : List RowValue) (is : IsPart aggregations columns (t, accs) part) where
+    one_first : (g : Group H) (p : List RowValue) (groups : List (Group H)) (parts : List (List RowValue)) → IsPart aggregations columns g p → Later groups parts part →
+        Later (g ∷ groups) (p ∷ parts) part
+    one_first g p groups parts one rest = record {
+      new = p ∷ rest.new;
+      each = (one, rest.each);
+      all = rw append_assoc (IsPermutation-append_right p (joined parts ++ part) (joined rest.new) rest.all);
+    }
 
-  added_at : (row : RowValue) (groups : List (Group H)) (parts : List (List RowValue)) → AreParts aggregations columns groups parts →
-      Later (groups ++ (tuple_of columns row, stepped row aggregations (accs_of aggregations [])) ∷ []) parts row
-  added_at row [] [] are = record {
-    new = (row ∷ []) ∷ [];
-    each = (record { some = refl; alike = (refl, tt); accs = stepped_more row aggregations [] }, tt);
-    all = IsPermutation-refl (row ∷ []);
-  }
-  added_at row [] (p ∷ parts) are = absurd are
-  added_at row (g ∷ groups) [] are = absurd are
-  added_at row (g ∷ groups) (p ∷ parts) are =
-      let rest = added_at row groups parts are.1 in
-      record {
-        new = p ∷ rest.new;
-        each = (are.0, rest.each);
-        all = rw append_assoc (IsPermutation-append_right p (joined parts ++ row ∷ []) (joined rest.new) rest.all);
-      }
+    joined_at : (were : List (Acc H)) (groups : List (Group H)) (parts : List (List RowValue)) (i : ℕ) →
+        AreParts aggregations columns groups parts → i < length groups → ((d : Group H) → get_or groups i d ≡ (t, were)) →
+        Later (set groups i (t, accs_together were accs)) parts part
+    joined_at were [] parts i are h e = absurd (omega arith)
+    joined_at were (g ∷ groups) [] i are h e = absurd are
+    joined_at were (g ∷ groups) (p ∷ parts) zero are h e = record {
+      new = (p ++ part) ∷ parts;
+      each = (part_joined g p t accs were part are.0 is (e g), are.1);
+      all = to_end p (joined parts) part;
+    }
+    joined_at were (g ∷ groups) (p ∷ parts) (suc i) are h e = one_first g p _ parts are.0 (joined_at were groups parts i are.1 (omega arith) e)
 
-  covers_later : (row : RowValue) (rows : List RowValue) (old new is : List (Group H)) (covers : Covers aggregations columns rows old) →
-      Later is covers.parts row → new ≡ is → Covers aggregations columns (rows ++ row ∷ []) new
-  covers_later row rows old new is covers later e = record {
-    parts = later.new;
-    each = subst (λ gs. AreParts aggregations columns gs later.new) (sym e) later.each;
-    all = IsPermutation-trans _ _ _ (IsPermutation-append_left (row ∷ []) rows (joined covers.parts) covers.all) later.all;
-  }
+    added_at : (groups : List (Group H)) (parts : List (List RowValue)) → AreParts aggregations columns groups parts → Later (groups ++ (t, accs) ∷ []) parts part
+    added_at [] [] are = record { new = part ∷ []; each = (is, tt); all = rw (append-nil part) (IsPermutation-refl part) }
+    added_at [] (p ∷ parts) are = absurd are
+    added_at (g ∷ groups) [] are = absurd are
+    added_at (g ∷ groups) (p ∷ parts) are = one_first g p _ parts are.0 (added_at groups parts are.1)
 
+    covers_later : (rows : List RowValue) (old new is : List (Group H)) (covers : Covers aggregations columns rows old) → Later is covers.parts part → new ≡ is →
+        Covers aggregations columns (rows ++ part) new
+    covers_later rows old new is covers later e = record {
+      parts = later.new;
+      each = subst (λ gs. AreParts aggregations columns gs later.new) (sym e) later.each;
+      all = IsPermutation-trans _ _ _ (IsPermutation-append_left part rows (joined covers.parts) covers.all) later.all;
+    }
+
+    pub covers_part : (rows : List RowValue) (old new : List (Group H)) → Covers aggregations columns rows old →
+        TakesGroup t accs old new → Covers aggregations columns (rows ++ part) new
+    covers_part rows old new covers (inl joins) =
+        covers_later rows old new _ covers (joined_at joins.were old covers.parts joins.index covers.each joins.within joins.at) joins.is
+    covers_part rows old new covers (inr e) = covers_later rows old new _ covers (added_at old covers.parts covers.each) e
+
+  part_at : (groups : List (Group H)) (parts : List (List RowValue)) (i : ℕ) (d : Group H) → AreParts aggregations columns groups parts → i < length groups →
+      IsPart aggregations columns (get_or groups i d) (get_or parts i [])
+  part_at [] parts i d are h = absurd (omega arith)
+  part_at (g ∷ groups) [] i d are h = absurd are
+  part_at (g ∷ groups) (p ∷ parts) zero d are h = are.0
+  part_at (g ∷ groups) (p ∷ parts) (suc i) d are h = part_at groups parts i d are.1 (omega arith)
+
+  -- a row is a part of one row
   pub covers_more : (row : RowValue) (rows : List RowValue) (old new : List (Group H)) → Covers aggregations columns rows old →
       Takes aggregations columns row old new → Covers aggregations columns (rows ++ row ∷ []) new
-  covers_more row rows old new covers (inl steps) =
-      covers_later row rows old new _ covers (stepped_at row steps.accs old covers.parts steps.place covers.each steps.within steps.at) steps.is
-  covers_more row rows old new covers (inr e) = covers_later row rows old new _ covers (added_at row old covers.parts covers.each) e
+  covers_more row rows old new covers takes = covers_part (tuple_of columns row) (accs_of aggregations (row ∷ [])) (row ∷ [])
+      (record { some = refl; alike = (refl, tt); accs = refl }) rows old new covers (as_group takes)
+    where
+      as_group : Takes aggregations columns row old new → TakesGroup (tuple_of columns row) (accs_of aggregations (row ∷ [])) old new
+      as_group (inl steps) =
+          let part = get_or covers.parts steps.index [] in
+          let g : Group H = (tuple_of columns row, steps.accs) in
+          let is : steps.accs ≡ accs_of aggregations part =
+          sym (ap (λ (h : Group H). h.1) (steps.at g)) ∙ (part_at old covers.parts steps.index g covers.each steps.within).accs in
+          inl (record {
+            index = steps.index;
+            were = steps.accs;
+            within = steps.within;
+            at = steps.at;
+            is = steps.is ∙ ap (λ a. set old steps.index (tuple_of columns row, a))
+                (ap (stepped row aggregations) is ∙ stepped_is row aggregations part ∙ ap (λ a. accs_together a (accs_of aggregations (row ∷ []))) (sym is));
+          })
+      as_group (inr e) = inr (e ∙ ap (λ a. old ++ (tuple_of columns row, a) ∷ []) (stepped_is row aggregations [] ∙ sym (accs_join aggregations [] (row ∷ []))))
+
+  -- ---- the parts of groups of which some come before one, and some after it
+  pub record AreCut (before : List (Group H)) (g : Group H) (after : List (Group H)) (parts : List (List RowValue)) : Type 0 where
+    pub firsts : List (List RowValue)
+    pub part : List RowValue
+    pub lasts : List (List RowValue)
+    pub are : AreParts aggregations columns before firsts
+    pub is : IsPart aggregations columns g part
+    pub behind : AreParts aggregations columns after lasts
+    pub whole : joined parts ≡ joined firsts ++ (part ++ joined lasts)
+
+  pub cut_at : (before : List (Group H)) (g : Group H) (after : List (Group H)) (parts : List (List RowValue)) →
+      AreParts aggregations columns (before ++ g ∷ after) parts → AreCut before g after parts
+  cut_at [] g after [] are = absurd are
+  cut_at [] g after (p ∷ parts) are = record { firsts = []; part = p; lasts = parts; are = tt; is = are.0; behind = are.1; whole = refl }
+  cut_at (b ∷ before) g after [] are = absurd are
+  cut_at (b ∷ before) g after (p ∷ parts) are =
+      let rest = cut_at before g after parts are.1 in
+      record {
+        firsts = p ∷ rest.firsts;
+        part = rest.part;
+        lasts = rest.lasts;
+        are = (are.0, rest.are);
+        is = rest.is;
+        behind = rest.behind;
+        whole = ap (λ l. p ++ l) rest.whole ∙ sym (append_assoc p (joined rest.firsts) (rest.part ++ joined rest.lasts));
+      }
+
+  pub cut_short : (before : List (Group H)) (g : Group H) (after : List (Group H)) (parts : List (List RowValue)) (cut : AreCut before g after parts) →
+      length (joined cut.firsts) + length cut.part ≤ length (joined parts)
+  cut_short before g after parts cut =
+      omega (arith, ap (λ l. length l) cut.whole, length-append (joined cut.firsts) (cut.part ++ joined cut.lasts), length-append cut.part (joined cut.lasts))
 
   part_gives : (g : Group H) (part : List RowValue) (t : List Cell) → IsPart aggregations columns g part →
       group aggregations columns part t ≡ given g t
@@ -194,18 +245,18 @@ module _ {H : Type 0} (aggregations : List Aggregation) (columns : List ℕ) whe
 
 -- ---- a bag takes a row
 module _ {H : Type 0} (aggregations : List Aggregation) (columns : List ℕ) (row : RowValue) where
-  pub takes_found : (old new : List (Group H)) (place : ℕ) (g : Group H) (accs : List (Acc H)) (cells : List Cell) → cells ≡ row.cells → place < length old → g ≡ get_or old place g →
-      (get_or old place (picked columns cells, [])).0 ≡ picked columns cells → accs ≡ stepped row aggregations g.1 → new ≡ set old place (g.0, accs) →
+  pub takes_found : (old new : List (Group H)) (index : ℕ) (g : Group H) (accs : List (Acc H)) (cells : List Cell) → cells ≡ row.cells → index < length old → g ≡ get_or old index g →
+      (get_or old index (picked columns cells, [])).0 ≡ picked columns cells → accs ≡ stepped row aggregations g.1 → new ≡ set old index (g.0, accs) →
       Takes aggregations columns row old new
-  takes_found old new place g accs cells same h is found step e =
-      let read : (d : Group H) → g ≡ get_or old place d = get_or_read old place g h is in
+  takes_found old new index g accs cells same h is found step e =
+      let read : (d : Group H) → g ≡ get_or old index d = get_or_read old index g h is in
       let tuple : g.0 ≡ tuple_of columns row = ap (λ (x : Group H). x.0) (read (picked columns cells, [])) ∙ found ∙ ap (picked columns) same in
       inl (record {
-        place = place;
+        index = index;
         accs = g.1;
         within = h;
         at = λ d. sym (read d) ∙ ap (λ (t : List Cell). (t, g.1)) tuple;
-        is = e ∙ ap (set old place) (ap₂ (λ (t : List Cell) (xs : List (Acc H)). (t, xs)) tuple step);
+        is = e ∙ ap (set old index) (ap₂ (λ (t : List Cell) (xs : List (Acc H)). (t, xs)) tuple step);
       })
 
   pub takes_new : (old new : List (Group H)) (tuple : List Cell) (accs none : List (Acc H)) (cells : List Cell) → cells ≡ row.cells → tuple ≡ picked columns cells →

@@ -1,10 +1,12 @@
 -- Groups made from columns.
 use Rattle.std.specs.Prelude.{◌≡◌, ◌≢◌, ℕ, zero, suc, ◌+◌, ◌<◌, ◌≤◌, ◌==◌, ◌⊎◌, Bool, true, false, List, [], ◌∷◌, ◌++◌, drop, length, map, take, refl}
-use Rattle.std.specs.List.{AllByRecursion, AllZip, Contains, range_with_len}
+use Rattle.std.specs.List.{AllByRecursion, AllZip, Contains, flat_map, range_with_len}
 use Rattle.std.specs.List.Sorted.{IsPermutation}
 use Rattle.std.proofs.Common.{get_or, ap, ap₂, sym, ◌∙◌, subst, arith, eq-eqb, inl, inr}
 use Rattle.std.proofs.lemmas.Bool.{ne_eqb}
-use Rattle.std.proofs.lemmas.List.{append_assoc, get_or_read, length-map, map-append, take_more}
+use Rattle.std.proofs.lemmas.Bool.Decides.{eqb_tells}
+use Rattle.std.proofs.lemmas.List.{append_assoc, get_or_read, length-map, map-append}
+use Rattle.std.proofs.lemmas.List.Folds.{flat_map-map}
 use Rattle.std.proofs.lemmas.List.FromFn.{map-range_with_len_more}
 use Rattle.std.proofs.lemmas.List.Sorted.{IsPermutation-append_comm, IsPermutation-append_left, IsPermutation-append_right, IsPermutation-refl, IsPermutation-trans}
 use Rattle.std.proofs.lemmas.Map.Views.{exact_unsigned_eq}
@@ -19,15 +21,11 @@ use Rattle.groups.specs.Groups.{cell_at, tuple_of}
 use Rattle.groups.specs.Numbered.{AreNumbered, NumberAll}
 use Rattle.groups.specs.Tallying.{keep_if, those_of}
 use Rattle.groups.specs.declared.aggregation.Aggregation.{Aggregation}
-use Rattle.groups.proofs.TallyingLemmas.{same_or_other}
+use Rattle.groups.proofs.TuplesLemmas.{take_next, zip_push}
 
 -- ---- each thing is of one number
 module _ {X : Type 0} where
-  abbrev put_together : List (List X) → List X
-  put_together [] = []
-  put_together (part ∷ parts) = part ++ put_together parts
-
-  same_together : (f g : ℕ → List X) (k a n : ℕ) → k < a → ((m : ℕ) → m ≢ k → g m ≡ f m) → put_together (map g (range_with_len a n)) ≡ put_together (map f (range_with_len a n))
+  same_together : (f g : ℕ → List X) (k a n : ℕ) → k < a → ((m : ℕ) → m ≢ k → g m ≡ f m) → flat_map g (range_with_len a n) ≡ flat_map f (range_with_len a n)
   same_together f g k a zero h same = refl
   same_together f g k a (suc n) h same = ap₂ (λ (x y : List X). x ++ y) (same a (λ e. omega (arith, e, h))) (same_together f g k (a + 1) n (omega (arith, h)) same)
 
@@ -35,29 +33,29 @@ module _ {X : Type 0} where
   to_middle x xs ys = subst (IsPermutation (x ∷ xs ++ ys)) (append_assoc xs (x ∷ []) ys) (IsPermutation-append_left ys (x ∷ xs) (xs ++ x ∷ []) (IsPermutation-append_comm (x ∷ []) xs))
 
   insert_one : (f g : ℕ → List X) (x : X) (k a n : ℕ) → a ≤ k → k < a + n → g k ≡ x ∷ f k → ((m : ℕ) → m ≢ k → g m ≡ f m) →
-      IsPermutation (x ∷ put_together (map f (range_with_len a n))) (put_together (map g (range_with_len a n)))
+      IsPermutation (x ∷ flat_map f (range_with_len a n)) (flat_map g (range_with_len a n))
   insert_one f g x k a zero low high is same = absurd (omega (arith, low, high))
   insert_one f g x k a (suc n) low high is same =
-      here_or_later (same_or_other a k) (λ other. insert_one f g x k (a + 1) n (omega (arith, low, other)) (omega (arith, high)) is same)
+      here_or_later (eqb_tells a k) (λ other. insert_one f g x k (a + 1) n (omega (arith, low, other)) (omega (arith, high)) is same)
     where
       rest : (ℕ → List X) → List X
-      rest h = put_together (map h (range_with_len (a + 1) n))
+      rest h = flat_map h (range_with_len (a + 1) n)
 
-      here_or_later : (a ≡ k) ⊎ (a ≢ k) → (a ≢ k → IsPermutation (x ∷ rest f) (rest g)) → IsPermutation (x ∷ f a ++ rest f) (g a ++ rest g)
+      here_or_later : (((a == k) ≡ true) × (a ≡ k)) ⊎ (((a == k) ≡ false) × (a ≢ k)) → (a ≢ k → IsPermutation (x ∷ rest f) (rest g)) → IsPermutation (x ∷ f a ++ rest f) (g a ++ rest g)
       here_or_later (inl e) later =
-          let here : g a ≡ x ∷ f a = subst (λ j. g j ≡ x ∷ f j) (sym e) is in
-          subst (IsPermutation (x ∷ f a ++ rest f)) (ap₂ (λ (p q : List X). p ++ q) (sym here) (sym (same_together f g k (a + 1) n (omega (arith, e)) same)))
+          let here : g a ≡ x ∷ f a = subst (λ j. g j ≡ x ∷ f j) (sym e.1) is in
+          subst (IsPermutation (x ∷ f a ++ rest f)) (ap₂ (λ (p q : List X). p ++ q) (sym here) (sym (same_together f g k (a + 1) n (omega (arith, e.1)) same)))
           (IsPermutation-refl (x ∷ f a ++ rest f))
       here_or_later (inr other) later =
-          subst (λ p. IsPermutation (x ∷ f a ++ rest f) (p ++ rest g)) (sym (same a other))
-          (IsPermutation-trans _ _ _ (to_middle x (f a) (rest f)) (IsPermutation-append_right (f a) (x ∷ rest f) (rest g) (later other)))
+          subst (λ p. IsPermutation (x ∷ f a ++ rest f) (p ++ rest g)) (sym (same a other.1))
+          (IsPermutation-trans _ _ _ (to_middle x (f a) (rest f)) (IsPermutation-append_right (f a) (x ∷ rest f) (rest g) (later other.1)))
 
-  none_together : (a n : ℕ) → put_together (map (λ (m : ℕ). those_of m [] []) (range_with_len a n)) ≡ []
+  none_together : (a n : ℕ) → flat_map {A = X} (λ (m : ℕ). those_of {X = X} m [] []) (range_with_len a n) ≡ []
   none_together a zero = refl
   none_together a (suc n) = none_together (a + 1) n
 
   pub all_together : (count : ℕ) (numbers : List ℕ) (xs : List X) → length numbers ≡ length xs → AllByRecursion (λ n. n < count) numbers →
-      IsPermutation xs (put_together (map (λ n. those_of n numbers xs) (range_with_len 0 count)))
+      IsPermutation xs (flat_map (λ n. those_of n numbers xs) (range_with_len 0 count))
   all_together count [] [] e all = subst (IsPermutation []) (sym (none_together 0 count)) (IsPermutation-refl [])
   all_together count [] (x ∷ xs) e all = absurd (omega (arith, e))
   all_together count (k ∷ numbers) [] e all = absurd (omega (arith, e))
@@ -79,18 +77,12 @@ group_next {H} tuples tallies groups added i tuple accs h at are so e =
     sym (map-range_with_len_more f 0 i i here)
 
 -- ---- the aggregates, one after another
-zip_push : {A B : Type 0} (R : A → B → Type 0) (xs : List A) (ys : List B) (x : A) (y : B) → AllZip R xs ys → R x y → AllZip R (xs ++ x ∷ []) (ys ++ y ∷ [])
-zip_push R [] [] x y all one = (one, tt)
-zip_push R [] (b ∷ ys) x y all one = absurd all
-zip_push R (a ∷ xs) [] x y all one = absurd all
-zip_push R (a ∷ xs) (b ∷ ys) x y all one = (all.0, zip_push R xs ys x y all.1 one)
-
 pub zip_next : {A B C : Type 0} (R : A → B → Type 0) (f : C → B) (xs : List A) (ys added : List C) (i : ℕ) (x d : A) (y : C) → i < length xs → x ≡ get_or xs i d → AllZip R (take i xs) (map f ys) →
     R x (f y) → added ≡ ys ++ y ∷ [] → AllZip R (take (i + 1) xs) (map f added)
 zip_next {A} {B} {C} R f xs ys added i x d y h at all one e =
     subst (λ l. AllZip R (take (i + 1) xs) (map f l)) (sym e)
     (subst (AllZip R (take (i + 1) xs)) (sym (map-append f ys (y ∷ [])))
-    (subst (λ l. AllZip R l (map f ys ++ f y ∷ [])) (sym (take_more xs i d h ∙ ap (λ (a : A). take i xs ++ a ∷ []) (sym at))) (zip_push R (take i xs) (map f ys) x (f y) all one)))
+    (subst (λ l. AllZip R l (map f ys ++ f y ∷ [])) (sym (take_next xs i d x h at)) (zip_push R (take i xs) (map f ys) x (f y) all one)))
 
 -- ---- the groups cover the rows
 pub number_all : (set : List ℕ) (rows : List RowValue) (numbers : List ℕ) (tuples : List (List Cell)) (count : ℕ) → length rows ≡ count → AreNumbered set rows numbers tuples → NumberAll count numbers tuples
@@ -164,7 +156,8 @@ covers_rows {H} aggregations set rows numbers tuples tallies now all =
             alike = alike_by aggregations set rows numbers tuples tallies n numbers rows now.stand;
             accs = accs_are aggregations set rows numbers tuples tallies n (length tuples) h aggregations tallies all;
           });
-      all = all_together (length tuples) numbers rows same now.within;
+      all = subst (IsPermutation rows) (sym (flat_map-map (λ part. part) (λ n. those_of n numbers rows) (range_with_len 0 (length tuples))))
+          (all_together (length tuples) numbers rows same now.within);
     }
 
 -- the lists of accumulators are as long as those of tuples

@@ -1,11 +1,12 @@
 -- Where a cell counts once, parts are as good as the rows that they are parts of.
-use Rattle.std.specs.Prelude.{◌≡◌, ℕ, suc, ◌<◌, ◌≤◌, ◌==◌, ◌&&◌, ◌||◌, Bool, true, false, not, List, [], ◌∷◌, length, map, refl}
+use Rattle.std.specs.Prelude.{◌≡◌, ℕ, ◌<◌, ◌≤◌, ◌==◌, ◌&&◌, ◌||◌, Bool, true, false, not, List, [], ◌∷◌, length, map, refl}
 use Rattle.std.specs.FinSet.{same_set}
 use Rattle.std.specs.List.{AllByRecursion, Contains, list_any}
 use Rattle.std.proofs.Common.{get_or, ap, ap₂, sym, ◌∙◌, subst, arith}
 use Rattle.std.specs.Cmp.{both_ways}
-use Rattle.std.proofs.lemmas.List.{length-map}
-use Rattle.std.proofs.lemmas.List.Folds.{list_any_at}
+use Rattle.std.proofs.lemmas.List.{get_or_default, length-map}
+use Rattle.std.proofs.lemmas.Simd.{map-map}
+use Rattle.std.proofs.lemmas.List.Folds.{Any-from_list_any, list_any_at}
 use Rattle.std.proofs.Math.ListN.{get_or-map}
 use Rattle.aggs.specs.Differing.{contains_different, different}
 use Rattle.aggs.specs.Values.{is_null, present}
@@ -21,7 +22,6 @@ use Rattle.groups.specs.Differing.{cells_of_parts, groups_of_parts}
 use Rattle.groups.specs.Parting.{AreParted, no_part}
 use Rattle.groups.specs.Tallying.{AreTallied, keep_if, those_of}
 use Rattle.groups.specs.declared.parting.Part.{Part}
-use Rattle.groups.proofs.TallyingLemmas.{any_default}
 use Rattle.groups.proofs.TuplesLemmas.{all_at}
 
 -- ---- the part at i
@@ -33,18 +33,9 @@ pub part_cell : (cells : List Cell) (parts : List Part) (i : ℕ) (cell : Cell) 
 part_cell cells parts i cell h below is =
     let g : Part → Cell = λ part. get_or cells part.code Null in
     let there : i < length (cells_of_parts cells parts) = omega (arith, h, length-map parts g) in
-    is ∙ any_default cells (get_or parts i no_part).code cell Null below ∙ sym (get_or-map g parts i no_part) ∙ any_default (cells_of_parts cells parts) i (g no_part) cell there
+    is ∙ get_or_default cells (get_or parts i no_part).code cell Null below ∙ sym (get_or-map g parts i no_part) ∙ get_or_default (cells_of_parts cells parts) i (g no_part) cell there
 
 -- ---- whether one of some things is so
-some_at : {X : Type 0} (p : X → Bool) (xs : List X) (d : X) → list_any p xs ≡ true → (i : ℕ) × (i < length xs) × (p (get_or xs i d) ≡ true)
-some_at p [] d e = absurd (cc)
-some_at {X} p (x ∷ xs) d e = here (p x) refl (some_at p xs d) e
-  where
-    here : (b : Bool) → p x ≡ b → (list_any p xs ≡ true → (i : ℕ) × (i < length xs) × (p (get_or xs i d) ≡ true)) → (b || list_any p xs) ≡ true →
-        (i : ℕ) × (i < length (x ∷ xs)) × (p (get_or (x ∷ xs) i d) ≡ true)
-    here true is later e = (0, omega arith, is)
-    here false is later e = let found = later e in (suc found.0, omega (arith, found.1), found.2)
-
 any_present : (p : Cell → Bool) (cells : List Cell) → list_any p (present cells) ≡ list_any (λ c. not (is_null c) && p c) cells
 any_present p [] = refl
 any_present p (Null ∷ cells) = any_present p cells
@@ -67,25 +58,23 @@ module _ (parts : List Part) (numbers : List ℕ) (within : AllByRecursion (λ n
     where
       down : list_any (λ n. p (get_or parts n no_part)) numbers ≡ true → list_any p parts ≡ true
       down e =
-          let found = some_at (λ n. p (get_or parts n no_part)) numbers 0 e in
-          list_any_at p parts (get_or numbers found.0 0) no_part (all_at (λ n. n < length parts) numbers found.0 0 within found.1) found.2
+          let found = Any-from_list_any (λ n. p (get_or parts n no_part)) numbers e in
+          let below : found.1 < length parts = subst (λ n. n < length parts) found.3 (all_at (λ n. n < length parts) numbers found.0 found.1 within found.2) in
+          list_any_at p parts found.1 no_part below found.4
 
       up : list_any p parts ≡ true → list_any (λ n. p (get_or parts n no_part)) numbers ≡ true
       up e =
-          let found = some_at p parts no_part e in
-          let at = met found.0 found.1 in
-          list_any_at (λ n. p (get_or parts n no_part)) numbers at.0 found.0 at.1 (subst (λ n. p (get_or parts n no_part) ≡ true) (sym at.2) found.2)
+          let found = Any-from_list_any p parts e in
+          let at = met found.0 found.2 in
+          list_any_at (λ n. p (get_or parts n no_part)) numbers at.0 found.0 at.1
+          (subst (λ n. p (get_or parts n no_part) ≡ true) (sym at.2) (ap p (get_or_default parts found.0 no_part found.1 found.2 ∙ found.3) ∙ found.4))
 
 module _ (groups codes numbers : List ℕ) (parts : List Part) (cells : List Cell) (are : AreParted groups codes numbers parts) where
   map_group : groups ≡ map (λ n. (get_or parts n no_part).group) numbers
   map_group = sym are.of_groups
 
   map_cell : decoded cells codes ≡ map (λ n. get_or cells (get_or parts n no_part).code Null) numbers
-  map_cell = ap (decoded cells) (sym are.of_codes) ∙ twice numbers
-    where
-      twice : (ns : List ℕ) → decoded cells (map (λ n. (get_or parts n no_part).code) ns) ≡ map (λ n. get_or cells (get_or parts n no_part).code Null) ns
-      twice [] = refl
-      twice (n ∷ ns) = ap (λ (l : List Cell). get_or cells (get_or parts n no_part).code Null ∷ l) (twice ns)
+  map_cell = ap (decoded cells) (sym are.of_codes) ∙ map-map (λ code. get_or cells code Null) (λ n. (get_or parts n no_part).code) numbers
 
   -- the cells of a group are those of its parts, as a set
   same_cells_of : (n : ℕ) → different (those_of n groups (decoded cells codes)) ≡ different (those_of n (groups_of_parts parts) (cells_of_parts cells parts))

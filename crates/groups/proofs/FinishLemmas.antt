@@ -1,13 +1,15 @@
 -- The rows of a report, from groups.
-use Rattle.std.specs.Prelude.{◌≡◌, ℕ, zero, suc, ◌+◌, ◌<◌, ◌⊎◌, true, List, [], ◌∷◌, ◌++◌, is_some, length, map, pos, take, Some, refl}
+use Rattle.std.specs.Prelude.{◌≡◌, ℕ, ◌⊎◌, true, List, [], ◌∷◌, ◌++◌, is_some, map, pos, Some, refl}
 use Rattle.std.specs.Borrow.{Bor}
 use Rattle.std.specs.List.{AllByRecursion, Contains, flat_map}
 use Rattle.std.specs.List.Sorted.{IsPermutation, IsSorted}
 use Rattle.std.specs.Map.{keys_of}
-use Rattle.std.proofs.Common.{get_or, ap, ap₂, sym, ◌∙◌, subst, arith, inl, inr}
-use Rattle.std.proofs.lemmas.List.{append_assoc, append-nil, flat_map_more, get_or-map, length-map, take_more}
+use Rattle.std.proofs.Common.{get_or, ap, ap₂, sym, ◌∙◌, subst, inl, inr}
+use Rattle.std.proofs.lemmas.List.{append_assoc, append-nil, get_or_default, length-map}
+use Rattle.std.proofs.lemmas.List.Elements.{recursion_from_All}
 use Rattle.std.proofs.lemmas.List.Sorted.{IsPermutation-map}
 use Rattle.std.proofs.lemmas.Map.Views.{lookup-from_Contains}
+use Rattle.std.proofs.lemmas.Option.{same_Some}
 use Rattle.aggs.specs.Accs.{acc_finishes}
 use Rattle.aggs.specs.declared.acc.Acc.{Acc}
 use Rattle.aggs.specs.declared.acc.Kind.TheVariants as kind
@@ -20,7 +22,7 @@ use Rattle.groups.specs.Accumulators.{accs_of, aggregations_of, group}
 use Rattle.groups.specs.Finishing.{row_by, rows_by}
 use Rattle.groups.specs.Groups.{cell_at, column_of, item_value, members, rows_over, set_rows, shown}
 use Rattle.groups.specs.Partials.{Stands, StandsAt, StandsEach}
-use Rattle.groups.proofs.TuplesLemmas.{all_from, all_in_order}
+use Rattle.groups.proofs.TuplesLemmas.{all_in_order}
 use Rattle.groups.proofs.OrderLemmas.{rising_differ, value_by_tuple}
 use Rattle.groups.proofs.SetTuplesLemmas.{all_tuples, group_is, group_is_some, has_group}
 use Rattle.query.specs.Plans.{PlanTree}
@@ -48,34 +50,18 @@ row_is H set tuple rows (item.Sum c ∷ items) = more_values (acc_finishes H kin
 row_is H set tuple rows (item.Min c ∷ items) = more_values (acc_finishes H kind.Min (column_of c rows)) (row_is H set tuple rows items)
 row_is H set tuple rows (item.Max c ∷ items) = more_values (acc_finishes H kind.Max (column_of c rows)) (row_is H set tuple rows items)
 
-same_at : {X : Type 0} (xs : List X) (k : ℕ) (d e : X) → k < length xs → get_or xs k d ≡ get_or xs k e
-same_at [] k d e h = absurd (omega (arith, h))
-same_at (x ∷ xs) zero d e h = refl
-same_at (x ∷ xs) (suc k) d e h = same_at xs k d e (omega (arith, h))
-
-same_some : {X : Type 0} (a b : X) → Some a ≡ Some b → a ≡ b
-same_some a b e = cc
-
 -- ---- the rows of groups
 -- what is shown of the group of a tuple
 abbrev shown_of : List ℕ → PlanTree → List RowValue → List Cell → List (List Total)
 shown_of set plan rows t = shown plan (map (item_value set t (members set t rows)) plan.items)
 
 module _ {H : Type 0} where
-  next_group : (xs : List (Bor (List Cell) × Bor (List (Acc H)))) (i : ℕ) (x : Bor (List Cell) × Bor (List (Acc H))) → i < length xs → x ≡ get_or xs i x →
-      take (i + 1) (lent xs) ≡ take i (lent xs) ++ (x.0.now, x.1.now) ∷ []
-  next_group xs i x h is =
-      let one : List Cell × List (Acc H) = (x.0.now, x.1.now) in
-      let e : get_or (lent xs) i one ≡ one = get_or-map (λ p. (p.0.now, p.1.now)) xs i x one h ∙ ap (λ p. (p.0.now, p.1.now)) (sym is) in
-      let n : i < length (lent xs) = omega (arith, h, length-map {B = List Cell × List (Acc H)} xs (λ p. (p.0.now, p.1.now))) in
-      take_more (lent xs) i one n ∙ ap (λ g. take i (lent xs) ++ g ∷ []) e
-
-  pub rows_next : (set : List ℕ) (plan : PlanTree) (xs : List (Bor (List Cell) × Bor (List (Acc H)))) (i : ℕ) (x : Bor (List Cell) × Bor (List (Acc H))) →
-      i < length xs → x ≡ get_or xs i x → (old made new more : List (List Total)) (row : List Total) → made ≡ old ++ rows_by set plan (take i (lent xs)) →
-      row ≡ row_by set x.0.now plan.items x.1.now → more ≡ shown plan row → new ≡ made ++ more → new ≡ old ++ rows_by set plan (take (i + 1) (lent xs))
-  rows_next set plan xs i x h is old made new more row now of show e = e ∙ ap₂ (λ (l m : List (List Total)). l ++ m) now (show ∙ ap (shown plan) of)
-      ∙ flat_map_more (λ g. shown plan (row_by set g.0 plan.items g.1)) old (take i (lent xs)) (x.0.now, x.1.now)
-      ∙ ap (λ gs. old ++ rows_by set plan gs) (sym (next_group xs i x h is))
+  -- the row of the next group, unless HAVING drops it, goes behind those that were made
+  pub rows_next : (set : List ℕ) (plan : PlanTree) (x : Bor (List Cell) × Bor (List (Acc H))) (left : List (Bor (List Cell) × Bor (List (Acc H)))) (made more new all : List (List Total)) (row : List Total) →
+      made ++ rows_by set plan (lent (x ∷ left)) ≡ all → row ≡ row_by set x.0.now plan.items x.1.now → more ≡ shown plan row → new ≡ made ++ more → new ++ rows_by set plan (lent left) ≡ all
+  rows_next set plan x left made more new all row now of show e =
+      ap (λ l. l ++ rows_by set plan (lent left)) (e ∙ ap (λ m. made ++ m) (show ∙ ap (shown plan) of))
+      ∙ append_assoc made (shown plan (row_by set x.0.now plan.items x.1.now)) (rows_by set plan (lent left)) ∙ now
 
   module _ (hash : List Cell → ℕ) (set : List ℕ) (plan : PlanTree) (rows : List RowValue) where
     -- a group has the accumulators of its tuple's rows
@@ -94,12 +80,12 @@ module _ {H : Type 0} where
           let got : group (aggregations_of plan.items) set rows g.0 ≡ Some g.1 = sym (stands.gives g.0) ∙ value_by_tuple hash es g.0
           ∙ lookup-from_Contains tuple_eq-equiv g.0 g.1 es (rising_differ hash (keys_of es) rising) there in
           let has : has_group set rows g.0 ≡ true = sym (group_is_some H (aggregations_of plan.items) set rows g.0) ∙ ap is_some got in
-          same_some _ _ (sym got ∙ group_is (aggregations_of plan.items) set rows g.0 has)
+          same_Some _ _ (sym got ∙ group_is (aggregations_of plan.items) set rows g.0 has)
 
       -- in whatever order the groups come with their tuples rising
       pub rows_are : (gs : List (List Cell × List (Acc H))) → IsPermutation es gs → IsSorted tuple_cmp (keys_of gs) → rows_by set plan gs ≡ set_rows plan set rows
       rows_are gs all up = each_row gs
-          (all_in_order HasAccs es gs all (all_from HasAccs es (λ k d h. has_accs (get_or es k d) (k, h, same_at es k (get_or es k d) d h))))
+          (all_in_order HasAccs es gs all (recursion_from_All HasAccs es (λ k d h. has_accs (get_or es k d) (k, h, get_or_default es k (get_or es k d) d h))))
           ∙ ap (flat_map (shown_of set plan rows))
           (all_tuples hash (aggregations_of plan.items) set rows es rising stands (keys_of gs) (IsPermutation-map (λ g. g.0) es gs all) up)
 

@@ -5,12 +5,12 @@ use Rattle.std.proofs.lemmas.List.{drop_more}
 use Rattle.std.specs.List.{list_any}
 use Rattle.std.specs.Prelude.{◌^◌, nat_lt}
 use Rattle.std.proofs.Math.Nat.{pow-suc}
-use Rattle.groups.specs.Groups.{grouping, mark, place_in}
+use Rattle.groups.specs.Groups.{grouping, mark, index_in}
 use Rattle.query.specs.Values.{is_long}
 use Rattle.query.specs.declared.item.Item.{Item}
 use Rattle.query.specs.declared.item.Item.TheVariants as item
 
-mark_most : (place : Option ℕ) → mark place ≤ 1
+mark_most : (at_set : Option ℕ) → mark at_set ≤ 1
 mark_most None = omega arith
 mark_most (Some i) = omega arith
 
@@ -25,20 +25,20 @@ digit_more found digit power next rest e = grind (arith, e)
 few_more : (found digit power next : ℕ) → next ≡ power * 2 → digit ≤ 1 → found + 1 ≤ power → 2 * found + digit + 1 ≤ next
 few_more found digit power next e one few = omega (arith, e, one, few)
 
-digits_next : (set all rest : List ℕ) (column index found : ℕ) → Digits set all (column ∷ rest) index found → Digits set all rest (suc index) (2 * found + mark (place_in set column))
+digits_next : (set all rest : List ℕ) (column index found : ℕ) → Digits set all (column ∷ rest) index found → Digits set all rest (suc index) (2 * found + mark (index_in set column))
 digits_next set all rest column index found now = record {
-  same = now.same ∙ digit_more found (mark (place_in set column)) (2 ^ length rest) (2 ^ suc (length rest)) (grouping set rest) (pow-suc 2 (length rest));
-  few = few_more found (mark (place_in set column)) (2 ^ index) (2 ^ suc index) (pow-suc 2 index) (mark_most (place_in set column)) now.few;
+  same = now.same ∙ digit_more found (mark (index_in set column)) (2 ^ length rest) (2 ^ suc (length rest)) (grouping set rest) (pow-suc 2 (length rest));
+  few = few_more found (mark (index_in set column)) (2 ^ index) (2 ^ suc index) (pow-suc 2 index) (mark_most (index_in set column)) now.few;
 }
 
 -- the step of the loop
-pub digit_step : (set columns : List ℕ) (index found digit : ℕ) (place : Option ℕ) → index < length columns → Digits set columns (drop index columns) index found → place ≡ place_in set (get_or columns index 0)
-    → digit ≡ mark place → Digits set columns (drop (index + 1) columns) (index + 1) (2 * found + digit)
-digit_step set columns index found digit place within now at digit_is =
+pub digit_step : (set columns : List ℕ) (index found digit : ℕ) (at_set : Option ℕ) → index < length columns → Digits set columns (drop index columns) index found → at_set ≡ index_in set (get_or columns index 0)
+    → digit ≡ mark at_set → Digits set columns (drop (index + 1) columns) (index + 1) (2 * found + digit)
+digit_step set columns index found digit at_set within now at digit_is =
     let column = get_or columns index 0 in
     let next = digits_next set columns (drop (index + 1) columns) column index found (subst (λ l. Digits set columns l index found) (drop_more columns index 0 within) now) in
     let more : suc index ≡ index + 1 = omega arith in
-    let marks : mark (place_in set column) ≡ digit = ap mark (sym at) ∙ sym digit_is in
+    let marks : mark (index_in set column) ≡ digit = ap mark (sym at) ∙ sym digit_is in
     subst (λ i. Digits set columns (drop (index + 1) columns) i (2 * found + digit)) more (subst (λ d. Digits set columns (drop (index + 1) columns) (suc index) (2 * found + d)) marks next)
 
 -- ---- no GROUPING is long

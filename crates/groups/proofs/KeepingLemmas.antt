@@ -1,9 +1,9 @@
 -- The rows that WHERE keeps, found by the columns that it names.
-use Rattle.std.specs.Prelude.{◌≡◌, ℕ, zero, suc, ◌+◌, ◌<◌, ◌≤◌, ◌==◌, Bool, true, false, List, [], ◌∷◌, ◌++◌, drop, length, map, min, take, Option, Some, refl}
+use Rattle.std.specs.Prelude.{◌≡◌, ℕ, suc, ◌+◌, ◌<◌, ◌≤◌, ◌==◌, Bool, true, false, List, [], ◌∷◌, ◌++◌, drop, length, map, min, take, Option, Some, refl}
 use Rattle.std.specs.List.{AllByRecursion}
 use Rattle.std.proofs.Common.{get_or, nat_lt, ap, ap₂, sym, ◌∙◌, subst, arith, eq-eqb}
 use Rattle.std.proofs.lemmas.Bool.{ltb-false, ltb-true}
-use Rattle.std.proofs.lemmas.List.{append-nil, length-map, length-take, take_all, take_more}
+use Rattle.std.proofs.lemmas.List.{append-nil, get_or_default, get_or-map as get_at, length-map, length-take, take_all, take_more}
 use Rattle.std.proofs.Math.ListN.{get_or-map}
 use Rattle.std.proofs.lemmas.List.Sums.{fails_before_first, passes_at_first}
 use Rattle.std.proofs.lemmas.Map.Views.{exact_unsigned_eq}
@@ -14,51 +14,39 @@ use Rattle.cells.specs.Values.{RowValue}
 use Rattle.cells.specs.declared.cell.Cell.{Cell}
 use Rattle.cells.specs.declared.cell.Cell.TheVariants.{Null}
 use Rattle.cells.specs.declared.total.Total.{Total}
-use Rattle.groups.specs.Groups.{cell_at, cell_of_place, is_true, keeps, kept, place_in, tuple_of}
+use Rattle.groups.specs.Groups.{cell_at, cell_at_index, is_true, keeps, kept, index_in, tuple_of}
 use Rattle.groups.specs.Keeping.{KeptBy, cells_for, chosen, truth_for}
 use Rattle.groups.specs.Numbered.{AreNumbered, no_row, picked_rows}
 use Rattle.groups.specs.Tallying.{keep_if}
-use Rattle.groups.proofs.TallyingLemmas.{any_default}
+use Rattle.groups.proofs.TallyingLemmas.{passing_few, passing_more}
 use Rattle.query.specs.Naming.{AgreeAt, columns_named}
 use Rattle.query.specs.Trees.{PredicateTree}
 use Rattle.query.specs.Truth.{truth}
 use Rattle.query.specs.declared.test.Test.{Test}
 
 -- ---- those that are marked
-keep_behind : {X : Type 0} (b : Bool) (x : X) (xs ys : List X) → keep_if b x (xs ++ ys) ≡ keep_if b x xs ++ ys
-keep_behind true x xs ys = refl
-keep_behind false x xs ys = refl
-
-chosen_more : {X : Type 0} (marks : List Bool) (numbers : List ℕ) (xs : List X) (n : ℕ) (x : X) → length numbers ≡ length xs →
-    chosen marks (numbers ++ n ∷ []) (xs ++ x ∷ []) ≡ chosen marks numbers xs ++ keep_if (get_or marks n false) x []
-chosen_more marks [] [] n x e = refl
-chosen_more marks [] (y ∷ xs) n x e = absurd (omega (arith, e))
-chosen_more marks (k ∷ numbers) [] n x e = absurd (omega (arith, e))
-chosen_more marks (k ∷ numbers) (y ∷ xs) n x e =
-    ap (keep_if (get_or marks k false) y) (chosen_more marks numbers xs n x (omega (arith, e))) ∙ keep_behind (get_or marks k false) y (chosen marks numbers xs) (keep_if (get_or marks n false) x [])
-
 pub chosen_next : (marks : List Bool) (numbers places : List ℕ) (i : ℕ) → length numbers ≡ length places → i < length places →
     chosen marks (take (i + 1) numbers) (take (i + 1) places) ≡ chosen marks (take i numbers) (take i places) ++ keep_if (get_or marks (get_or numbers i 0) false) (get_or places i 0) []
 chosen_next marks numbers places i same h =
     ap₂ (chosen marks) (take_more numbers i 0 (omega (arith, h, same))) (take_more places i 0 h) ∙
-    chosen_more marks (take i numbers) (take i places) (get_or numbers i 0) (get_or places i 0) (length-take i numbers ∙ ap (λ l. min i l) same ∙ sym (length-take i places))
+    passing_more (λ n. get_or marks n false) (take i numbers) (take i places) (get_or numbers i 0) (get_or places i 0) (length-take i numbers ∙ ap (λ l. min i l) same ∙ sym (length-take i places))
 
 pub chosen_all : (marks : List Bool) (numbers places : List ℕ) (i : ℕ) → length numbers ≤ i → length places ≤ i → chosen marks (take i numbers) (take i places) ≡ chosen marks numbers places
 chosen_all marks numbers places i h k = ap₂ (chosen marks) (take_all i numbers h) (take_all i places k)
 
 -- ---- the cells of the named columns
-place_there : (named : List ℕ) (k i : ℕ) (r : RowValue) → i < length named → get_or named i 0 ≡ k → cell_of_place (tuple_of named r) (place_in named k) ≡ cell_at k r
-place_there named k i r h is = go (nat_lt (position_or_len (λ c. c == k) named) (length named)) refl
+index_there : (named : List ℕ) (k i : ℕ) (r : RowValue) → i < length named → get_or named i 0 ≡ k → cell_at_index (tuple_of named r) (index_in named k) ≡ cell_at k r
+index_there named k i r h is = go (nat_lt (position_or_len (λ c. c == k) named) (length named)) refl
   where
     at : ℕ
     at = position_or_len (λ c. c == k) named
 
-    go : (b : Bool) → nat_lt at (length named) ≡ b → cell_of_place (tuple_of named r) (place_in named k) ≡ cell_at k r
+    go : (b : Bool) → nat_lt at (length named) ≡ b → cell_at_index (tuple_of named r) (index_in named k) ≡ cell_at k r
     go true f =
         let below : at < length named = ltb-true _ _ f in
         let same : get_or named at 0 ≡ k = exact_unsigned_eq (get_or named at 0) k (passes_at_first (λ c. c == k) named 0 below) in
         rw f
-        (any_default (tuple_of named r) at Null (cell_at 0 r) (omega (arith, below, length-map named (λ c. cell_at c r))) ∙
+        (get_or_default (tuple_of named r) at Null (cell_at 0 r) (omega (arith, below, length-map named (λ c. cell_at c r))) ∙
         get_or-map (λ c. cell_at c r) named at 0 ∙ ap (λ c. cell_at c r) same)
     go false f =
         let past : length named ≤ at = ltb-false _ _ f in
@@ -70,7 +58,7 @@ agree : (named : List ℕ) (width : ℕ) (r : RowValue) → AllByRecursion (λ k
 agree named width r below = each named (λ i h. (i, h, refl)) below
   where
     f : ℕ → Cell
-    f = λ k. cell_of_place (tuple_of named r) (place_in named k)
+    f = λ k. cell_at_index (tuple_of named r) (index_in named k)
 
     each : (some : List ℕ) → ((i : ℕ) → i < length some → (j : ℕ) × (j < length named) × (get_or named j 0 ≡ get_or some i 0)) → AllByRecursion (λ k. k < width) some →
         AgreeAt some (map cell_total (cells_for named width (tuple_of named r))) (map cell_total r.cells)
@@ -79,17 +67,12 @@ agree named width r below = each named (λ i h. (i, h, refl)) below
         let here : 0 + k ≡ k = omega arith in
         let met : (j : ℕ) × (j < length named) × (get_or named j 0 ≡ k) = among 0 (omega arith) in (
           get_or-map cell_total (cells_for named width (tuple_of named r)) k Null ∙
-              ap cell_total (get_or-map-range_with_len f 0 width k k Null all.0 here ∙ place_there named k met.0 r met.1 met.2) ∙
+              ap cell_total (get_or-map-range_with_len f 0 width k k Null all.0 here ∙ index_there named k met.0 r met.1 met.2) ∙
               sym (get_or-map cell_total r.cells k Null),
           each some (λ i h. among (suc i) (omega (arith, h))) all.1,
         )
 
 -- ---- the rows that are chosen
-read_truth : (f : List Cell → Bool) (tuples : List (List Cell)) (n : ℕ) → n < length tuples → get_or (map f tuples) n false ≡ f (get_or tuples n [])
-read_truth f [] n h = absurd (omega (arith, h))
-read_truth f (t ∷ tuples) zero h = refl
-read_truth f (t ∷ tuples) (suc n) h = read_truth f tuples n (omega (arith, h))
-
 kept_step : (condition : Option (PredicateTree (Test ℕ))) (r : RowValue) (rows : List RowValue) (b : Bool) → keeps condition r ≡ b → kept condition (r ∷ rows) ≡ keep_if b r (kept condition rows)
 kept_step condition r rows true e = rw e refl
 kept_step condition r rows false e = rw e refl
@@ -118,7 +101,7 @@ module _ (law : TruthByColumns) (p : PredicateTree (Test ℕ)) (named : List ℕ
       let r : RowValue = get_or all i no_row in
       let first : get_or tuples n [] ≡ tuple_of named r = ap (λ l. get_or l 0 []) stand in
       let b : Bool = get_or marks n false in
-      let same : b ≡ keeps (Some p) r = read_truth (truth_for p named width) tuples n within.0 ∙ ap (truth_for p named width) first ∙ marked r in
+      let same : b ≡ keeps (Some p) r = get_at (truth_for p named width) tuples n [] false within.0 ∙ ap (truth_for p named width) first ∙ marked r in
       let rest : picked_rows all (chosen marks numbers places) ≡ kept (Some p) (picked_rows all places) = chosen_kept places numbers within.1 (ap (λ l. drop 1 l) stand) in
       mapped_if (λ j. get_or all j no_row) b i (chosen marks numbers places) ∙ ap (keep_if b r) rest ∙ sym (kept_step (Some p) r (picked_rows all places) b (sym same))
 
@@ -131,15 +114,6 @@ chosen_among n marks (k ∷ numbers) (i ∷ places) all = each (get_or marks k f
     each true some rest = (all.0, rest)
     each false some rest = rest
 
-chosen_few : (marks : List Bool) (numbers places : List ℕ) → length (chosen marks numbers places) ≤ length places
-chosen_few marks [] places = omega arith
-chosen_few marks (k ∷ numbers) [] = omega arith
-chosen_few marks (k ∷ numbers) (i ∷ places) = each (get_or marks k false) (chosen marks numbers places) (chosen_few marks numbers places)
-  where
-    each : (b : Bool) (some : List ℕ) → length some ≤ length places → length (keep_if b i some) ≤ suc (length places)
-    each true some few = omega (arith, few)
-    each false some few = omega (arith, few)
-
 pub kept_by : (law : TruthByColumns) (p : PredicateTree (Test ℕ)) (named : List ℕ) (width : ℕ) (all : List RowValue) (places numbers : List ℕ) (tuples : List (List Cell)) (some : List ℕ) →
     named ≡ columns_named p → AllByRecursion (λ k. k < width) named → AreNumbered named (picked_rows all places) numbers tuples →
     some ≡ chosen (map (truth_for p named width) tuples) numbers places → KeptBy p all places some
@@ -147,16 +121,16 @@ kept_by law p named width all places numbers tuples some is below now e =
     subst (KeptBy p all places) (sym e) (record {
       kept = chosen_kept law p named width all tuples is below places numbers now.within now.stand;
       among = λ n. chosen_among n (map (truth_for p named width) tuples) numbers places;
-      few = chosen_few (map (truth_for p named width) tuples) numbers places;
+      few = passing_few (λ n. get_or (map (truth_for p named width) tuples) n false) numbers places;
     })
 
 -- ---- the next cell
-pub cell_next : (named : List ℕ) (tuple read : List Cell) (k : ℕ) (place : Option ℕ) (cell : Cell) (cells added : List Cell) → read ≡ tuple → place ≡ place_in named k →
-    cell ≡ cell_of_place read place → cells ≡ cells_for named k tuple → added ≡ cells ++ cell ∷ [] → added ≡ cells_for named (k + 1) tuple
+pub cell_next : (named : List ℕ) (tuple read : List Cell) (k : ℕ) (place : Option ℕ) (cell : Cell) (cells added : List Cell) → read ≡ tuple → place ≡ index_in named k →
+    cell ≡ cell_at_index read place → cells ≡ cells_for named k tuple → added ≡ cells ++ cell ∷ [] → added ≡ cells_for named (k + 1) tuple
 cell_next named tuple read k place cell cells added same at is are e =
     let here : 0 + k ≡ k = omega arith in
-    e ∙ ap₂ (λ (l : List Cell) (c : Cell). l ++ c ∷ []) are (is ∙ ap₂ cell_of_place same at) ∙
-    sym (map-range_with_len_more (λ j. cell_of_place tuple (place_in named j)) 0 k k here)
+    e ∙ ap₂ (λ (l : List Cell) (c : Cell). l ++ c ∷ []) are (is ∙ ap₂ cell_at_index same at) ∙
+    sym (map-range_with_len_more (λ j. cell_at_index tuple (index_in named j)) 0 k k here)
 
 pub marked_more : (marks : List Bool) (numbers places : List ℕ) (i : ℕ) (kept added : List ℕ) → length numbers ≡ length places → i < length places → kept ≡ chosen marks (take i numbers) (take i places) →
     get_or marks (get_or numbers i 0) false ≡ true → added ≡ kept ++ get_or places i 0 ∷ [] → added ≡ chosen marks (take (i + 1) numbers) (take (i + 1) places)

@@ -6,7 +6,7 @@ use Rattle.std.specs.FinMap.{IsAntisymmetric}
 use Rattle.std.specs.Ordering.{is_eq, is_lt}
 use Rattle.std.specs.declared.cmp.Ordering.{Ordering}
 use Rattle.std.proofs.Common.{eqb-true, get_or, ap, sym, ◌∙◌, subst, arith}
-use Rattle.std.proofs.lemmas.List.{drop_more, length-append, length-take, take_more, take-append-drop}
+use Rattle.std.proofs.lemmas.List.{length-take}
 use Rattle.std.proofs.lemmas.List.Sorted.{length_permutation}
 use Rattle.aggs.specs.declared.acc.Acc.{Acc}
 use Rattle.cells.specs.SameKeys.{exact_tuples, same_tuples}
@@ -14,13 +14,14 @@ use Rattle.cells.specs.TupleOrder.{tuple_cmp, tuple_cmp-total, tuple_eq}
 use Rattle.cells.specs.Values.{RowValue}
 use Rattle.cells.specs.declared.cell.Cell.{Cell}
 use Rattle.groups.specs.Accumulators.{AllFit, accs_of, both, group, group_or, is_start, no_rows}
-use Rattle.groups.specs.Bags.{AreParts, Covers, Group, IsCounted, IsPart, joined}
+use Rattle.groups.specs.Bags.{AreParts, Covers, Group, IsCounted, joined}
 use Rattle.groups.specs.Groups.{members, tuple_of}
 use Rattle.groups.specs.Laws.{kept_short}
 use Rattle.groups.specs.Laying.{AreLaidOnce, CanMeet, IsLaid, Lays, found, given, met_from}
 use Rattle.groups.specs.Partials.{StandsAt}
 use Rattle.groups.specs.declared.aggregation.Aggregation.{Aggregation}
-use Rattle.groups.proofs.BagLemmas.{all_fit, covers_none, met_covers, met_joined}
+use Rattle.groups.proofs.BagLemmas.{all_fit, cut_at, cut_short, met_covers, met_joined}
+use Rattle.groups.proofs.TuplesLemmas.{cut_list, take_next}
 use Rattle.trie.specs.Digits.{digit_order}
 use Rattle.trie.specs.Entries.{with_pair, with_pairs}
 use Rattle.trie.specs.Maps.{map_of}
@@ -98,60 +99,21 @@ module _ {H : Type 0} where
 
   module _ (hash : List Cell → ℕ) (aggregations : List Aggregation) (columns : List ℕ) (groups : List (Group H)) (i : ℕ)
       (g : Group H) (h : i < length groups) (is : g ≡ get_or groups i g) where
-    one_more_group : take (i + 1) groups ≡ take i groups ++ g ∷ []
-    one_more_group = take_more groups i g h ∙ ap (λ x. take i groups ++ x ∷ []) (sym is)
-
-    laid_more : (old new : List (Group H)) → IsLaid hash aggregations columns (take i groups) old → Lays hash g.0 g.1 old new →
-        IsLaid hash aggregations columns (take (i + 1) groups) new
-    laid_more old new now lays = record {
-      gives = λ t. lays.gives t ∙ ap (λ o. both o (given g t)) (now.gives t)
-          ∙ sym (met_push (group aggregations columns [] t) (take i groups) g t) ∙ ap (λ l. met_from (group aggregations columns [] t) l t) (sym one_more_group);
-      short = omega (arith, now.short, lays.longer, length-take i groups, length-take (i + 1) groups);
-    }
-
-    fits_next : (old : List (Group H)) → IsLaid hash aggregations columns (take i groups) old → CanMeet aggregations columns groups →
-        IfSome (found hash old g.0) (λ o. AllFit o g.1)
-    fits_next old now can = subst (λ o. IfSome o (λ o. AllFit o g.1)) (sym (now.gives g.0))
-        (can.fit (take i groups) (drop (i + 1) groups) g
-        (sym (take-append-drop i groups) ∙ ap (λ l. take i groups ++ l) (drop_more groups i g h ∙ ap (λ x. x ∷ drop (i + 1) groups) (sym is))))
-
     pub laid_copy : (old new : List (Group H)) (t : List Cell) (a : List (Acc H)) → IsLaid hash aggregations columns (take i groups) old → t ≡ g.0 → a ≡ g.1 → Lays hash t a old new →
         IsLaid hash aggregations columns (take (i + 1) groups) new
-    laid_copy old new t a now p q lays = laid_more old new now (subst (λ u. Lays hash u g.1 old new) p (subst (λ b. Lays hash t b old new) q lays))
+    laid_copy old new t a now p q copied =
+        let lays : Lays hash g.0 g.1 old new = subst (λ u. Lays hash u g.1 old new) p (subst (λ b. Lays hash t b old new) q copied) in
+        record {
+          gives = λ t. lays.gives t ∙ ap (λ o. both o (given g t)) (now.gives t)
+              ∙ sym (met_push (group aggregations columns [] t) (take i groups) g t) ∙ ap (λ l. met_from (group aggregations columns [] t) l t) (sym (take_next groups i g g h is));
+          short = omega (arith, now.short, lays.longer, length-take i groups, length-take (i + 1) groups);
+        }
 
     pub fits_copy : (old : List (Group H)) (t : List Cell) (a : List (Acc H)) → IsLaid hash aggregations columns (take i groups) old → CanMeet aggregations columns groups →
         t ≡ g.0 → a ≡ g.1 → IfSome (found hash old t) (λ o. AllFit o a)
-    fits_copy old t a now can p q = subst (λ u. IfSome (found hash old u) (λ o. AllFit o a)) (sym p) (subst (λ b. IfSome (found hash old g.0) (λ o. AllFit o b)) (sym q) (fits_next old now can))
+    fits_copy old t a now can p q = rw (p, q) (subst (λ o. IfSome o (λ o. AllFit o g.1)) (sym (now.gives g.0)) (can.fit (take i groups) (drop (i + 1) groups) g (cut_list groups i g g h is)))
 
   module _ (aggregations : List Aggregation) (columns : List ℕ) where
-    record IsSplit (before : List (Group H)) (g : Group H) (parts : List (List RowValue)) : Type 0 where
-      firsts : List (List RowValue)
-      part : List RowValue
-      are : AreParts aggregations columns before firsts
-      is : IsPart aggregations columns g part
-      short : length (joined firsts) + length part ≤ length (joined parts)
-
-    split_at : (before after : List (Group H)) (g : Group H) (parts : List (List RowValue)) →
-        AreParts aggregations columns (before ++ g ∷ after) parts → IsSplit before g parts
-    split_at [] after g [] are = absurd are
-    split_at [] after g (p ∷ parts) are = record {
-      firsts = [];
-      part = p;
-      are = tt;
-      is = are.0;
-      short = omega (arith, length-append p (joined parts));
-    }
-    split_at (b ∷ before) after g [] are = absurd are
-    split_at (b ∷ before) after g (p ∷ parts) are =
-        let rest = split_at before after g parts are.1 in
-        record {
-          firsts = p ∷ rest.firsts;
-          part = rest.part;
-          are = (are.0, rest.are);
-          is = rest.is;
-          short = omega (arith, rest.short, length-append p (joined parts), length-append p (joined rest.firsts));
-        }
-
     fits_group : (start : Bool) (rows : List RowValue) (accs : List (Acc H)) → AllFit (accs_of aggregations rows) accs →
         IfSome (group_or aggregations start rows) (λ o. AllFit o accs)
     fits_group start rows accs fit = one (no_rows rows && not start)
@@ -163,30 +125,18 @@ module _ {H : Type 0} where
     pub can_meet : (groups : List (Group H)) → IsCounted aggregations columns groups → CanMeet aggregations columns groups
     can_meet groups counted = let covers = counted.covers in record {
       fit = λ before after g e.
-          let split = split_at before after g covers.parts (subst (λ gs. AreParts aggregations columns gs covers.parts) e covers.each) in
-          let ms = members columns g.0 (joined split.firsts) in
+          let cut = cut_at aggregations columns before g after covers.parts (subst (λ gs. AreParts aggregations columns gs covers.parts) e covers.each) in
+          let ms = members columns g.0 (joined cut.firsts) in
           let test : RowValue → Bool = λ r. tuple_eq (tuple_of columns r) g.0 in
-          subst (λ o. IfSome o (λ old. AllFit old g.1)) (sym (met_joined aggregations columns before split.firsts [] g.0 split.are))
-          (fits_group (is_start columns g.0) ms g.1 (subst (AllFit (accs_of aggregations ms)) (sym split.is.accs)
-          (all_fit H aggregations ms split.part
-          (omega (arith, kept_short test (joined split.firsts), split.short, counted.few, length_permutation counted.rows (joined covers.parts) covers.all)))));
+          subst (λ o. IfSome o (λ old. AllFit old g.1)) (sym (met_joined aggregations columns before cut.firsts [] g.0 cut.are))
+          (fits_group (is_start columns g.0) ms g.1 (subst (AllFit (accs_of aggregations ms)) (sym (cut.is).accs)
+          (all_fit H aggregations ms cut.part
+          (omega (arith, kept_short test (joined cut.firsts), cut_short aggregations columns before g after covers.parts cut, counted.few, length_permutation counted.rows (joined covers.parts) covers.all)))));
     }
 
     pub stands : (hash : List Cell → ℕ) (rows : List RowValue) (groups entries : List (Group H)) → Covers aggregations columns rows groups →
         IsLaid hash aggregations columns groups entries → StandsAt hash aggregations columns rows entries
     stands hash rows groups entries covers laid = record { gives = λ t. laid.gives t ∙ met_covers aggregations columns rows groups t covers }
-
-    pub start_stands : (hash : List Cell → ℕ) (entries : List (Group H)) → IsLaid hash aggregations columns [] entries → StandsAt hash aggregations columns [] entries
-    start_stands hash entries laid = stands hash [] [] entries (covers_none aggregations columns) laid
-
-  module _ (aggregations : List Aggregation) (columns : List ℕ) (its groups : List (Group H)) (same : its ≡ groups) where
-    pub bag_meets : IsCounted aggregations columns groups → CanMeet aggregations columns its
-    bag_meets counted = subst (CanMeet aggregations columns) (sym same) (can_meet aggregations columns groups counted)
-
-    pub bag_stands : (hash : List Cell → ℕ) (rows : List RowValue) (entries : List (Group H)) → Covers aggregations columns rows groups →
-        IsLaid hash aggregations columns its entries → StandsAt hash aggregations columns rows entries
-    bag_stands hash rows entries covers laid = stands aggregations columns hash rows groups entries covers
-        (subst (λ l. IsLaid hash aggregations columns l entries) same laid)
 
   pub fits_none : (hash : List Cell → ℕ) (es : List (Group H)) (t : List Cell) (a : List (Acc H)) → es ≡ [] → IfSome (found hash es t) (λ o. AllFit o a)
   fits_none hash es t a e = rw e tt

@@ -21,3 +21,4 @@ pub mod SetTuplesLemmas
 pub mod SourcesLemmas
 pub mod TuplesLemmas
 pub mod VisitingLemmas
+pub mod HavingLemmas

@@ -1,33 +1,31 @@
 -- Pools of groups, and partial results set by set.
 use Rattle.std.specs.Prelude.{◌≡◌, ◌==◌, ℕ, ◌+◌, ◌<◌, ◌≤◌, Bool, true, false, List, [], ◌∷◌, ◌++◌, length, nat_eq, nat_lt, ◌&&◌, take, Some, refl, slice_index_or}
 use Rattle.std.specs.Cmp.Lexicographic.{pointwise}
-use Rattle.std.proofs.Common.{eqb-true, get_or, ap, ap₂, arith, sym, ◌∙◌, subst}
+use Rattle.std.proofs.Common.{eqb-true, get_or, ap₂, arith, sym, ◌∙◌, subst}
 use Rattle.std.proofs.lemmas.Bool.{ltb-false, ltb-true}
 use Rattle.std.proofs.lemmas.List.{map-append, take_all, take_more}
 use Rattle.std.proofs.lemmas.List.Quantifiers.{position-Some}
 use Rattle.cells.specs.Values.{RowValue}
 use Rattle.cells.specs.declared.cell.Cell.{Cell}
-use Rattle.groups.specs.Coarsening.{ArePlaces}
+use Rattle.groups.specs.Coarsening.{AreIndexes}
 use Rattle.groups.specs.Bags.{Covers, Group}
-use Rattle.groups.specs.Groups.{place_in}
-use Rattle.groups.specs.Laying.{IsLaid}
+use Rattle.groups.specs.Groups.{index_in}
 use Rattle.groups.specs.Partials.{StandsAt, StandsEach}
 use Rattle.groups.specs.Pools.{AreCounted, Grows, HaveFiner, HaveSetsAbove, HaveSetsOf, IsPool, MayCoarsenAll, has_finer, has_set}
 use Rattle.groups.specs.declared.aggregation.Aggregation.{Aggregation}
 use Rattle.groups.specs.declared.pool.SetBag.{SetBag}
-use Rattle.groups.proofs.LayingLemmas.{start_stands}
 use Rattle.groups.proofs.SourcesLemmas.{finer_stays, set_here, set_stays}
-use Rattle.groups.proofs.TuplesLemmas.{all_at, all_push, all_through}
+use Rattle.groups.proofs.TuplesLemmas.{all_at, all_push, all_through, take_next, zip_push}
 
--- ---- places of columns
+-- ---- indexes of columns
 
-pub places_more : (finer columns places new : List ℕ) (i place : ℕ) → i < length columns → ArePlaces finer (take i columns) places →
-    place_in finer (get_or columns i 0) ≡ Some place → new ≡ places ++ place ∷ [] → ArePlaces finer (take (i + 1) columns) new
-places_more finer columns places new i place h now e f =
-    let found = position-Some (λ c. c == get_or columns i 0) finer place 0 e in
-    subst (ArePlaces finer (take (i + 1) columns)) (sym f) (record {
-      within = all_push (λ k. k < length finer) places place now.within found.0;
-      are = map-append (λ k. slice_index_or finer k 0) places (place ∷ []) ∙ ap₂ (λ (xs : List ℕ) (c : ℕ). xs ++ c ∷ []) now.are (eqb-true _ _ found.1)
+pub indexes_more : (finer columns indexes new : List ℕ) (i index : ℕ) → i < length columns → AreIndexes finer (take i columns) indexes →
+    index_in finer (get_or columns i 0) ≡ Some index → new ≡ indexes ++ index ∷ [] → AreIndexes finer (take (i + 1) columns) new
+indexes_more finer columns indexes new i index h now e f =
+    let found = position-Some (λ c. c == get_or columns i 0) finer index 0 e in
+    subst (AreIndexes finer (take (i + 1) columns)) (sym f) (record {
+      within = all_push (λ k. k < length finer) indexes index now.within found.0;
+      are = map-append (λ k. slice_index_or finer k 0) indexes (index ∷ []) ∙ ap₂ (λ (xs : List ℕ) (c : ℕ). xs ++ c ∷ []) now.are (eqb-true _ _ found.1)
           ∙ sym (take_more columns i 0 h);
     })
 
@@ -86,7 +84,7 @@ module _ {H : Type 0} where
 
 -- ---- sets whose groups the pool has
 module _ {H : Type 0} (sets : List (List ℕ)) (columns : ℕ) where
-  -- those of so many columns before a place, in a pool that has grown
+  -- those of so many columns among the first sets, in a pool that has grown
   pub record AddsTo (i : ℕ) (old new : List (SetBag H)) : Type 0 where
     pub grows : Grows old new
     pub there : HaveSetsOf columns new (take i sets)
@@ -98,7 +96,7 @@ module _ {H : Type 0} (sets : List (List ℕ)) (columns : ℕ) where
       let at : s ≡ get_or sets i s = subst (λ (l : List (List ℕ)). s ≡ get_or l i s) same is in
       record {
         grows = grows_more old mid new now.grows grows;
-        there = subst (HaveSetsOf columns new) (sym (take_more sets i s within ∙ ap (λ x. take i sets ++ x ∷ []) (sym at)))
+        there = subst (HaveSetsOf columns new) (sym (take_next sets i s s within at))
             (all_push _ (take i sets) s (all_through _ _ (λ x f many. grows.stay x (f many)) (take i sets) now.there) here);
       }
 
@@ -124,55 +122,24 @@ module _ {H : Type 0} where
     there = both_there columns less mid new sets e grows now.there of;
   }
 
-module _ {H : Type 0} (hash : List Cell → ℕ) (aggregations : List Aggregation) (rows : List RowValue) where
-  stands_push : (sets : List (List ℕ)) (tries : List (List (Group H))) (s : List ℕ) (t : List (Group H)) →
-      StandsEach hash aggregations sets rows tries → StandsAt hash aggregations s rows t → StandsEach hash aggregations (sets ++ s ∷ []) rows (tries ++ t ∷ [])
-  stands_push [] [] s t now one = (one, tt)
-  stands_push [] (u ∷ tries) s t now one = absurd now
-  stands_push (r ∷ sets) [] s t now one = absurd now
-  stands_push (r ∷ sets) (u ∷ tries) s t now one = (now.0, stands_push sets tries s t now.1 one)
+module _ {H : Type 0} (hash : List Cell → ℕ) (aggregations : List Aggregation) (pool : List (SetBag H)) (sets : List (List ℕ)) where
+  -- the tries of the first i sets stand for whatever rows went into the pool
+  pub record StandsFor (i : ℕ) (tries : List (List (Group H))) : Type 0 where
+    pub each : (rows : List RowValue) → IsPool aggregations rows pool → StandsEach hash aggregations (take i sets) rows tries
 
-  -- the tries of the first i sets stand for the rows
-  pub record StandsTo (sets : List (List ℕ)) (i : ℕ) (tries : List (List (Group H))) : Type 0 where
-    pub each : StandsEach hash aggregations (take i sets) rows tries
-
-  pub stands_more : (sets : List (List ℕ)) (i : ℕ) (s : List ℕ) (tries new : List (List (Group H))) (t : List (Group H)) →
-      i < length sets → s ≡ get_or sets i s → StandsTo sets i tries → StandsAt hash aggregations s rows t → new ≡ tries ++ t ∷ [] → StandsTo sets (i + 1) new
-  stands_more sets i s tries new t h is now one e = record {
-    each =
-        subst (λ ss. StandsEach hash aggregations ss rows new) (sym (take_more sets i s h ∙ ap (λ x. take i sets ++ x ∷ []) (sym is)))
-        (subst (StandsEach hash aggregations (take i sets ++ s ∷ []) rows) (sym e) (stands_push (take i sets) tries s t now.each one));
+  pub stands_for_next : (i : ℕ) (s t : List ℕ) (tries new : List (List (Group H))) (trie : List (Group H)) → i < length sets → s ≡ get_or sets i s → t ≡ s →
+      StandsFor i tries → ((rows : List RowValue) → IsPool aggregations rows pool → StandsAt hash aggregations t rows trie) → new ≡ tries ++ trie ∷ [] → StandsFor (i + 1) new
+  stands_for_next i s t tries new trie h is e now one f = record {
+    each = λ rows pooled.
+        subst (λ ss. StandsEach hash aggregations ss rows new) (sym (take_next sets i s s h is))
+        (subst (StandsEach hash aggregations (take i sets ++ s ∷ []) rows) (sym f)
+        (zip_push (λ set entries. StandsAt hash aggregations set rows entries) (take i sets) tries s trie (now.each rows pooled)
+        (subst (λ u. StandsAt hash aggregations u rows trie) e (one rows pooled))));
   }
 
-  pub stands_all : (sets : List (List ℕ)) (i : ℕ) (tries : List (List (Group H))) → length sets ≤ i → StandsTo sets i tries → StandsEach hash aggregations sets rows tries
-  stands_all sets i tries h now = subst (λ ss. StandsEach hash aggregations ss rows tries) (take_all i sets h) now.each
-
-  pub stands_next : (sets its : List (List ℕ)) (i : ℕ) (s t : List ℕ) (tries new : List (List (Group H))) (trie : List (Group H)) → its ≡ sets → i < length its → s ≡ get_or its i s → t ≡ s →
-      StandsTo sets i tries → StandsAt hash aggregations t rows trie → new ≡ tries ++ trie ∷ [] → StandsTo sets (i + 1) new
-  stands_next sets its i s t tries new trie same h is e now one f =
-      stands_more sets i s tries new trie (subst (λ l. i < length l) same h) (subst (λ (l : List (List ℕ)). s ≡ get_or l i s) same is) now
-      (subst (λ u. StandsAt hash aggregations u rows trie) e one) f
-
-module _ {H : Type 0} (hash : List Cell → ℕ) (aggregations : List Aggregation) (pool : List (SetBag H)) where
-  -- for whatever rows went into the pool
-  pub record StandsFor (sets : List (List ℕ)) (i : ℕ) (tries : List (List (Group H))) : Type 0 where
-    pub each : (rows : List RowValue) → IsPool aggregations rows pool → StandsTo hash aggregations rows sets i tries
-
-  pub stands_for_next : (sets its : List (List ℕ)) (i : ℕ) (s t : List ℕ) (tries new : List (List (Group H))) (trie : List (Group H)) → its ≡ sets → i < length its → s ≡ get_or its i s → t ≡ s →
-      StandsFor sets i tries → ((rows : List RowValue) → IsPool aggregations rows pool → StandsAt hash aggregations t rows trie) → new ≡ tries ++ trie ∷ [] → StandsFor sets (i + 1) new
-  stands_for_next sets its i s t tries new trie same h is e now one f = record {
-    each = λ rows pooled. stands_next hash aggregations rows sets its i s t tries new trie same h is e (now.each rows pooled) (one rows pooled) f;
-  }
-
-  pub stands_for_all : (sets : List (List ℕ)) (i : ℕ) (tries : List (List (Group H))) → length sets ≤ i → StandsFor sets i tries → (rows : List RowValue) →
-      IsPool aggregations rows pool → StandsEach hash aggregations sets rows tries
-  stands_for_all sets i tries h now rows pooled = stands_all hash aggregations rows sets i tries h (now.each rows pooled)
-
-module _ {H : Type 0} (hash : List Cell → ℕ) where
-  -- the start stands for no rows
-  pub start_stands_by : (aggregations of : List Aggregation) (set : List ℕ) (trie : List (Group H)) → of ≡ aggregations → IsLaid hash of set [] trie →
-      StandsAt hash aggregations set [] trie
-  start_stands_by aggregations of set trie e laid = subst (λ a. StandsAt hash a set [] trie) e (start_stands of set hash trie laid)
+  pub stands_for_all : (i : ℕ) (tries : List (List (Group H))) → length sets ≤ i → StandsFor i tries → (rows : List RowValue) → IsPool aggregations rows pool →
+      StandsEach hash aggregations sets rows tries
+  stands_for_all i tries h now rows pooled = subst (λ ss. StandsEach hash aggregations ss rows tries) (take_all i sets h) (now.each rows pooled)
 
 -- ---- equal sets are the same
 pub same_set : (xs ys : List ℕ) → pointwise nat_eq xs ys ≡ true → xs ≡ ys

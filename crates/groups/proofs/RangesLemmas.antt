@@ -2,6 +2,8 @@
 use Rattle.std.specs.Prelude.{◌≡◌, ℕ, zero, suc, ◌+◌, ◌<◌, ◌≤◌, List, [], ◌∷◌, ◌++◌, refl, None}
 use Rattle.std.specs.List.{AllByRecursion, Contains, range_with_len}
 use Rattle.std.proofs.Common.{ap, ap₂, sym, ◌∙◌, subst, arith}
+use Rattle.std.proofs.lemmas.List.{map-id}
+use Rattle.std.proofs.lemmas.List.FromFn.{map-range_with_len_more}
 use Rattle.cells.specs.Values.{RowValue}
 use Rattle.groups.specs.Folds.{Folds}
 use Rattle.groups.specs.Groups.{kept}
@@ -19,16 +21,6 @@ pub range_below : (first count : ℕ) → AllByRecursion (λ i. i < first + coun
 range_below first zero = tt
 range_below first (suc count) = (omega arith, all_through _ _ (λ i h. omega (arith, h)) (range_with_len (first + 1) count) (range_below (first + 1) count))
 
-pub range_more : (first count : ℕ) → range_with_len first (count + 1) ≡ range_with_len first count ++ (first + count) ∷ []
-range_more first zero =
-    let here : first ≡ first + 0 = omega arith in
-    ap (λ (n : ℕ). n ∷ []) here
-range_more first (suc count) =
-    let here : first + 1 + count ≡ first + suc count = omega arith in
-    let longer : suc count + 1 ≡ suc (count + 1) = omega arith in
-    ap (range_with_len first) longer ∙
-    ap (λ (l : List ℕ). first ∷ l) (range_more (first + 1) count ∙ ap (λ (n : ℕ). range_with_len (first + 1) count ++ n ∷ []) here)
-
 -- ---- the sources of a plan over rows of columns
 module _ {H : Type 0} where
   pub folds_rows : (plan : PlanTree) (rows : List RowValue) (none new : Folding H) → Folds plan [] none → new.plan.now ≡ none.plan.now → new.aggregations.items ≡ none.aggregations.items →
@@ -41,8 +33,10 @@ module _ {H : Type 0} where
     covers = subst (λ a. IsPool a rows new.sources.items) folds.aggregations pool;
   }
 
-pub range_next : (first count n : ℕ) (places added : List ℕ) → n ≡ first + count → places ≡ range_with_len first count → added ≡ places ++ n ∷ [] → added ≡ range_with_len first (count + 1)
-range_next first count n places added is are e = e ∙ ap₂ (λ (l : List ℕ) (k : ℕ). l ++ k ∷ []) are is ∙ sym (range_more first count)
+pub range_next : (first count n : ℕ) (indexes added : List ℕ) → n ≡ first + count → indexes ≡ range_with_len first count → added ≡ indexes ++ n ∷ [] → added ≡ range_with_len first (count + 1)
+range_next first count n indexes added is are e =
+    e ∙ ap₂ (λ (l : List ℕ) (k : ℕ). l ++ k ∷ []) are is ∙ ap (λ l. l ++ (first + count) ∷ []) (sym (map-id (range_with_len first count))) ∙
+    sym (map-range_with_len_more (λ k. k) first count (first + count) refl) ∙ map-id (range_with_len first (count + 1))
 
-pub within_all : (n m : ℕ) (places : List ℕ) → n ≤ m → AllByRecursion (λ i. i < n) places → AllByRecursion (λ i. i < m) places
-within_all n m places h all = all_through (λ i. i < n) (λ i. i < m) (λ i l. omega (arith, l, h)) places all
+pub within_all : (n m : ℕ) (indexes : List ℕ) → n ≤ m → AllByRecursion (λ i. i < n) indexes → AllByRecursion (λ i. i < m) indexes
+within_all n m indexes h all = all_through (λ i. i < n) (λ i. i < m) (λ i l. omega (arith, l, h)) indexes all

@@ -4,7 +4,7 @@ use Rattle.std.specs.Borrow.{Bor}
 use Rattle.std.specs.FinMap.Entries as fin
 use Rattle.std.specs.List.{AllByRecursion, IsDistinct, list_any}
 use Rattle.std.specs.List.Sorted.{IsPermutation, IsSorted, IsSortedByKey}
-use Rattle.std.specs.Map.{keys_of, lookup}
+use Rattle.std.specs.Map.{keys_of}
 use Rattle.std.specs.Ordering.{is_eq, is_lt, match_ordering, ordering_reverse}
 use Rattle.std.specs.declared.cmp.Ordering.{Ordering}
 use Rattle.std.specs.declared.cmp.Ordering.TheVariants.{Less, Equal, Greater}
@@ -12,7 +12,7 @@ use Rattle.std.proofs.Common.{get_or, ap, sym, ◌∙◌, subst, arith}
 use Rattle.std.proofs.lemmas.List.{get_or-map, length-map}
 use Rattle.std.proofs.lemmas.List.Sorted.{IsPermutation-sym, list_any-IsPermutation, ranks_by, sorted_far}
 use Rattle.std.proofs.lemmas.Map.Keys.{IsDistinct-IsPermutation}
-use Rattle.std.proofs.lemmas.Map.Made.{length-le_from_is_member}
+use Rattle.std.proofs.lemmas.Map.Made.{is_some-lookup, length-le_from_is_member}
 use Rattle.aggs.specs.declared.acc.Acc.{Acc}
 use Rattle.cells.specs.SameKeys.{exact_tuples}
 use Rattle.cells.specs.TupleOrder.{tuple_cmp, tuple_cmp-total, tuple_eq, tuple_eq-equiv}
@@ -178,19 +178,11 @@ module _ {H : Type 0} where
   group_is aggregations set rows q e =
       its_accs aggregations (members set q rows) (no_rows (members set q rows) && not (is_start set q)) e
 
-  among_keys : (q : List Cell) (es : List (List Cell × List (Acc H))) → among q (keys_of es) ≡ is_some (lookup (tuple_eq q) es)
-  among_keys q [] = refl
-  among_keys q (e ∷ es) = rw (among_keys q es) (cases (tuple_eq q e.0))
-    where
-      cases : (b : Bool) → (b || is_some (lookup (tuple_eq q) es)) ≡ is_some (cond b (Some e.1) (lookup (tuple_eq q) es))
-      cases true = refl
-      cases false = refl
-
   module _ (hash : List Cell → ℕ) (aggregations : List Aggregation) (set : List ℕ) (rows : List RowValue) (es : List (List Cell × List (Acc H)))
       (rising : IsRising (digit_order hash tuple_cmp) (keys_of es)) (stands : StandsAt hash aggregations set rows es) where
     -- the keys of the groups are the tuples
     among_both : (q : List Cell) → among q (keys_of es) ≡ among q (tuples set rows)
-    among_both q = among_keys q es ∙ ap is_some (sym (value_by_tuple hash es q) ∙ stands.gives q)
+    among_both q = sym (is_some-lookup (tuple_eq q) es) ∙ ap is_some (sym (value_by_tuple hash es q) ∙ stands.gives q)
         ∙ group_is_some H aggregations set rows q ∙ sym (among_tuples set rows q)
 
     pub all_tuples : (ts : List (List Cell)) → IsPermutation (keys_of es) ts → IsSorted tuple_cmp ts → ts ≡ tuples set rows

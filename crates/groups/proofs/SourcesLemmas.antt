@@ -1,19 +1,19 @@
 -- Sets that have all columns of others.
-use Rattle.std.specs.Prelude.{◌≡◌, ◌==◌, ℕ, suc, ◌+◌, ◌<◌, ◌≤◌, Bool, true, false, List, [], ◌∷◌, ◌++◌, ◌||◌, length, nat_eq, nat_lt, position, refl, take, Option, Some, None}
+use Rattle.std.specs.Prelude.{◌≡◌, ◌==◌, ℕ, ◌+◌, ◌<◌, ◌≤◌, Bool, true, false, List, [], ◌∷◌, ◌++◌, ◌||◌, length, nat_eq, nat_lt, position, refl, take, Option, Some, None}
 use Rattle.std.specs.Cmp.Lexicographic.{pointwise}
-use Rattle.std.specs.List.{AllByRecursion, Contains, list_all, list_any, position_or_len}
+use Rattle.std.specs.List.{AllByRecursion, Contains, list_any, position_or_len}
 use Rattle.std.specs.Option.{is_some}
-use Rattle.std.proofs.Common.{get_or, ap, sym, ◌∙◌, subst, arith}
+use Rattle.std.proofs.Common.{get_or, ap, sym, ◌∙◌, subst, arith, eq-eqb}
 use Rattle.std.proofs.lemmas.Bool.{ltb-false}
 use Rattle.std.proofs.lemmas.Cmp.{nat_list_eq_equiv}
-use Rattle.std.proofs.lemmas.List.{map-append, take_more}
+use Rattle.std.proofs.lemmas.List.{get_or_default, map-append}
 use Rattle.std.proofs.lemmas.List.Folds.{list_all_at, list_any-append, list_any_none}
-use Rattle.std.proofs.lemmas.List.Sums.{fails_before_first}
-use Rattle.groups.specs.Groups.{place_in}
+use Rattle.std.proofs.lemmas.List.Sums.{fails_before_first, list_all-from_AllPass}
+use Rattle.groups.specs.Groups.{index_in}
 use Rattle.groups.specs.Pools.{AddsSource, ArePlanned, has_all, has_finer, has_set, sets_of}
 use Rattle.groups.specs.declared.pool.SetBag.{SetBag}
 use Rattle.groups.proofs.BagLemmas.{covers_none}
-use Rattle.groups.proofs.TuplesLemmas.{all_push, all_through}
+use Rattle.groups.proofs.TuplesLemmas.{all_push, all_through, take_next}
 
 -- ---- a set has all its own columns
 found : (p : ℕ → Bool) (xs : List ℕ) (k : ℕ) → k < length xs → p (get_or xs k 0) ≡ true → is_some (position p xs) ≡ true
@@ -26,15 +26,9 @@ found p xs k h e = go (nat_lt (position_or_len p xs) (length xs)) refl
         let bad = fails_before_first p xs k 0 (omega (arith, h, past)) in
         cc
 
-all_true : (q : ℕ → Bool) (xs : List ℕ) → ((k : ℕ) → k < length xs → q (get_or xs k 0) ≡ true) → list_all q xs ≡ true
-all_true q [] each = refl
-all_true q (x ∷ xs) each = rw (each 0 (omega arith)) (all_true q xs (λ k h. each (suc k) (omega (arith, h))))
-
-same_number : (n : ℕ) → (n == n) ≡ true
-same_number n = grind arith
-
 pub has_itself : (set : List ℕ) → has_all set set ≡ true
-has_itself set = all_true (λ c. is_some (place_in set c)) set (λ k h. found (λ c. c == get_or set k 0) set k h (same_number (get_or set k 0)))
+has_itself set = list_all-from_AllPass (λ c. is_some (index_in set c)) set (λ k d h.
+    found (λ c. c == get_or set k d) set k h (eq-eqb (get_or set k 0) (get_or set k d) (get_or_default set k 0 d h)))
 
 -- ---- what is found
 not_found : {X : Type 0} (p : X → Bool) (xs : List X) → position p xs ≡ None → list_any p xs ≡ false
@@ -54,9 +48,9 @@ finer_is_there {H} pool set found has is none =
     let e : has_finer pool set ≡ false = not_found (λ (f : SetBag H). has_all f.set.items set) pool (sym is ∙ none) in
     cc
 
-pub column_is_there : (finer set : List ℕ) (i : ℕ) (found : Option ℕ) → has_all finer set ≡ true → i < length set → found ≡ place_in finer (get_or set i 0) → found ≡ None → ⊥
+pub column_is_there : (finer set : List ℕ) (i : ℕ) (found : Option ℕ) → has_all finer set ≡ true → i < length set → found ≡ index_in finer (get_or set i 0) → found ≡ None → ⊥
 column_is_there finer set i found has h is none =
-    let e : has_all finer set ≡ false = list_all_at (λ c. is_some (place_in finer c)) set i 0 h (ap is_some (sym is ∙ none)) in
+    let e : has_all finer set ≡ false = list_all_at (λ c. is_some (index_in finer c)) set i 0 h (ap is_some (sym is ∙ none)) in
     cc
 
 -- ---- a source more
@@ -99,7 +93,7 @@ module _ {H : Type 0} where
     };
   })
 
-  -- the sets before a place that have so many columns have a source
+  -- those of the first sets that have so many columns have a source
   pub record Sourced (sets : List (List ℕ)) (columns i : ℕ) (sources : List (SetBag H)) : Type 0 where
     pub planned : ArePlanned sets sources
     pub finer : AllByRecursion (λ (set : List ℕ). columns ≤ length set → has_finer sources set ≡ true) (take i sets)
@@ -109,7 +103,7 @@ module _ {H : Type 0} where
       Sourced sets columns (i + 1) new
   sourced_push sets columns i set sources new h is planned stay here now = record {
     planned = planned;
-    finer = subst (AllByRecursion (λ (s : List ℕ). columns ≤ length s → has_finer new s ≡ true)) (sym (take_more sets i set h ∙ ap (λ x. take i sets ++ x ∷ []) (sym is)))
+    finer = subst (AllByRecursion (λ (s : List ℕ). columns ≤ length s → has_finer new s ≡ true)) (sym (take_next sets i set set h is))
         (all_push _ (take i sets) set (all_through _ _ (λ s f few. stay s (f few)) (take i sets) now.finer) here);
   }
 

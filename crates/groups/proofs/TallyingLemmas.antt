@@ -1,9 +1,9 @@
 -- Accumulators of numbered cells, a cell after another.
-use Rattle.std.specs.Prelude.{◌≡◌, ◌≢◌, ℕ, zero, suc, ◌+◌, ◌<◌, ◌≤◌, ◌==◌, ◌⊎◌, Bool, true, false, List, [], ◌∷◌, ◌++◌, length, map, min, set, take, refl}
+use Rattle.std.specs.Prelude.{◌≡◌, ◌≢◌, ℕ, zero, suc, ◌+◌, ◌<◌, ◌≤◌, ◌==◌, ◌⊎◌, Bool, true, false, List, [], ◌∷◌, ◌++◌, length, map, min, replicate, set, take, refl}
 use Rattle.std.specs.List.{AllByRecursion}
 use Rattle.std.proofs.Common.{get_or, ap, sym, ◌∙◌, subst, arith, eq-eqb, inl, inr}
-use Rattle.std.proofs.lemmas.Bool.{ne_eqb}
-use Rattle.std.proofs.lemmas.List.{append-nil, get_or-set_other, get_or-set_same, length-append, length-map, length-set, length-take, take_all, take_more}
+use Rattle.std.proofs.lemmas.Bool.Decides.{eqb_tells}
+use Rattle.std.proofs.lemmas.List.{append-nil, get_or_default, get_or-map, get_or-replicate, get_or-set_other, get_or-set_same, length-map, length-replicate, length-set, length-take, take_all}
 use Rattle.aggs.specs.Accs.{AccsFit, acc_joins, acc_kind, acc_of, acc_room, acc_together, kind_of}
 use Rattle.aggs.specs.Room.{cell_limit}
 use Rattle.aggs.specs.Counts.{rows}
@@ -15,57 +15,35 @@ use Rattle.cells.specs.declared.cell.Cell.{Cell}
 use Rattle.cells.specs.declared.cell.Cell.TheVariants.{Null}
 use Rattle.columns.specs.Columns.{AreCodes, decoded}
 use Rattle.groups.specs.Parting.{codes_at}
-use Rattle.groups.specs.Tallying.{AreTallied, keep_if, those_of}
-use Rattle.groups.proofs.TuplesLemmas.{all_at}
-
-pub same_or_other : (n m : ℕ) → (n ≡ m) ⊎ (n ≢ m)
-same_or_other zero zero = inl refl
-same_or_other zero (suc m) = inr (λ e. omega (arith, e))
-same_or_other (suc n) zero = inr (λ e. omega (arith, e))
-same_or_other (suc n) (suc m) = further (same_or_other n m)
-  where
-    further : (n ≡ m) ⊎ (n ≢ m) → (suc n ≡ suc m) ⊎ (suc n ≢ suc m)
-    further (inl e) = inl (ap suc e)
-    further (inr other) = inr (λ e. other (omega (arith, e)))
+use Rattle.groups.specs.Tallying.{AreTallied, keep_if, passing, those_of}
+use Rattle.groups.proofs.TuplesLemmas.{all_at, take_next}
 
 keep_behind : {X : Type 0} (b : Bool) (x : X) (xs ys : List X) → keep_if b x (xs ++ ys) ≡ keep_if b x xs ++ ys
 keep_behind true x xs ys = refl
 keep_behind false x xs ys = refl
 
-pub those_more : {X : Type 0} (m : ℕ) (numbers : List ℕ) (xs : List X) (n : ℕ) (x : X) → length numbers ≡ length xs →
-    those_of m (numbers ++ n ∷ []) (xs ++ x ∷ []) ≡ those_of m numbers xs ++ keep_if (n == m) x []
-those_more m [] [] n x e = refl
-those_more m [] (y ∷ xs) n x e = absurd (omega (arith, e))
-those_more m (k ∷ numbers) [] n x e = absurd (omega (arith, e))
-those_more m (k ∷ numbers) (y ∷ xs) n x e =
-    ap (keep_if (k == m) y) (those_more m numbers xs n x (omega (arith, e))) ∙ keep_behind (k == m) y (those_of m numbers xs) (keep_if (n == m) x [])
+module _ {X : Type 0} (p : ℕ → Bool) where
+  pub passing_more : (numbers : List ℕ) (xs : List X) (n : ℕ) (x : X) → length numbers ≡ length xs →
+      passing p (numbers ++ n ∷ []) (xs ++ x ∷ []) ≡ passing p numbers xs ++ keep_if (p n) x []
+  passing_more [] [] n x e = refl
+  passing_more [] (y ∷ xs) n x e = absurd (omega (arith, e))
+  passing_more (k ∷ numbers) [] n x e = absurd (omega (arith, e))
+  passing_more (k ∷ numbers) (y ∷ xs) n x e =
+      ap (keep_if (p k) y) (passing_more numbers xs n x (omega (arith, e))) ∙ keep_behind (p k) y (passing p numbers xs) (keep_if (p n) x [])
 
-pub those_few : {X : Type 0} (m : ℕ) (numbers : List ℕ) (xs : List X) → length (those_of m numbers xs) ≤ length xs
-those_few m [] xs = omega arith
-those_few m (k ∷ numbers) [] = omega arith
-those_few {X} m (k ∷ numbers) (x ∷ xs) = kept (those_of m numbers xs) (k == m) (those_few m numbers xs)
-  where
-    kept : (rest : List X) (b : Bool) → length rest ≤ length xs → length (keep_if b x rest) ≤ suc (length xs)
-    kept rest true few = omega (arith, few)
-    kept rest false few = omega (arith, few)
+  pub passing_few : (numbers : List ℕ) (xs : List X) → length (passing p numbers xs) ≤ length xs
+  passing_few [] xs = omega arith
+  passing_few (k ∷ numbers) [] = omega arith
+  passing_few (k ∷ numbers) (x ∷ xs) = kept (passing p numbers xs) (p k) (passing_few numbers xs)
+    where
+      kept : (rest : List X) (b : Bool) → length rest ≤ length xs → length (keep_if b x rest) ≤ suc (length xs)
+      kept rest true few = omega (arith, few)
+      kept rest false few = omega (arith, few)
 
 -- ---- tallies
 module _ {H : Type 0} where
-  pub tallied_none : (k : Kind) → AreTallied {H = H} k 0 [] [] []
-  tallied_none k = record { counted = refl; each = λ n h d. absurd (omega (arith, h)) }
-
-  -- an accumulator of no cells more
-  pub tallied_wider : (k : Kind) (count : ℕ) (accs : List (Acc H)) (acc : Acc H) → AreTallied k count [] [] accs → acc ≡ acc_of k [] → AreTallied k (count + 1) [] [] (accs ++ acc ∷ [])
-  tallied_wider k count accs acc now is = record {
-    counted = omega (arith, now.counted, length-append accs (acc ∷ []));
-    each = λ n h d. each n d accs (omega (arith, h, now.counted)) (λ m l. now.each m (omega (arith, l, now.counted)) d);
-  }
-    where
-      each : (n : ℕ) (d : Acc H) (xs : List (Acc H)) → n < length xs + 1 → ((m : ℕ) → m < length xs → get_or xs m d ≡ acc_of k []) → get_or (xs ++ acc ∷ []) n d ≡ acc_of k []
-      each zero d [] h all = is
-      each (suc n) d [] h all = absurd (omega (arith, h))
-      each zero d (x ∷ xs) h all = all 0 (omega arith)
-      each (suc n) d (x ∷ xs) h all = each n d xs (omega (arith, h)) (λ m l. all (suc m) (omega (arith, l)))
+  pub tallied_none : (k : Kind) (count : ℕ) (accs : List (Acc H)) (acc : Acc H) → accs ≡ replicate count acc → acc ≡ acc_of k [] → AreTallied k count [] [] accs
+  tallied_none k count accs acc made is = rw made (record { counted = length-replicate count acc; each = λ n h d. get_or-replicate count n acc d h ∙ is })
 
   -- a cell more
   pub tallied_more : (k : Kind) (count : ℕ) (numbers : List ℕ) (cells : List Cell) (accs : List (Acc H)) (n : ℕ) (cell : Cell) (new d : Acc H) → length numbers ≡ length cells → n < count →
@@ -73,7 +51,7 @@ module _ {H : Type 0} where
       AreTallied k count (numbers ++ n ∷ []) (cells ++ cell ∷ []) (set accs n new)
   tallied_more k count numbers cells accs n cell new d same below now is = record {
     counted = length-set accs n new ∙ now.counted;
-    each = λ m h e. each m h e (same_or_other n m);
+    each = λ m h e. each m h e (eqb_tells n m);
   }
     where
       old : get_or accs n d ≡ acc_of k (those_of n numbers cells)
@@ -84,14 +62,14 @@ module _ {H : Type 0} where
           ap (λ kind. acc_together (acc_of k (those_of n numbers cells)) (acc_of kind (cell ∷ []))) (acc_kind H k (those_of n numbers cells)) ∙
           sym (acc_joins k (those_of n numbers cells) (cell ∷ []))
 
-      each : (m : ℕ) → m < count → (e : Acc H) → (n ≡ m) ⊎ (n ≢ m) → get_or (set accs n new) m e ≡ acc_of k (those_of m (numbers ++ n ∷ []) (cells ++ cell ∷ []))
+      each : (m : ℕ) → m < count → (e : Acc H) → (((n == m) ≡ true) × (n ≡ m)) ⊎ (((n == m) ≡ false) × (n ≢ m)) → get_or (set accs n new) m e ≡ acc_of k (those_of m (numbers ++ n ∷ []) (cells ++ cell ∷ []))
       each m h e (inl here) =
-          subst (λ j. get_or (set accs n new) j e ≡ acc_of k (those_of j (numbers ++ n ∷ []) (cells ++ cell ∷ []))) here
+          subst (λ j. get_or (set accs n new) j e ≡ acc_of k (those_of j (numbers ++ n ∷ []) (cells ++ cell ∷ []))) here.1
           (get_or-set_same accs n new e (omega (arith, below, now.counted)) ∙ joined ∙
-          ap (acc_of k) (sym (those_more n numbers cells n cell same ∙ ap (λ b. those_of n numbers cells ++ keep_if b cell []) (eq-eqb n n refl))))
+          ap (acc_of k) (sym (passing_more (λ k. k == n) numbers cells n cell same ∙ ap (λ b. those_of n numbers cells ++ keep_if b cell []) (eq-eqb n n refl))))
       each m h e (inr other) =
-          get_or-set_other accs n m new e (λ z. other (sym z)) ∙ now.each m h e ∙
-          ap (acc_of k) (sym (those_more m numbers cells n cell same ∙ ap (λ b. those_of m numbers cells ++ keep_if b cell []) (ne_eqb n m other) ∙ append-nil (those_of m numbers cells)))
+          get_or-set_other accs n m new e (λ z. other.1 (sym z)) ∙ now.each m h e ∙
+          ap (acc_of k) (sym (passing_more (λ k. k == m) numbers cells n cell same ∙ ap (λ b. those_of m numbers cells ++ keep_if b cell []) other.0 ∙ append-nil (those_of m numbers cells)))
 
 -- ---- the accumulator may be stepped with the cell at i
 module _ {H : Type 0} (k : Kind) (count : ℕ) (numbers : List ℕ) (cells : List Cell) (accs : List (Acc H)) (i n : ℕ) (cell : Cell) (acc : Acc H) (h : i < length cells)
@@ -104,15 +82,15 @@ module _ {H : Type 0} (k : Kind) (count : ℕ) (numbers : List ℕ) (cells : Lis
       let xs : List Cell = those_of n (take i numbers) (take i cells) in
       subst (λ (a : Acc H). AccsFit a (acc_of (kind_of a) (cell ∷ []))) (sym is_tally)
       (subst (λ kind. AccsFit (acc_of {H = H} k xs) (acc_of kind (cell ∷ []))) (sym (acc_kind H k xs))
-      (acc_room H k xs (cell ∷ []) (omega (arith, few, h, those_few n (take i numbers) (take i cells), length-take i cells))))
+      (acc_room H k xs (cell ∷ []) (omega (arith, few, h, passing_few (λ k. k == n) (take i numbers) (take i cells), length-take i cells))))
 
 -- the cell at i goes behind those before it
 pub tallied_next : {H : Type 0} (k : Kind) (count : ℕ) (numbers : List ℕ) (cells : List Cell) (accs : List (Acc H)) (i n : ℕ) (cell : Cell) (new acc : Acc H) → length numbers ≡ length cells →
     i < length cells → cell ≡ get_or cells i cell → n ≡ get_or numbers i 0 → n < count → acc ≡ get_or accs n acc → AreTallied k count (take i numbers) (take i cells) accs →
     new ≡ acc_together acc (acc_of (kind_of acc) (cell ∷ [])) → AreTallied k count (take (i + 1) numbers) (take (i + 1) cells) (set accs n new)
 tallied_next {H} k count numbers cells accs i n cell new acc same h at number below read now is =
-    let first : take (i + 1) numbers ≡ take i numbers ++ n ∷ [] = take_more numbers i 0 (omega (arith, h, same)) ∙ ap (λ (x : ℕ). take i numbers ++ x ∷ []) (sym number) in
-    let second : take (i + 1) cells ≡ take i cells ++ cell ∷ [] = take_more cells i cell h ∙ ap (λ (x : Cell). take i cells ++ x ∷ []) (sym at) in
+    let first : take (i + 1) numbers ≡ take i numbers ++ n ∷ [] = take_next numbers i 0 n (omega (arith, h, same)) number in
+    let second : take (i + 1) cells ≡ take i cells ++ cell ∷ [] = take_next cells i cell cell h at in
     let both : length (take i numbers) ≡ length (take i cells) = length-take i numbers ∙ ap (λ l. min i l) same ∙ sym (length-take i cells) in
     subst (λ l. AreTallied k count l (take (i + 1) cells) (set accs n new)) (sym first)
     (subst (λ l. AreTallied k count (take i numbers ++ n ∷ []) l (set accs n new)) (sym second)
@@ -122,12 +100,6 @@ pub tallied_all : {H : Type 0} (k : Kind) (count : ℕ) (numbers : List ℕ) (ce
     AreTallied k count (take i numbers) (take i cells) accs → AreTallied k count numbers cells accs
 tallied_all k count numbers cells accs i h l now =
     subst (λ x. AreTallied k count x cells accs) (take_all i numbers h) (subst (λ x. AreTallied k count (take i numbers) x accs) (take_all i cells l) now)
-
--- ---- the cell of a row
-pub cell_read : (cells : List Cell) (by_row rows : List ℕ) (i : ℕ) → i < length rows → get_or (decoded cells (codes_at by_row rows)) i Null ≡ get_or cells (get_or by_row (get_or rows i 0) 0) Null
-cell_read cells by_row [] i h = absurd (omega (arith, h))
-cell_read cells by_row (r ∷ rows) zero h = refl
-cell_read cells by_row (r ∷ rows) (suc i) h = cell_read cells by_row rows i (omega (arith, h))
 
 -- ---- rows that are counted
 abbrev pub nulls : List ℕ → List Cell
@@ -156,11 +128,6 @@ null_there [] i = refl
 null_there (n ∷ numbers) zero = refl
 null_there (n ∷ numbers) (suc i) = null_there numbers i
 
-pub any_default : {X : Type 0} (xs : List X) (i : ℕ) (d e : X) → i < length xs → get_or xs i d ≡ get_or xs i e
-any_default [] i d e h = absurd (omega (arith, h))
-any_default (x ∷ xs) zero d e h = refl
-any_default (x ∷ xs) (suc i) d e h = any_default xs i d e (omega (arith, h))
-
 pub cell_there : (cells : List Cell) (by_row rows : List ℕ) (i : ℕ) (cell : Cell) → i < length rows → AllByRecursion (λ r. r < length by_row) rows → AreCodes cells by_row →
     cell ≡ get_or cells (get_or by_row (get_or rows i 0) 0) cell → cell ≡ get_or (decoded cells (codes_at by_row rows)) i cell
 cell_there cells by_row rows i cell h within are is =
@@ -168,7 +135,8 @@ cell_there cells by_row rows i cell h within are is =
     all_at (λ c. c < length cells) by_row (get_or rows i 0) 0 are (all_at (λ r. r < length by_row) rows i 0 within h) in
     let all : List Cell = decoded cells (codes_at by_row rows) in
     let there : i < length all = omega (arith, h, length-map rows (λ row. get_or by_row row 0), length-map (codes_at by_row rows) (λ c. get_or cells c Null)) in
-    is ∙ any_default cells (get_or by_row (get_or rows i 0) 0) cell Null code ∙ sym (cell_read cells by_row rows i h) ∙ any_default all i Null cell there
+    is ∙ get_or_default cells (get_or by_row (get_or rows i 0) 0) cell Null code ∙ sym (get_or-map (λ c. get_or cells c Null) (codes_at by_row rows) i 0 Null (omega (arith, h, length-map rows (λ row. get_or by_row row 0))) ∙
+    ap (λ c. get_or cells c Null) (get_or-map (λ row. get_or by_row row 0) rows i 0 0 h)) ∙ get_or_default all i Null cell there
 
 pub decoded_length : (cells : List Cell) (by_row rows : List ℕ) → length (decoded cells (codes_at by_row rows)) ≡ length rows
 decoded_length cells by_row rows = length-map (codes_at by_row rows) (λ c. get_or cells c Null) ∙ length-map rows (λ row. get_or by_row row 0)

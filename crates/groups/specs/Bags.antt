@@ -1,6 +1,6 @@
 -- Bags of groups: a list of groups that rows go into, of which several may have one tuple.
-use Rattle.std.specs.Prelude.{◌≡◌, ℕ, ◌<◌, ◌≤◌, false, ◌⊎◌, List, [], ◌∷◌, ◌++◌, length, map, set, slice_index_or, ⊤}
-use Rattle.std.specs.List.{AllByRecursion, flat_map}
+use Rattle.std.specs.Prelude.{◌≡◌, ℕ, ◌<◌, ◌≤◌, false, ◌⊎◌, List, [], ◌∷◌, ◌++◌, length, map, set, slice_index_or}
+use Rattle.std.specs.List.{AllByRecursion, AllZip, flat_map}
 use Rattle.std.specs.List.Sorted.{IsPermutation}
 use Rattle.aggs.specs.Room.{cell_limit}
 use Rattle.aggs.specs.declared.acc.Acc.{Acc}
@@ -15,13 +15,13 @@ use Rattle.groups.specs.declared.aggregation.Aggregation.{Aggregation}
 abbrev pub Group : Type 0 → Type 0
 Group H = List Cell × List (Acc H)
 
--- places in a list of this length
+-- indexes in a list of this length
 abbrev pub AreWithin : ℕ → List ℕ → Type 0
-AreWithin count places = AllByRecursion (λ i. i < count) places
+AreWithin count indexes = AllByRecursion (λ i. i < count) indexes
 
--- the cells at the places: for places of columns those of a row's tuple
+-- the cells of these indexes: for those of columns a row's tuple
 abbrev pub picked : List ℕ → List Cell → List Cell
-picked places cells = map (λ i. slice_index_or cells i Null) places
+picked indexes cells = map (λ i. slice_index_or cells i Null) indexes
 
 -- the lists put together
 abbrev pub joined : List (List RowValue) → List RowValue
@@ -35,10 +35,7 @@ module _ {H : Type 0} (aggregations : List Aggregation) (columns : List ℕ) whe
     pub accs : group.1 ≡ accs_of aggregations part
 
   abbrev pub AreParts : List (Group H) → List (List RowValue) → Type 0
-  AreParts [] [] = ⊤
-  AreParts [] (p ∷ parts) = ⊥
-  AreParts (g ∷ groups) [] = ⊥
-  AreParts (g ∷ groups) (p ∷ parts) = IsPart g p × AreParts groups parts
+  AreParts groups parts = AllZip IsPart groups parts
 
   -- each row has gone into one of the groups
   pub record Covers (rows : List RowValue) (groups : List (Group H)) : Type 0 where
@@ -48,11 +45,11 @@ module _ {H : Type 0} (aggregations : List Aggregation) (columns : List ℕ) whe
 
   -- the row has gone into a group of its tuple
   pub record Steps (row : RowValue) (old new : List (Group H)) : Type 0 where
-    pub place : ℕ
+    pub index : ℕ
     pub accs : List (Acc H)
-    pub within : place < length old
-    pub at : (d : Group H) → slice_index_or old place d ≡ (tuple_of columns row, accs)
-    pub is : new ≡ set old place (tuple_of columns row, stepped row aggregations accs)
+    pub within : index < length old
+    pub at : (d : Group H) → slice_index_or old index d ≡ (tuple_of columns row, accs)
+    pub is : new ≡ set old index (tuple_of columns row, stepped row aggregations accs)
 
   -- the row has gone into a group of its tuple, or into a new one
   abbrev pub Takes : RowValue → List (Group H) → List (Group H) → Type 0

@@ -7,7 +7,7 @@ use Rattle.cells.specs.TotalOrder.{cell_total}
 use Rattle.cells.specs.declared.cell.Cell.{Cell}
 use Rattle.cells.specs.declared.total.Total.{Total}
 use Rattle.cells.specs.declared.total.Total.TheVariants as total
-use Rattle.groups.specs.Groups.{cell_of_place, grouping, place_in, shown}
+use Rattle.groups.specs.Groups.{cell_at_index, grouping, index_in, shown}
 use Rattle.query.specs.Plans.{PlanTree}
 use Rattle.query.specs.declared.item.Item.{Item}
 use Rattle.query.specs.declared.item.Item.TheVariants as item
@@ -24,7 +24,7 @@ module _ {H : Type 0} where
 
   -- the value of an item: an aggregate's is that of the first accumulator
   abbrev pub value_by : List ℕ → List Cell → Item ℕ → List (Acc H) → Total
-  value_by set tuple (item.Column c) accs = cell_total (cell_of_place tuple (place_in set c))
+  value_by set tuple (item.Column c) accs = cell_total (cell_at_index tuple (index_in set c))
   value_by set tuple (item.Grouping columns) accs = total.Int (pos (grouping set columns))
   value_by set tuple item.CountRows accs = first_total accs
   value_by set tuple (item.Count c) accs = first_total accs

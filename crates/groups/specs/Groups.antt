@@ -74,16 +74,16 @@ tuples (c ∷ set) rows = different (map (tuple_of (c ∷ set)) rows)
 
 -- ---- items (7.11)
 
--- where the column stands in the grouping set, if it does
-abbrev pub place_in : List ℕ → ℕ → Option ℕ
-place_in set column = position (λ c. c == column) set
+-- the index of the column in the grouping set, if it is there
+abbrev pub index_in : List ℕ → ℕ → Option ℕ
+index_in set column = position (λ c. c == column) set
 
--- the tuple's cell at a place, and NULL at none
-abbrev pub cell_of_place : List Cell → Option ℕ → Cell
-cell_of_place tuple None = Null
-cell_of_place tuple (Some i) = slice_index_or tuple i Null
+-- the tuple's cell of an index, and NULL for none
+abbrev pub cell_at_index : List Cell → Option ℕ → Cell
+cell_at_index tuple None = Null
+cell_at_index tuple (Some i) = slice_index_or tuple i Null
 
--- the mark of a column, by its place in the grouping set: 0 where it stands there, else 1
+-- the mark of a column, by its index in the grouping set: 0 where it stands there, else 1
 abbrev pub mark : Option ℕ → ℕ
 mark None = 1
 mark (Some i) = 0
@@ -92,11 +92,11 @@ mark (Some i) = 0
 -- of the last column the lowest
 abbrev pub grouping : List ℕ → List ℕ → ℕ
 grouping set [] = 0
-grouping set (c ∷ columns) = mark (place_in set c) * 2 ^ length columns + grouping set columns
+grouping set (c ∷ columns) = mark (index_in set c) * 2 ^ length columns + grouping set columns
 
 -- the value of an item in the group of these rows
 abbrev pub item_value : List ℕ → List Cell → List RowValue → Item ℕ → Total
-item_value set tuple group (item.Column c) = cell_total (cell_of_place tuple (place_in set c))
+item_value set tuple group (item.Column c) = cell_total (cell_at_index tuple (index_in set c))
 item_value set tuple group (item.Grouping columns) = total.Int (pos (grouping set columns))
 item_value set tuple group item.CountRows = total.Int (pos (length group))
 item_value set tuple group (item.Count c) = count (column_of c group)

@@ -18,4 +18,5 @@ pub mod Laying
 pub mod Laws
 pub mod Joining
 pub mod Finishing
+pub mod Names
 pub mod Worked

@@ -10,9 +10,9 @@ use Rattle.groups.specs.Groups.{tuple_of}
 abbrev pub no_row : RowValue
 no_row = record { key = Null; cells = [] }
 
--- the rows that stand at these places of a list
+-- the rows of these indexes in a list
 abbrev pub picked_rows : List RowValue → List ℕ → List RowValue
-picked_rows rows places = map (λ i. slice_index_or rows i no_row) places
+picked_rows rows indexes = map (λ i. slice_index_or rows i no_row) indexes
 
 -- the tuples of a set are numbered, and each row has the number of its tuple. Each number has a row; two may have one tuple
 pub record AreNumbered (set : List ℕ) (rows : List RowValue) (numbers : List ℕ) (tuples : List (List Cell)) : Type 0 where
@@ -25,14 +25,14 @@ pub record NumberAll (count : ℕ) (numbers : List ℕ) (tuples : List (List Cel
   pub counted : length numbers ≡ count
   pub within : AllByRecursion (λ n. n < length tuples) numbers
 
--- the column has a cell for each of the rows at these places
-pub record HasRows (column : ColumnValue) (places : List ℕ) : Type 0 where
-  pub within : AllByRecursion (λ i. i < length column.by_row) places
-  pub few : length places ≤ 2 ^ 32
+-- the column has a cell for each of the rows of these indexes
+pub record HasRows (column : ColumnValue) (indexes : List ℕ) : Type 0 where
+  pub within : AllByRecursion (λ i. i < length column.by_row) indexes
+  pub few : length indexes ≤ 2 ^ 32
 
--- the columns hold rows, those at these places among them
-pub record HaveRows (columns : ColumnsValue) (places : List ℕ) : Type 0 where
+-- the columns hold rows, those of these indexes among them
+pub record HaveRows (columns : ColumnsValue) (indexes : List ℕ) : Type 0 where
   pub rows : List RowValue
   pub held : Hold rows columns
-  pub within : AllByRecursion (λ i. i < length rows) places
-  pub few : length places ≤ 2 ^ 32
+  pub within : AllByRecursion (λ i. i < length rows) indexes
+  pub few : length indexes ≤ 2 ^ 32

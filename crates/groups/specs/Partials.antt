@@ -1,5 +1,6 @@
 -- Partial results: for each grouping set the groups of some rows, in whatever order the rows came.
-use Rattle.std.specs.Prelude.{◌≡◌, ℕ, ◌+◌, ◌≤◌, List, [], ◌∷◌, length, map, ⊤}
+use Rattle.std.specs.Prelude.{◌≡◌, ℕ, ◌+◌, ◌≤◌, List, length, map}
+use Rattle.std.specs.List.{AllZip}
 use Rattle.aggs.specs.Room.{cell_limit}
 use Rattle.aggs.specs.declared.acc.Acc.{Acc}
 use Rattle.cells.specs.TupleOrder.{tuple_cmp}
@@ -22,10 +23,7 @@ module _ {H : Type 0} (hash : List Cell → ℕ) where
 
   -- set by set
   abbrev pub StandsEach : List Aggregation → List (List ℕ) → List RowValue → List (List (List Cell × List (Acc H))) → Type 0
-  StandsEach aggregations [] rows [] = ⊤
-  StandsEach aggregations [] rows (t ∷ tries) = ⊥
-  StandsEach aggregations (set ∷ sets) rows [] = ⊥
-  StandsEach aggregations (set ∷ sets) rows (t ∷ tries) = StandsAt aggregations set rows t × StandsEach aggregations sets rows tries
+  StandsEach aggregations sets rows tries = AllZip (λ set entries. StandsAt aggregations set rows entries) sets tries
 
   -- the partial result stands for the rows, in whatever order
   pub record Stands (plan : PlanTree) (rows : List RowValue) (tries : List (List (List Cell × List (Acc H)))) : Type 0 where

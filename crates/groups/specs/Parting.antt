@@ -1,5 +1,5 @@
 -- Groups cut into parts by the codes of a column.
-use Rattle.std.specs.Prelude.{◌≡◌, ℕ, ◌<◌, ◌≤◌, ◌⊎◌, List, [], ◌∷◌, ◌++◌, length, map, slice_index_or}
+use Rattle.std.specs.Prelude.{◌≡◌, ℕ, ◌+◌, ◌*◌, ◌<◌, ◌≤◌, ◌⊎◌, List, [], ◌∷◌, ◌++◌, length, map, slice_index_or}
 use Rattle.std.specs.List.{AllByRecursion, Contains}
 use Rattle.cells.specs.declared.cell.Cell.{Cell}
 use Rattle.cells.specs.declared.cell.Cell.TheVariants.{Null}
@@ -19,6 +19,10 @@ pub record AreParted (groups codes numbers : List ℕ) (parts : List Part) : Typ
   pub of_codes : map (λ n. (slice_index_or parts n no_part).code) numbers ≡ codes
   pub met : (n : ℕ) → n < length parts → Contains numbers n
   pub few : length parts ≤ length numbers
+
+-- the most entries that a table of parts has for so many rows
+abbrev pub entry_limit : ℕ → ℕ
+entry_limit rows = 4 * rows + 65536
 
 -- the part has this number among the new ones: it was there, or is the last of them
 abbrev pub IsNumbered : Part → List Part → List Part → ℕ → Type 0

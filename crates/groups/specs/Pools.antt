@@ -6,13 +6,13 @@ use Rattle.std.specs.Option.{is_some}
 use Rattle.aggs.specs.Room.{cell_limit}
 use Rattle.cells.specs.Values.{RowValue}
 use Rattle.groups.specs.Bags.{Covers, IsCounted}
-use Rattle.groups.specs.Groups.{place_in}
+use Rattle.groups.specs.Groups.{index_in}
 use Rattle.groups.specs.declared.aggregation.Aggregation.{Aggregation}
 use Rattle.groups.specs.declared.pool.SetBag.{SetBag}
 
 -- all columns of the set are among the finer ones
 abbrev pub has_all : List ℕ → List ℕ → Bool
-has_all finer set = list_all (λ c. is_some (place_in finer c)) set
+has_all finer set = list_all (λ c. is_some (index_in finer c)) set
 
 module _ {H : Type 0} where
   -- the sets whose groups are there

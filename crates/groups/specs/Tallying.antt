@@ -9,11 +9,15 @@ abbrev pub keep_if : {X : Type 0} → Bool → X → List X → List X
 keep_if true x xs = x ∷ xs
 keep_if false x xs = xs
 
--- those of some things that have this number, in their order
+-- those of some things whose numbers pass the test, in their order
+abbrev pub passing : {X : Type 0} → (ℕ → Bool) → List ℕ → List X → List X
+passing p [] xs = []
+passing p (k ∷ numbers) [] = []
+passing p (k ∷ numbers) (x ∷ xs) = keep_if (p k) x (passing p numbers xs)
+
+-- those that have this number
 abbrev pub those_of : {X : Type 0} → ℕ → List ℕ → List X → List X
-those_of n [] xs = []
-those_of n (k ∷ numbers) [] = []
-those_of n (k ∷ numbers) (x ∷ xs) = keep_if (k == n) x (those_of n numbers xs)
+those_of n numbers xs = passing (λ k. k == n) numbers xs
 
 -- accumulators, one for each number below the count, of the cells that have it
 pub record AreTallied {H : Type 0} (kind : Kind) (count : ℕ) (numbers : List ℕ) (cells : List Cell) (accs : List (Acc H)) : Type 0 where

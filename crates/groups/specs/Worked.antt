@@ -1,8 +1,9 @@
 -- Worked reports: four sales, one of them of an unknown region, by ROLLUP of the region.
 use Rattle.std.specs.Prelude.{ℕ, ℤ, pos, negsuc, List, [], ◌∷◌, codes, None, Some}
-use Rattle.cells.specs.Values.{RowValue}
+use Rattle.cells.specs.Values.{RowValue, Table}
 use Rattle.cells.specs.declared.cell.Cell.{Cell}
 use Rattle.cells.specs.declared.cell.Cell.TheVariants.{Null, Int, Text}
+use Rattle.cells.specs.declared.schema.ColumnType.TheVariants as schema
 use Rattle.cells.specs.declared.total.Total.{Total}
 use Rattle.cells.specs.declared.total.Total.TheVariants as total
 use Rattle.query.specs.Plans.{PlanTree}
@@ -67,7 +68,7 @@ sales_by_two = marked 0 1 ∷ marked 0 1 ∷ marked 0 1 ∷ marked 0 1 ∷ marke
     ∷ marked 2 1 ∷ marked 2 1 ∷ marked 2 1 ∷ marked 2 1 ∷ marked 3 4 ∷ []
 
 abbrev compares : ℕ → Comparison → ℕ → PredicateTree (Test ℕ)
-compares place comparison number = Holds (Compare (operand.Column place) comparison (operand.Literal (literal.Int (pos number))))
+compares index comparison number = Holds (Compare (operand.Column index) comparison (operand.Literal (literal.Int (pos number))))
 
 -- SELECT REGION, SUM(UNITS) .. GROUP BY ROLLUP(REGION) HAVING SUM(UNITS) > 0 AND COUNT(*) < 4
 abbrev pub by_having : PlanTree
@@ -82,3 +83,15 @@ by_having = record {
 -- the sum of the south is below 0, and all of them are four
 abbrev pub sales_by_having : List (List Total)
 sales_by_having = (total.Null ∷ total.Int (pos 5) ∷ []) ∷ (total.Text (codes "north") ∷ total.Int (pos 10) ∷ []) ∷ []
+
+-- the table of these sales
+abbrev pub sales_table : Table
+sales_table = record {
+  name = codes "SALES";
+  columns = record { name = codes "NUMBER"; kind = schema.Int } ∷ record { name = codes "REGION"; kind = schema.Text } ∷ record { name = codes "UNITS"; kind = schema.Int } ∷ [];
+  key = 0;
+}
+
+-- what the text asks of them, of which the sums are 5, 10, -2 and 13: the unknown region has few units, and the last group is all
+abbrev pub sales_of_regions : List (List Total)
+sales_of_regions = (total.Null ∷ total.Int (pos 5) ∷ []) ∷ (total.Null ∷ total.Int (pos 13) ∷ []) ∷ []

@@ -6,7 +6,7 @@ use aggs::Kind;
 use query::Item;
 use std::alloc::{AllocError, Global};
 
-/// An aggregate of a column, by the column's place.
+/// An aggregate of a column, by the column's index.
 #[derive(Clone, Copy, Debug, Drop)]
 pub struct Aggregation {
     pub kind: Kind,

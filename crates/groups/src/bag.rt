@@ -14,12 +14,12 @@ use std::alloc::{AllocError, Global};
 use std::collections::HashMap;
 use std::marker::Model;
 
-/// A list of groups, and the place in it where a hash was met last. Several groups may have one tuple: nothing rests
+/// A list of groups, and for a hash the index of the group that it was met with last. Several groups may have one tuple: nothing rests
 /// on the hashes, and a group that is not found by its hash has another one beside it.
 #[derive(Drop)]
 pub struct Bag<H: KeyHash<Cell>> {
     groups: Vec<(Tuple, Accumulators<H>)>,
-    places: HashMap<u64, usize>,
+    by_hash: HashMap<u64, usize>,
 }
 
 impl<H: KeyHash<Cell>> Model for Bag<H> {
@@ -37,8 +37,8 @@ impl<H: KeyHash<Cell>> Model for Bag<H> {
 
     ghost view = { λ b. b.groups.items };
 
-    // Each place that is noted is one in the list.
-    ghost invariant = { λ b. All (λ place. place < length b.groups.items) (values b.places) };
+    // Each index that is noted is one in the list.
+    ghost invariant = { λ b. All (λ index. index < length b.groups.items) (values b.by_hash) };
 }
 
 impl<H: KeyHash<Cell>> Bag<H> {
@@ -48,7 +48,7 @@ impl<H: KeyHash<Cell>> Bag<H> {
     {
         Bag {
             groups: Vec::new(alloc),
-            places: HashMap::new(alloc),
+            by_hash: HashMap::new(alloc),
         }
     }
 
@@ -58,7 +58,7 @@ impl<H: KeyHash<Cell>> Bag<H> {
     {
         Bag {
             groups,
-            places: HashMap::new(alloc),
+            by_hash: HashMap::new(alloc),
         }
     }
 
@@ -83,8 +83,8 @@ impl<H: KeyHash<Cell>> Bag<H> {
         ensures { IfOk result (λ _. Takes aggregations.now columns.now row.now self.old self.new) }
     {
         let hash = hash_of(row.cells(), columns);
-        if let Some(place) = self.find(hash, row.cells(), columns) {
-            self.groups[place].1.step(alloc, row, aggregations)?;
+        if let Some(index) = self.find(hash, row.cells(), columns) {
+            self.groups[index].1.step(alloc, row, aggregations)?;
             return Ok(());
         }
         let mut accumulators = Accumulators::empty(alloc, aggregations)?;
@@ -93,65 +93,68 @@ impl<H: KeyHash<Cell>> Bag<H> {
         self.add(hash, tuple, accumulators)
     }
 
-    /// Puts a group of a finer set into a group of its cells at the places, or adds one.
+    /// Puts a group of a finer set into a group of those of its cells that have these indexes, or adds one.
     pub fn take_group(
         &mut self,
         alloc: Global,
         tuple: &Tuple,
         accumulators: &Accumulators<H>,
-        places: &[usize],
+        indexes: &[usize],
     ) -> Result<(), AllocError>
         requires { AllByRecursion (λ g. AllFit g.1 accumulators.now) self.old }
-        ensures { IfOk result (λ _. TakesGroup (picked places.now tuple.now) accumulators.now self.old self.new) }
+        ensures { IfOk result (λ _. TakesGroup (picked indexes.now tuple.now) accumulators.now self.old self.new) }
     {
-        let hash = hash_of(tuple.cells(), places);
-        if let Some(place) = self.find(hash, tuple.cells(), places) {
-            return self.join_at(alloc, place, accumulators);
+        let hash = hash_of(tuple.cells(), indexes);
+        if let Some(index) = self.find(hash, tuple.cells(), indexes) {
+            return self.join_at(alloc, index, accumulators);
         }
         let copy = accumulators.clone()?;
-        self.add(hash, tuple_of(alloc, tuple.cells(), places)?, copy)
+        self.add(hash, tuple_of(alloc, tuple.cells(), indexes)?, copy)
     }
 
     /// The groups of both, those of the second behind those of the first. Groups of one tuple stay beside each other.
     pub fn with(self, more: Bag<H>) -> Result<Bag<H>, AllocError>
         ensures { IfOk result (λ both. both ≡ self ++ more) }
     {
-        let Bag { mut groups, places } = self;
+        let Bag {
+            mut groups,
+            by_hash,
+        } = self;
         let Bag {
             groups: mut others,
             ..
         } = more;
         groups.append(&mut others)?;
-        Ok(Bag { groups, places })
+        Ok(Bag { groups, by_hash })
     }
 
-    /// A group of the cells at the places, if one is found. It takes no memory.
-    fn find(&self, hash: u64, cells: &[Cell], places: &[usize]) -> Option<usize>
+    /// The index of a group of the cells of these indexes, if one is found. It takes no memory.
+    fn find(&self, hash: u64, cells: &[Cell], indexes: &[usize]) -> Option<usize>
         ensures within { IfSome result (λ i. i < length self.now) }
-        ensures found { IfSome result (λ i. (slice_index_or self.now i (picked places.now cells.now, [])).0 ≡ picked places.now cells.now) }
+        ensures found { IfSome result (λ i. (slice_index_or self.now i (picked indexes.now cells.now, [])).0 ≡ picked indexes.now cells.now) }
     {
-        let place = *self.places.get(&hash)?;
-        if is_tuple_of(self.groups[place].0.cells(), cells, places) {
-            Some(place)
+        let index = *self.by_hash.get(&hash)?;
+        if is_tuple_of(self.groups[index].0.cells(), cells, indexes) {
+            Some(index)
         } else {
             None
         }
     }
 
-    /// Puts accumulators into the group at a place.
+    /// Puts accumulators into the group of an index.
     fn join_at(
         &mut self,
         alloc: Global,
-        place: usize,
+        index: usize,
         accumulators: &Accumulators<H>,
     ) -> Result<(), AllocError>
-        requires within { place < length self.old }
+        requires within { index < length self.old }
         requires fit { AllByRecursion (λ g. AllFit g.1 accumulators.now) self.old }
-        ensures { (tuple : List Cell) → (slice_index_or self.old place (tuple, [])).0 ≡ tuple →
+        ensures { (tuple : List Cell) → (slice_index_or self.old index (tuple, [])).0 ≡ tuple →
             IfOk result (λ _. JoinsGroup tuple accumulators.now self.old self.new) }
     {
-        let both = self.groups[place].1.join(alloc, accumulators)?;
-        self.groups[place].1 = both;
+        let both = self.groups[index].1.join(alloc, accumulators)?;
+        self.groups[index].1 = both;
         Ok(())
     }
 
@@ -164,9 +167,9 @@ impl<H: KeyHash<Cell>> Bag<H> {
     ) -> Result<(), AllocError>
         ensures { IfOk result (λ _. self.new ≡ self.old ++ (tuple, accumulators) ∷ []) }
     {
-        let place = self.groups.len();
+        let index = self.groups.len();
         self.groups.push((tuple, accumulators))?;
-        let _ = self.places.insert(hash, place)?;
+        let _ = self.by_hash.insert(hash, index)?;
         Ok(())
     }
 }

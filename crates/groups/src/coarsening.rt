@@ -9,20 +9,20 @@ use crate::bag::Bag;
 use cells::{Cell, KeyHash};
 use std::alloc::{AllocError, Global};
 
-/// The groups of a finer set, put together by their cells at the places: groups of the set of the columns there, over
-/// the same rows.
+/// The groups of a finer set, put together by those of their cells that have these indexes: groups of the set of these
+/// columns, over the same rows.
 pub fn coarsened<H: KeyHash<Cell>>(
     alloc: Global,
     finer: &Bag<H>,
-    places: &[usize],
+    indexes: &[usize],
 ) -> Result<Bag<H>, AllocError>
-    requires { CanCoarsen places.now finer.now }
-    ensures { (aggregations : List Aggregation) (columns : List ℕ) (rows : List RowValue) → AreWithin (length columns) places.now → Covers aggregations columns rows finer.now →
-        IfOk result (λ b. Covers aggregations (picked_columns columns places.now) rows b) }
+    requires { CanCoarsen indexes.now finer.now }
+    ensures { (aggregations : List Aggregation) (columns : List ℕ) (rows : List RowValue) → AreWithin (length columns) indexes.now → Covers aggregations columns rows finer.now →
+        IfOk result (λ b. Covers aggregations (picked_columns columns indexes.now) rows b) }
 {
     let mut bag = Bag::new(alloc);
     for group in finer.groups() {
-        bag.take_group(alloc, &group.0, &group.1, places)?;
+        bag.take_group(alloc, &group.0, &group.1, indexes)?;
     }
     Ok(bag)
 }

@@ -11,14 +11,14 @@ ghost use Rattle.groups.specs.Numbered.{HaveRows, NumberAll, picked_rows};
 use crate::accumulators::Accumulators;
 use crate::aggregation::Aggregation;
 use crate::bag::Bag;
-use crate::grouped::{Grouped, groups_of};
+use crate::numbered::{NumberedRows, groups_of};
 use crate::tallying::{counted, tallied};
 use aggs::{Acc, Kind};
 use cells::{Cell, KeyHash, Tuple};
 use columns::Columns;
 use std::alloc::{AllocError, Global};
 
-/// The bag of a set over the rows at these places of the columns. None where a column that is wanted was left out, or the
+/// The bag of a set over the rows of these indexes. None where a column that is wanted was left out, or the
 /// groups are too many for a table.
 pub fn bag_of<H: KeyHash<Cell>>(
     alloc: Global,
@@ -47,7 +47,7 @@ fn tallies<H: KeyHash<Cell>>(
     columns: &Columns<H>,
     aggregations: &[Aggregation],
     rows: &[u32],
-    groups: &Grouped,
+    groups: &NumberedRows,
 ) -> Result<Option<Vec<Vec<Acc<H>>>>, AllocError>
     requires rows { HaveRows columns.now rows.now }
     requires all { NumberAll (length rows.now) groups.now.numbers.items groups.now.tuples.items }
@@ -70,7 +70,7 @@ fn tally<H: KeyHash<Cell>>(
     columns: &Columns<H>,
     aggregation: &Aggregation,
     rows: &[u32],
-    groups: &Grouped,
+    groups: &NumberedRows,
 ) -> Result<Option<Vec<Acc<H>>>, AllocError>
     requires rows { HaveRows columns.now rows.now }
     requires all { NumberAll (length rows.now) groups.now.numbers.items groups.now.tuples.items }

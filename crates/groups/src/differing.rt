@@ -14,7 +14,7 @@ use crate::parting::{Part, Parts, parted};
 use crate::tallying::empty_accs;
 use aggs::{Acc, Kind};
 use cells::{Cell, KeyHash};
-use columns::Column;
+use columns::CodeColumn;
 use std::alloc::{AllocError, Global};
 
 /// Accumulators of COUNT DISTINCT of `count` groups, as of [`tallied`](crate::tallying::tallied). None where the pairs of a
@@ -24,7 +24,7 @@ pub fn tallied_different<H: KeyHash<Cell>>(
     count: usize,
     numbers: &[u32],
     rows: &[u32],
-    column: &Column<H>,
+    column: &CodeColumn<H>,
 ) -> Result<Option<Vec<Acc<H>>>, AllocError>
     requires rows { HasRows column.now rows.now }
     requires numbers { (length numbers.now ≡ length rows.now) × AllByRecursion (λ n. n < count) numbers.now }

@@ -3,6 +3,7 @@ ghost use Rattle.std.specs.Prelude.{◌≡◌, ℕ, List, ◌++◌, IfOk, drop, 
 ghost use Rattle.std.specs.List.Sorted.{IsPermutation, IsSorted};
 ghost use Rattle.std.specs.Map.{keys_of};
 ghost use Rattle.std.specs.Option.{option_to_list};
+ghost use Rattle.std.specs.Vec.Iter.{into_iter_items};
 ghost use Rattle.cells.specs.TupleOrder.{tuple_cmp};
 ghost use Rattle.cells.specs.Values.{RowValue};
 ghost use Rattle.groups.specs.Accumulators.{aggregations_of};
@@ -14,21 +15,22 @@ ghost use Rattle.trie.specs.Holding.{lent};
 use crate::accumulators::Accumulators;
 use crate::report_row::{ReportRow, row_of};
 use cells::{Cell, KeyHash, Total, Tuple};
+use itertools::Itertools;
 use query::{GroupSet, Plan, Truth};
 use std::alloc::{AllocError, Global};
+use std::vec::IntoIter;
 use trie::Trie;
 
 /// The groups, their tuples rising.
 fn by_tuple<'a, H: KeyHash<Cell> + KeyHash<Tuple>>(
     alloc: Global,
     groups: &'a Trie<Tuple, Accumulators<H>, H>,
-) -> Result<Vec<(&'a Tuple, &'a Accumulators<H>)>, AllocError>
-    ensures all { IfOk result (λ v. IsPermutation groups.now (lent v.items)) }
-    ensures rising { IfOk result (λ v. IsSorted tuple_cmp (keys_of (lent v.items))) }
+) -> Result<IntoIter<(&'a Tuple, &'a Accumulators<H>)>, AllocError>
+    ensures all { IfOk result (λ it. IsPermutation groups.now (lent (into_iter_items it))) }
+    ensures rising { IfOk result (λ it. IsSorted tuple_cmp (keys_of (lent (into_iter_items it)))) }
 {
-    let mut rising = groups.entries(alloc)?;
-    rising.sort_by_key(|group| group.0)?;
-    Ok(rising)
+    let groups = groups.entries(alloc)?;
+    groups.into_iter().sorted_by_key(alloc, |group| group.0)
 }
 
 /// The values of a group that HAVING asks for: those of its own items, which stand behind the select list's.
@@ -70,9 +72,9 @@ fn add_rows<H: KeyHash<Cell>>(
     rows: &mut Vec<ReportRow>,
     plan: &Plan,
     set: &[usize],
-    groups: &[(&Tuple, &Accumulators<H>)],
+    groups: IntoIter<(&Tuple, &Accumulators<H>)>,
 ) -> Result<(), AllocError>
-    ensures { IfOk result (λ _. rows.new.items ≡ rows.old.items ++ rows_by set.now plan.now (lent groups.now)) }
+    ensures { IfOk result (λ _. rows.new.items ≡ rows.old.items ++ rows_by set.now plan.now (lent (into_iter_items groups.entry))) }
 {
     for group in groups {
         let row = row_of(alloc, set, plan.items(), group.0, group.1)?;
@@ -97,5 +99,5 @@ pub(crate) fn add_rows_of_set<H: KeyHash<Cell> + KeyHash<Tuple>>(
 {
     groups.keys_rise();
     let rising = by_tuple(alloc, groups)?;
-    add_rows(alloc, rows, plan, set.columns.as_slice(), rising.as_slice())
+    add_rows(alloc, rows, plan, set.columns.as_slice(), rising)
 }

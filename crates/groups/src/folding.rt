@@ -66,7 +66,7 @@ impl<'a, H: KeyHash<Cell> + KeyHash<Tuple>> Folding<'a, H> {
         Ok(())
     }
 
-    /// The folding of those rows for which the plan's WHERE is true, of `count` rows from the place `first` on whose
+    /// The folding of those rows for which the plan's WHERE is true, of `count` rows from the index `first` on whose
     /// columns are at hand. None where a column that the plan needs was left out, or groups are too many for a table: then
     /// the rows are to be folded piece by piece. The only error is that a growth was refused.
     pub fn of_rows(
@@ -166,8 +166,8 @@ fn fill_sources<H: KeyHash<Cell>>(
     requires { MayFillSources rows.now sources.old.items }
     ensures { IfOk result (λ _. FillsSources rows.now sources.old.items sources.new.items) }
 {
-    for place in 0..sources.len() {
-        fill_source(alloc, rows, &mut sources[place])?;
+    for index in 0..sources.len() {
+        fill_source(alloc, rows, &mut sources[index])?;
     }
     Ok(())
 }

@@ -3,19 +3,19 @@ ghost use Rattle.std.specs.Prelude.{◌≡◌, ◌+◌, ◌<◌, ◌≤◌, ◌^
 ghost use Rattle.std.specs.List.{AllByRecursion, range_with_len};
 ghost use Rattle.cells.specs.Values.{RowValue};
 ghost use Rattle.columns.specs.Columns.{Hold};
-ghost use Rattle.groups.specs.Groups.{cell_of_place, kept};
+ghost use Rattle.groups.specs.Groups.{cell_at_index, kept};
 ghost use Rattle.groups.specs.Keeping.{HaveRange, KeptBy, cells_for, chosen, truth_for};
 ghost use Rattle.groups.specs.Numbered.{HaveRows, NumberAll, picked_rows};
 ghost use Rattle.groups.specs.Ranges.{rows_from};
 
-use crate::grouped::groups_of;
-use crate::set_places::place_in;
+use crate::numbered::groups_of;
+use crate::set_columns::index_in;
 use cells::{Cell, KeyHash, Tuple};
 use columns::Columns;
 use query::{Plan, Predicate, Truth, truth_by_columns};
 use std::alloc::{AllocError, Global};
 
-/// The places of those rows for which the plan's WHERE is true, of `count` rows from the place `first` on. None where a column
+/// The indexes of those rows for which the plan's WHERE is true, of `count` rows from the index `first` on. None where a column
 /// that WHERE names was left out, or the groups of its columns are too many for a table. The predicate is asked once for the
 /// rows that have the same cells in these columns.
 pub fn kept_rows<H: KeyHash<Cell>>(
@@ -31,11 +31,11 @@ pub fn kept_rows<H: KeyHash<Cell>>(
     ensures kept { (all : List RowValue) → Hold all columns.now →
         IfOk result (λ made. IfSome made (λ v. picked_rows all v.items ≡ kept plan.now.condition (rows_from first count all))) }
 {
-    let places = places(alloc, first, count)?;
+    let indexes = indexes(alloc, first, count)?;
     let Some(predicate) = plan.condition() else {
-        return Ok(Some(places));
+        return Ok(Some(indexes));
     };
-    let Some(kept) = chosen_by(alloc, predicate, columns, places.as_slice())? else {
+    let Some(kept) = chosen_by(alloc, predicate, columns, indexes.as_slice())? else {
         return Ok(None);
     };
     Ok(Some(kept))
@@ -71,25 +71,25 @@ fn chosen_by<H: KeyHash<Cell>>(
     Ok(Some(kept))
 }
 
-/// The places of `count` rows from the place `first` on.
-fn places(alloc: Global, first: usize, count: usize) -> Result<Vec<u32>, AllocError>
+/// The indexes of `count` rows from the index `first` on.
+fn indexes(alloc: Global, first: usize, count: usize) -> Result<Vec<u32>, AllocError>
     requires { first + count ≤ 2 ^ 32 }
     ensures { IfOk result (λ v. v.items ≡ range_with_len first count) }
 {
-    let mut places = Vec::with_capacity(alloc, count)?;
+    let mut indexes = Vec::with_capacity(alloc, count)?;
     for at in 0..count {
-        places.push((first + at) as u32)?;
+        indexes.push((first + at) as u32)?;
     }
-    Ok(places)
+    Ok(indexes)
 }
 
 /// How many cells a list has that has one for each of these columns. None where there is no such column.
 fn width_of<H: KeyHash<Cell>>(columns: &Columns<H>, named: &[usize]) -> Option<usize>
     ensures { IfSome result (λ width. AllByRecursion (λ k. k < width) named.now) }
 {
-    let width = columns.places();
-    for place in named {
-        if *place >= width {
+    let width = columns.column_count();
+    for index in named {
+        if *index >= width {
             return None;
         }
     }
@@ -125,18 +125,18 @@ fn cells_for(
     ensures { IfOk result (λ v. v.items ≡ cells_for named.now width tuple.now) }
 {
     let mut cells = Vec::with_capacity(alloc, width)?;
-    for place in 0..width {
-        let cell = cell_in(tuple.cells(), place_in(named, place))?;
+    for index in 0..width {
+        let cell = cell_in(tuple.cells(), index_in(named, index))?;
         cells.push(cell)?;
     }
     Ok(cells)
 }
 
-/// A copy of the tuple's cell at a place, and NULL at none.
-fn cell_in(tuple: &[Cell], place: Option<usize>) -> Result<Cell, AllocError>
-    ensures { IfOk result (λ cell. cell ≡ cell_of_place tuple.now place) }
+/// A copy of the tuple's cell of an index, and NULL for none.
+fn cell_in(tuple: &[Cell], index: Option<usize>) -> Result<Cell, AllocError>
+    ensures { IfOk result (λ cell. cell ≡ cell_at_index tuple.now index) }
 {
-    match place {
+    match index {
         None => Ok(Cell::Null),
         Some(at) => match tuple.get(at) {
             None => Ok(Cell::Null),
@@ -145,21 +145,21 @@ fn cell_in(tuple: &[Cell], place: Option<usize>) -> Result<Cell, AllocError>
     }
 }
 
-/// Those of the places whose numbers are marked.
+/// Those of the indexes whose numbers are marked.
 fn chosen(
     alloc: Global,
-    places: &[u32],
+    indexes: &[u32],
     numbers: &[u32],
     marks: &[bool],
 ) -> Result<Vec<u32>, AllocError>
-    requires one { length numbers.now ≡ length places.now }
+    requires one { length numbers.now ≡ length indexes.now }
     requires within { AllByRecursion (λ n. n < length marks.now) numbers.now }
-    ensures { IfOk result (λ v. v.items ≡ chosen marks.now numbers.now places.now) }
+    ensures { IfOk result (λ v. v.items ≡ chosen marks.now numbers.now indexes.now) }
 {
-    let mut kept = Vec::with_capacity(alloc, places.len())?;
-    for at in 0..places.len() {
+    let mut kept = Vec::with_capacity(alloc, indexes.len())?;
+    for at in 0..indexes.len() {
         if marks[numbers[at] as usize] {
-            kept.push(places[at])?;
+            kept.push(indexes[at])?;
         }
     }
     Ok(kept)

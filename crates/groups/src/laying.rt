@@ -15,7 +15,7 @@ use std::alloc::{AllocError, Global};
 use trie::{Ticks, Trie, entries_are_a_map};
 
 /// The trie of no rows: for the empty set its one tuple is there from the start.
-pub fn start<H: KeyHash<Cell> + KeyHash<Tuple>>(
+fn start<H: KeyHash<Cell> + KeyHash<Tuple>>(
     alloc: Global,
     set: &[usize],
     aggregations: &[Aggregation],

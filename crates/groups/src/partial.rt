@@ -7,11 +7,9 @@ ghost use Rattle.groups.specs.Partials.{MayMeet, Stands, rows_of};
 ghost use Rattle.query.specs.Plans.{PlanTree};
 
 use crate::accumulators::Accumulators;
-use crate::aggregation::aggregations;
 use crate::finishing::add_rows_of_set;
 use crate::folding::Folding;
 use crate::joining::join_groups;
-use crate::laying::start;
 use crate::report_row::ReportRow;
 use cells::{Cell, KeyHash, Row, Tuple};
 use query::Plan;
@@ -47,13 +45,8 @@ impl<H: KeyHash<Cell> + KeyHash<Tuple>> Partial<H> {
     pub fn empty(alloc: Global, plan: &Plan) -> Result<Partial<H>, AllocError>
         ensures { IfOk result (λ p. Stands H.KeyHash-2.hash_of plan.now [] p) }
     {
-        let aggregations = aggregations(alloc, plan.items())?;
-        let mut tries = Vec::new(alloc);
-        for set in plan.sets() {
-            let trie = start(alloc, set.columns.as_slice(), aggregations.as_slice())?;
-            tries.push(trie)?;
-        }
-        Ok(Partial { tries })
+        let folding = Folding::new(alloc, plan)?;
+        folding.into_partial(alloc)
     }
 
     /// The partial result of the rows of the piece for which the plan's WHERE is true. The piece has at most 4,294,967,296

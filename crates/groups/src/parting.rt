@@ -1,7 +1,7 @@
 //! Groups of rows cut into parts by a column.
-ghost use Rattle.std.specs.Prelude.{◌≡◌, ◌<◌, ◌≤◌, ◌^◌, IfOk, IfSome, length};
+ghost use Rattle.std.specs.Prelude.{◌≡◌, ◌<◌, ◌≤◌, ◌*◌, ◌^◌, IfOk, IfSome, None, length};
 ghost use Rattle.std.specs.List.{AllByRecursion};
-ghost use Rattle.groups.specs.Parting.{AreParted, IsNumbered, codes_at};
+ghost use Rattle.groups.specs.Parting.{AreParted, IsNumbered, codes_at, entry_limit};
 
 use std::alloc::{AllocError, Global};
 
@@ -22,9 +22,15 @@ pub struct Parts {
 /// No part has this number.
 const NONE: u32 = u32::MAX;
 
-/// The parts of the groups. `groups` has the number of each row's group, `rows` where its code stands among the codes, of
-/// which there are fewer than `width`; `count` is the number of groups. None where a table of all parts that there might be
-/// would be much larger than the list of rows.
+/// How many entries a table may have for each row.
+const ENTRIES_PER_ROW: usize = 4;
+
+/// How many entries it may have beside these: with few rows, memory for it is no matter.
+const SPARE_ENTRIES: usize = 65_536;
+
+/// The parts of the groups. `groups` has the number of each row's group, `rows` the index of its code among the codes, of
+/// which there are fewer than `width`; `count` is the number of groups. A table has an entry for each group and each code.
+/// None where it would be much larger than the list of rows.
 pub fn parted(
     alloc: Global,
     groups: &[u32],
@@ -36,12 +42,13 @@ pub fn parted(
     requires one { length groups.now ≡ length rows.now }
     requires few { length rows.now ≤ 2 ^ 32 }
     requires rows { AllByRecursion (λ row. row < length codes.now) rows.now }
-    ensures { IfOk result (λ made. IfSome made (λ p. AreParted groups.now (codes_at codes.now rows.now) p.numbers.items p.parts.items)) }
+    ensures parted { IfOk result (λ made. IfSome made (λ p. AreParted groups.now (codes_at codes.now rows.now) p.numbers.items p.parts.items)) }
+    ensures bounded { IfOk result (λ made. IfSome made (λ _. count * width ≤ entry_limit (length rows.now))) }
+    ensures none { IfOk result (λ made. made ≡ None → entry_limit (length rows.now) < count * width) }
 {
-    let size = count.saturating_mul(width);
-    if size > rows.len().saturating_mul(4).saturating_add(65_536) {
+    let Some(size) = table_size(count, width, rows.len()) else {
         return Ok(None);
-    }
+    };
     let mut numbering = Numbering {
         table: Vec::from_elem(alloc, NONE, size)?,
         width,
@@ -57,6 +64,19 @@ pub fn parted(
     }
     let Numbering { parts, .. } = numbering;
     Ok(Some(Parts { numbers, parts }))
+}
+
+/// How many entries a table has for so many groups, codes and rows. None where they would be too many.
+fn table_size(count: usize, width: usize, rows: usize) -> Option<usize>
+    requires { rows ≤ 2 ^ 32 }
+    ensures bounded { IfSome result (λ _. count * width ≤ entry_limit rows) }
+    ensures none { result ≡ None → entry_limit rows < count * width }
+{
+    let size = count.checked_mul(width)?;
+    if size > ENTRIES_PER_ROW * rows + SPARE_ENTRIES {
+        return None;
+    }
+    Some(size)
 }
 
 /// Parts, each with a number, and a table of where a part was met. Nothing rests on the table: a part that is not found by it
@@ -82,13 +102,13 @@ impl Numbering {
         }
         let number = self.parts.len() as u32;
         self.parts.push(part)?;
-        if let Some(place) = self.table.get_mut(at) {
-            *place = number;
+        if let Some(met) = self.table.get_mut(at) {
+            *met = number;
         }
         Ok(number)
     }
 
-    /// The number at the place of the table, if it is that of the part. It takes no memory.
+    /// The number that the table has there, if it is that of the part. It takes no memory.
     fn found(&self, at: usize, part: Part) -> Option<u32>
         ensures { IfSome result (λ n. IsNumbered part self.now.parts.items self.now.parts.items n) }
     {

@@ -2,7 +2,7 @@
 ghost use Rattle.std.specs.Prelude.{◌≡◌, ◌<◌, List, true, IfOk, IfSome, length, position, slice_index_or};
 ghost use Rattle.std.specs.Option.{is_some, option_copied};
 ghost use Rattle.cells.specs.Values.{RowValue};
-ghost use Rattle.groups.specs.Coarsening.{ArePlaces};
+ghost use Rattle.groups.specs.Coarsening.{AreIndexes};
 ghost use Rattle.groups.specs.Bags.{Covers};
 ghost use Rattle.groups.specs.Pools.{Grows, HaveFiner, HaveSetsAbove, HaveSetsOf, IsPool, MayCoarsen, MayCoarsenAll, has_all, has_finer, has_set};
 ghost use Rattle.groups.specs.declared.aggregation.Aggregation.{Aggregation};
@@ -10,7 +10,7 @@ ghost use Rattle.groups.specs.declared.pool.SetBag.{SetBag};
 
 use crate::bag::Bag;
 use crate::coarsening::coarsened;
-use crate::set_places::{has_all, most_columns, places_in};
+use crate::set_columns::{has_all, indexes_in, most_columns};
 use cells::{Cell, KeyHash};
 use query::GroupSet;
 use std::alloc::{AllocError, Global};
@@ -69,8 +69,8 @@ pub fn bag_from<H: KeyHash<Cell>>(
     ensures { (aggregations : List Aggregation) (rows : List RowValue) → IsPool aggregations rows pool.now →
         IfOk result (λ b. Covers aggregations set.now rows b) }
 {
-    let place = fewest(pool, set);
-    coarser_bag(alloc, &pool[place], set)
+    let index = fewest(pool, set);
+    coarser_bag(alloc, &pool[index], set)
 }
 
 /// Adds the bags of the sets of so many columns to the pool.
@@ -113,40 +113,40 @@ fn add_bag<H: KeyHash<Cell>>(
     Ok(())
 }
 
-/// The place in the pool of the bag of fewest groups from which that of the set can be made.
+/// The index in the pool of the bag of fewest groups from which that of the set can be made.
 fn fewest<H: KeyHash<Cell>>(pool: &[SetBag<H>], set: &[usize]) -> usize
     requires { has_finer pool.now set.now ≡ true }
     ensures within { result < length pool.now }
     ensures finer { (d : SetBag H) → has_all (slice_index_or pool.now result d).set.items set.now ≡ true }
 {
-    let mut place = first_finer(pool, set);
-    let mut least = pool[place].bag.groups().len();
+    let mut index = first_finer(pool, set);
+    let mut least = pool[index].bag.groups().len();
     for (i, finer) in pool.iter().enumerate() {
         let count = finer.bag.groups().len();
         if count < least {
             if has_all(finer.set.as_slice(), set) {
-                place = i;
+                index = i;
                 least = count;
             }
         }
     }
-    place
+    index
 }
 
-/// The first place in the pool of a bag from which that of the set can be made.
+/// The first index in the pool of a bag from which that of the set can be made.
 fn first_finer<H: KeyHash<Cell>>(pool: &[SetBag<H>], set: &[usize]) -> usize
     requires { has_finer pool.now set.now ≡ true }
     ensures within { result < length pool.now }
     ensures finer { (d : SetBag H) → has_all (slice_index_or pool.now result d).set.items set.now ≡ true }
 {
-    let Some(place) = place_of_finer(pool, set) else {
+    let Some(index) = index_of_finer(pool, set) else {
         unreachable!()
     };
-    place
+    index
 }
 
-/// The first place in the pool of a bag from which that of the set can be made, if there is one.
-fn place_of_finer<H: KeyHash<Cell>>(pool: &[SetBag<H>], set: &[usize]) -> Option<usize>
+/// The first index in the pool of a bag from which that of the set can be made, if there is one.
+fn index_of_finer<H: KeyHash<Cell>>(pool: &[SetBag<H>], set: &[usize]) -> Option<usize>
     ensures { result ≡ position (λ (f : SetBag H). has_all f.set.items set.now) pool.now }
 {
     pool.iter()
@@ -164,6 +164,6 @@ pub fn coarser_bag<H: KeyHash<Cell>>(
     ensures { (aggregations : List Aggregation) (rows : List RowValue) → Covers aggregations finer.now.set.items rows finer.now.bag →
         IfOk result (λ b. Covers aggregations set.now rows b) }
 {
-    let places = places_in(alloc, finer.set.as_slice(), set)?;
-    coarsened(alloc, &finer.bag, places.as_slice())
+    let indexes = indexes_in(alloc, finer.set.as_slice(), set)?;
+    coarsened(alloc, &finer.bag, indexes.as_slice())
 }

@@ -16,7 +16,7 @@ use columns::Columns;
 use query::Plan;
 use std::alloc::{AllocError, Global};
 
-/// The sets of the sources, each with its bag over the rows at these places. None where one of them can't be made from the
+/// The sets of the sources, each with its bag over the rows of these indexes. None where one of them can't be made from the
 /// columns.
 pub fn sources_from<H: KeyHash<Cell>>(
     alloc: Global,

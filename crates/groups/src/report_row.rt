@@ -3,12 +3,12 @@ ghost use Rattle.std.specs.Prelude.{◌≡◌, ◌≤◌, IfOk, false, length, p
 ghost use Rattle.std.specs.List.{list_any};
 ghost use Rattle.cells.specs.TotalOrder.{cell_total};
 ghost use Rattle.groups.specs.Finishing.{behind_first, first_total, left_by, row_by, value_by};
-ghost use Rattle.groups.specs.Groups.{cell_of_place, grouping, mark, place_in};
+ghost use Rattle.groups.specs.Groups.{cell_at_index, grouping, index_in, mark};
 ghost use Rattle.query.specs.Limits.{grouping_limit};
 ghost use Rattle.query.specs.Values.{is_long};
 
 use crate::accumulators::Accumulators;
-use crate::set_places::place_in;
+use crate::set_columns::index_in;
 use aggs::Acc;
 use cells::{Cell, KeyHash, Total, Tuple};
 use query::Item;
@@ -41,13 +41,13 @@ fn cell_total(cell: &Cell) -> Result<Total, AllocError>
     }
 }
 
-/// The value of the tuple's cell at a place: NULL where there is none, as in a subtotal of the column.
-fn total_at(tuple: &Tuple, place: Option<usize>) -> Result<Total, AllocError>
-    ensures { IfOk result (λ t. t ≡ cell_total (cell_of_place tuple.now place)) }
+/// The value of the tuple's cell of an index: NULL where there is none, as in a subtotal of the column.
+fn total_at(tuple: &Tuple, index: Option<usize>) -> Result<Total, AllocError>
+    ensures { IfOk result (λ t. t ≡ cell_total (cell_at_index tuple.now index)) }
 {
-    match place {
+    match index {
         None => Ok(Total::Null),
-        Some(place) => match tuple.cells().get(place) {
+        Some(index) => match tuple.cells().get(index) {
             None => Ok(Total::Null),
             Some(cell) => cell_total(cell),
         },
@@ -61,16 +61,16 @@ fn grouping(set: &[usize], columns: &[usize]) -> Total
 {
     let mut found: u64 = 0;
     for column in columns {
-        found = 2 * found + mark(place_in(set, *column));
+        found = 2 * found + mark(index_in(set, *column));
     }
     Total::Int(i128::from(found))
 }
 
 /// The mark of a column: 0 where it stands in the grouping set, else 1.
-fn mark(place: Option<usize>) -> u64
-    ensures { result ≡ mark place }
+fn mark(index: Option<usize>) -> u64
+    ensures { result ≡ mark index }
 {
-    match place {
+    match index {
         None => 1,
         Some(_) => 0,
     }
@@ -99,7 +99,7 @@ fn value_of<'a, H: KeyHash<Cell>>(
     ensures left { IfOk result (λ r. r.1.now ≡ left_by item.now accs.now) }
 {
     match item {
-        Item::Column(column) => Ok((total_at(tuple, place_in(set, *column))?, accs)),
+        Item::Column(column) => Ok((total_at(tuple, index_in(set, *column))?, accs)),
         Item::Grouping(columns) => Ok((grouping(set, columns.as_slice()), accs)),
         Item::CountRows
         | Item::Count(_)

@@ -5,7 +5,7 @@ ghost use Rattle.groups.specs.Pools.{AddsSource, ArePlanned, AreSources, has_all
 
 use crate::bag::Bag;
 use crate::pool::SetBag;
-use crate::set_places::{has_all, most_columns};
+use crate::set_columns::{has_all, most_columns};
 use cells::{Cell, KeyHash};
 use query::GroupSet;
 use std::alloc::{AllocError, Global};

@@ -12,44 +12,29 @@ ghost use Rattle.groups.specs.Tallying.{AreTallied};
 use crate::differing::tallied_different;
 use aggs::{Acc, Kind};
 use cells::{Cell, KeyHash};
-use columns::Column;
+use columns::CodeColumn;
 use std::alloc::{AllocError, Global};
 
-/// Accumulators of `count` groups, each stepped with the cells of its rows. `rows` has the places of the rows in the column,
-/// and `numbers` the numbers of their groups.
+/// Accumulators of `count` groups, each of the cells of its rows. `rows` has the indexes of the rows, and `numbers` the
+/// numbers of their groups. Each is stepped with each row of its group, unless different cells are to be counted and a
+/// table finds them.
 pub fn tallied<H: KeyHash<Cell>>(
     alloc: Global,
     kind: Kind,
     count: usize,
     numbers: &[u32],
     rows: &[u32],
-    column: &Column<H>,
+    column: &CodeColumn<H>,
 ) -> Result<Vec<Acc<H>>, AllocError>
     requires rows { HasRows column.now rows.now }
     requires numbers { (length numbers.now ≡ length rows.now) × AllByRecursion (λ n. n < count) numbers.now }
     ensures { IfOk result (λ v. AreTallied kind count numbers.now (decoded column.now.cells (codes_at column.now.by_row rows.now)) v.items) }
 {
     if let Kind::CountDistinct = kind {
-        if let Some(accs) = tallied_different(alloc, count, numbers, rows, column)? {
-            return Ok(accs);
+        if let Some(made) = tallied_different(alloc, count, numbers, rows, column)? {
+            return Ok(made);
         }
     }
-    stepped(alloc, kind, count, numbers, rows, column)
-}
-
-/// The same, where each accumulator is stepped with each row of its group.
-fn stepped<H: KeyHash<Cell>>(
-    alloc: Global,
-    kind: Kind,
-    count: usize,
-    numbers: &[u32],
-    rows: &[u32],
-    column: &Column<H>,
-) -> Result<Vec<Acc<H>>, AllocError>
-    requires rows { HasRows column.now rows.now }
-    requires numbers { (length numbers.now ≡ length rows.now) × AllByRecursion (λ n. n < count) numbers.now }
-    ensures { IfOk result (λ v. AreTallied kind count numbers.now (decoded column.now.cells (codes_at column.now.by_row rows.now)) v.items) }
-{
     let codes = column.codes();
     let cells = column.cells();
     let mut accs = empty_accs(alloc, kind, count)?;
@@ -85,9 +70,5 @@ pub(crate) fn empty_accs<H: KeyHash<Cell>>(
 ) -> Result<Vec<Acc<H>>, AllocError>
     ensures { IfOk result (λ v. AreTallied kind count [] [] v.items) }
 {
-    let mut accs = Vec::with_capacity(alloc, count)?;
-    for _number in 0..count {
-        accs.push(Acc::empty(kind))?;
-    }
-    Ok(accs)
+    Vec::from_elem(alloc, Acc::empty(kind), count)
 }

@@ -8,27 +8,36 @@ use std::alloc::{AllocError, Global};
 /// An odd number of 64 bits whose ones and zeros follow no pattern: 2^64 divided by the golden ratio.
 const SPREAD: u64 = 11_400_714_819_323_198_485;
 
-/// The tuple of the cells at the places, with NULL where there is no such place.
-pub fn tuple_of(alloc: Global, cells: &[Cell], places: &[usize]) -> Result<Tuple, AllocError>
-    ensures { IfOk result (λ t. t ≡ picked places.now cells.now) }
+/// The word of NULL in a hash.
+const NULL: u64 = 1;
+
+/// The word before that of an integer.
+const INTEGER: u64 = 2;
+
+/// The word before those of an empty text; before others it is greater by the number of their bytes.
+const TEXT: u64 = 3;
+
+/// The tuple of the cells of these indexes, with NULL where there is no such cell.
+pub fn tuple_of(alloc: Global, cells: &[Cell], indexes: &[usize]) -> Result<Tuple, AllocError>
+    ensures { IfOk result (λ t. t ≡ picked indexes.now cells.now) }
 {
     let mut tuple = Vec::new(alloc);
-    for place in places {
-        let cell = cells.get(*place).unwrap_or(&Cell::Null);
+    for index in indexes {
+        let cell = cells.get(*index).unwrap_or(&Cell::Null);
         tuple.push(cell.clone()?)?;
     }
     Ok(Tuple::new(tuple))
 }
 
-/// Whether the tuple is that of the cells at the places. It takes no memory.
-pub fn is_tuple_of(tuple: &[Cell], cells: &[Cell], places: &[usize]) -> bool
-    ensures { IsTrue result ↔ (tuple.now ≡ picked places.now cells.now) }
+/// Whether the tuple is that of the cells of these indexes. It takes no memory.
+pub fn is_tuple_of(tuple: &[Cell], cells: &[Cell], indexes: &[usize]) -> bool
+    ensures { IsTrue result ↔ (tuple.now ≡ picked indexes.now cells.now) }
 {
-    if tuple.len() != places.len() {
+    if tuple.len() != indexes.len() {
         return false;
     }
-    for (i, place) in places.iter().enumerate() {
-        let cell = cells.get(*place).unwrap_or(&Cell::Null);
+    for (i, index) in indexes.iter().enumerate() {
+        let cell = cells.get(*index).unwrap_or(&Cell::Null);
         if tuple[i] != *cell {
             return false;
         }
@@ -36,27 +45,35 @@ pub fn is_tuple_of(tuple: &[Cell], cells: &[Cell], places: &[usize]) -> bool
     true
 }
 
-/// A hash of the cells at the places, of which nothing is asked but speed: a cell costs as many steps as it has words of
-/// eight bytes. It takes no memory.
-pub fn hash_of(cells: &[Cell], places: &[usize]) -> u64 {
+/// A hash of the cells of these indexes, of which nothing is asked but speed: a cell costs a step for its kind, and as many
+/// more as it has words of eight bytes. It takes no memory.
+pub fn hash_of(cells: &[Cell], indexes: &[usize]) -> u64 {
     let mut hash = 0u64;
-    for place in places {
-        hash = with_cell(hash, cells.get(*place).unwrap_or(&Cell::Null));
+    for index in indexes {
+        hash = with_cell(hash, cells.get(*index).unwrap_or(&Cell::Null));
     }
     // A product has its best bits at the top.
     hash ^ (hash >> 32)
 }
 
-/// The hash with a cell behind what it has.
+/// The hash with a cell after what it has. A word for the cell's kind comes first, or NULL would have the hash of some
+/// integer that is easily met; that of a text tells its length, too, or the bytes of two texts beside each other might be
+/// shared out in two ways.
 fn with_cell(hash: u64, cell: &Cell) -> u64 {
     match cell {
-        Cell::Null => with_word(hash, u64::MAX),
-        Cell::Int(n) => with_word(hash, n.cast_unsigned()),
-        Cell::Text(text) => with_bytes(hash, text.as_bytes()),
+        Cell::Null => with_word(hash, NULL),
+        Cell::Int(n) => with_word(with_word(hash, INTEGER), n.cast_unsigned()),
+        Cell::Text(text) => {
+            let bytes = text.as_bytes();
+            with_bytes(
+                with_word(hash, TEXT.wrapping_add(bytes.len() as u64)),
+                bytes,
+            )
+        }
     }
 }
 
-/// The hash with the bytes behind what it has, eight of them at a time.
+/// The hash with the bytes after what it has, eight of them at a time.
 fn with_bytes(hash: u64, bytes: &[u8]) -> u64 {
     bytes
         .chunks(8)
@@ -70,7 +87,7 @@ fn word_of(bytes: &[u8]) -> u64 {
         .fold(0, |word, byte| (word << 8) | u64::from(*byte))
 }
 
-/// The hash with a word behind what it has. Words of small integers differ in a few bits alone, so that a sum of
+/// The hash with a word after what it has. Words of small integers differ in a few bits alone, so that a sum of
 /// multiples of them is often the same: they are turned and spread.
 fn with_word(hash: u64, word: u64) -> u64 {
     (hash.rotate_left(23) ^ word).wrapping_mul(SPREAD)

@@ -24,7 +24,7 @@ all_with : (P : List ℕ → Type 0) (names : List (List ℕ)) (name : List ℕ)
 all_with P [] name all one = (one, tt)
 all_with P (n ∷ names) name all one = (all.0, all_with P names name all.1 one)
 
-module _ (P : List ℕ → Type 0) (names : List (List ℕ)) (i : ℕ) (item name : List ℕ) (read : AllByRecursion P (take i names))
+module _ (P Q : List ℕ → Type 0) (names : List (List ℕ)) (i : ℕ) (item name : List ℕ) (read : AllByRecursion P (take i names))
     (within : i < length names) (here : item ≡ slice_index_or names i item) (same : name ≡ item) where
   one_longer : take (i + 1) names ≡ take i names ++ (name ∷ [])
   one_longer = take_more names i item within ∙ ap (λ n. take i names ++ (n ∷ [])) (sym here ∙ sym same)
@@ -34,19 +34,20 @@ module _ (P : List ℕ → Type 0) (names : List (List ℕ)) (i : ℕ) (item nam
   read_next one = rw one_longer (all_with P (take i names) name read one)
 
   -- the next is the first for which it does not hold
-  pub first_unread : IsFirstUnread P names name
-  first_unread = record {
+  pub first_unread : Q name → IsFirstUnread P Q names name
+  first_unread refused = record {
     before = take i names;
     later = drop (i + 1) names;
     parted = sym (take-append-drop (i + 1) names) ∙ ap (λ t. t ++ drop (i + 1) names) one_longer ∙ append_assoc (take i names) (name ∷ []) (drop (i + 1) names);
     read = read;
+    refused = refused;
   }
 
 -- the first of all
-pub first_unread_alone : (P : List ℕ → Type 0) (names : List (List ℕ)) (name : List ℕ) → IsFirstUnread P (name ∷ names) name
-first_unread_alone P names name = record { before = []; later = names; parted = refl; read = tt }
+pub first_unread_alone : (P Q : List ℕ → Type 0) (names : List (List ℕ)) (name : List ℕ) → Q name → IsFirstUnread P Q (name ∷ names) name
+first_unread_alone P Q names name refused = record { before = []; later = names; parted = refl; read = tt; refused = refused }
 
 -- one more before it was read
-pub first_unread_behind : (P : List ℕ → Type 0) (names : List (List ℕ)) (first name : List ℕ) → P first → IsFirstUnread P names name → IsFirstUnread P (first ∷ names) name
-first_unread_behind P names first name one f =
-    record { before = first ∷ f.before; later = f.later; parted = ap (λ ns. first ∷ ns) f.parted; read = (one, f.read) }
+pub first_unread_behind : (P Q : List ℕ → Type 0) (names : List (List ℕ)) (first name : List ℕ) → P first → IsFirstUnread P Q names name → IsFirstUnread P Q (first ∷ names) name
+first_unread_behind P Q names first name one f =
+    record { before = first ∷ f.before; later = f.later; parted = ap (λ ns. first ∷ ns) f.parted; read = (one, f.read); refused = f.refused }

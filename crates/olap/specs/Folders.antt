@@ -13,9 +13,10 @@ AreTold file [] (bytes ∷ more) = ⊥
 AreTold file (name ∷ names) [] = ⊥
 AreTold file (name ∷ names) (bytes ∷ more) = Tells (file name) bytes × AreTold file names more
 
--- the file of this name is the first of these that can't be read: those before it were
-pub record IsFirstUnread (was_read : List ℕ → Type 0) (names : List (List ℕ)) (name : List ℕ) : Type 0 where
+-- the file of this name could not be read, and is the first of these: those before it were read
+pub record IsFirstUnread (was_read was_refused : List ℕ → Type 0) (names : List (List ℕ)) (name : List ℕ) : Type 0 where
   pub before : List (List ℕ)
   pub later : List (List ℕ)
   pub parted : names ≡ before ++ name ∷ later
   pub read : AllByRecursion was_read before
+  pub refused : was_refused name

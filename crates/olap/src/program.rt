@@ -66,7 +66,11 @@ fn run_job<F: Folder, W: Write + Drop, E: Write, R: Threads + Wait + Sync>(
     ensures nothing { result.0 ≡ 2 → Keeps (writer_contents W.contents out) (writer_contents W.contents result.1) }
     ensures beginning { result.0 ≡ 3 → BeginsToWrite (IsOutputOfJob (F.file folder.now) job.now) (writer_contents W.contents out) (writer_contents W.contents result.1) }
 {
-    match read_input(alloc, folder, job) {
+    // Where there is no room for the parts, no file is read, and the first is named.
+    let Ok(room) = Vec::with_capacity(alloc, job.parts.len()) else {
+        return (cannot_read(job.script.as_str(), err), out);
+    };
+    match read_input(folder, job, room) {
         Ok(input) => run_input(
             rt,
             alloc,

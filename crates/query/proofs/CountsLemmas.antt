@@ -1,5 +1,6 @@
 -- How many grouping sets there are.
-use Rattle.std.proofs.Common.{◌≡◌, ℕ, zero, suc, ◌+◌, ◌-◌, ◌⊎◌, inl, inr, ap₂, drop, drop-cons, get_or, ◌*◌, ◌^◌, ◌<◌, ◌≤◌, min, List, [], ◌∷◌, ◌++◌, map, length, refl, sym, ap, ◌∙◌, arith, length-append, lit<}
+use Rattle.std.proofs.Common.{◌≡◌, ℕ, zero, suc, ◌+◌, ◌-◌, inl, inr, ap₂, drop, drop-cons, get_or, ◌*◌, ◌^◌, ◌<◌, ◌≤◌, min, List, [], ◌∷◌, ◌++◌, map, length, refl, sym, ap, ◌∙◌, arith, length-append, lit<}
+use Rattle.std.proofs.lemmas.Bool.{cases_lt}
 use Rattle.std.proofs.lemmas.List.{length-map}
 use Rattle.std.proofs.Math.Nat.{le-mul_of_pos_right, mul_comm, pow-le-pow_right, pow-suc}
 use Rattle.std.specs.List.{flat_map}
@@ -30,16 +31,11 @@ length-choices (g ∷ gs) hs =
 pub length-sets : (e : ElementTree) (es : List ElementTree) → length (grouping_sets (e ∷ es)) ≡ length (sets_of e) * length (grouping_sets es)
 length-sets e es = length-choices (sets_of e) (grouping_sets es)
 
-le_or : (a b : ℕ) → (a ≤ b) ⊎ (b ≤ a)
-le_or zero b = inl (omega arith)
-le_or (suc a) zero = inr (omega arith)
-le_or (suc a) (suc b) = elim (le_or a b) [ inl x ↦ inl (omega arith) | inr x ↦ inr (omega arith) ]
-
 pub counted_times : (a b : ℕ) → counted (counted a * b) ≡ counted (a * b)
 counted_times a zero = let e : counted a * 0 ≡ 0 = grind arith in let f : a * 0 ≡ 0 = grind arith in ap counted (e ∙ sym f)
-counted_times a (suc b) = elim (le_or a 257) [
-  | inl small ↦ let same : counted a ≡ a = omega arith in ap (λ x. counted (x * suc b)) same
-  | inr big ↦
+counted_times a (suc b) = elim (cases_lt 257 a) [
+  | inr small ↦ let same : counted a ≡ a = omega arith in ap (λ x. counted (x * suc b)) same
+  | inl big ↦
       let same : counted a ≡ 257 = omega arith in
       let p = le-mul_of_pos_right {m = suc b} a (omega arith) in
       let q = le-mul_of_pos_right {m = suc b} 257 (omega arith) in

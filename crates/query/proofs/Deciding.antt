@@ -1,6 +1,6 @@
 -- Whether tokens begin with each phrase of the grammar, and with which. What decides goes over the tokens as the readers
 -- do, but in the logic, where memory is never wanting.
-use Rattle.std.proofs.Common.{◌≡◌, ◌≢◌, ℕ, zero, suc, ◌<◌, ◌≤◌, Bool, true, false, List, [], ◌∷◌, length, Option, Some, None, ◌⊎◌, inl, inr, refl, sym, ap, ◌∙◌, arith}
+use Rattle.std.proofs.Common.{◌≡◌, ◌≢◌, ℕ, zero, suc, ◌<◌, ◌≤◌, Bool, true, false, List, [], ◌∷◌, length, Option, Some, None, inl, inr, refl, ap, arith}
 use Rattle.std.specs.Prelude.{codes}
 use Rattle.std.proofs.lemmas.Bool.{cases_Bool}
 use Rattle.cells.specs.declared.token.Token.{Token}
@@ -15,14 +15,14 @@ use Rattle.query.specs.Values.{no_having}
 use Rattle.query.specs.declared.test.Comparison.{Comparison}
 use Rattle.query.specs.declared.test.Operand.{Operand}
 use Rattle.query.specs.declared.test.Test.TheVariants as test
-use Rattle.query.proofs.Decisions.{Begins, BeginsBoth, Decided, begins_both, begins_call, begins_close, begins_comma, begins_open, begins_word, computed_phrase, ended, list_decided, no_phrase, one_phrase, tail_same, turned}
+use Rattle.query.proofs.Decisions.{Begins, BeginsAs, BeginsBoth, Decided, begins_call, begins_close, begins_comma, begins_open, begins_then, begins_word, computed_phrase, ended, list_decided, no_phrase, one_phrase, split_decided, turned}
 use Rattle.query.proofs.Elements.{element_cube, element_empty, element_rollup, element_sets, element_unit}
-use Rattle.query.proofs.Ends.{by_mark, from_name, from_no_name, grouped_by, grouped_no_by, grouped_none, having_by, having_none, having_other, predicate_end, predicate_no_end, predicate_none, query_items, query_no_items, query_none, tail_no_where, tail_none, tail_where}
+use Rattle.query.proofs.Ends.{by_mark, from_split, grouped_none, grouped_split, having_by, having_none, having_other, predicate_end, predicate_no_end, predicate_none, query_none, query_split, tail_none, tail_split}
 use Rattle.query.proofs.ItemsLemmas.{item_grouping}
 use Rattle.query.proofs.PhrasesLemmas.{item_computes, literal_computes, name_computes}
 use Rattle.query.proofs.Predicates.{factor_not, factor_plain, or_ends_and, paren_ends, predicate_terms, primary_parens, primary_test, term_factors}
 use Rattle.query.proofs.Shorter.{shorter_element, shorter_factor, shorter_item, shorter_literal, shorter_name, shorter_term, shorter_unit}
-use Rattle.query.proofs.TestsLemmas.{marked, null_found, null_nothing, operand_leaf, operand_literal, range_list, range_low, range_no_low, range_nothing, test_compare, test_is, test_no_operand, test_operand, test_range, unmarked}
+use Rattle.query.proofs.TestsLemmas.{marked, null_found, null_nothing, operand_leaf, operand_literal, range_list, range_nothing, range_split, test_compare, test_is, test_range, test_split, unmarked}
 use Rattle.query.proofs.Units.{unit_one, unit_several}
 
 comma_may : (r : List Token) → Ends comma Any (rparen ∷ r)
@@ -55,21 +55,14 @@ unit_decided : (ts : List Token) → Decided (Starts SpellsUnit Any ts)
 unit_decided ts = unit_by ts (begins_open ts)
 
 -- ---- elements
-begins_sets : (ts : List Token) → ((more : List Token) × (ts ≡ GROUPING ∷ SETS ∷ lparen ∷ more)) ⊎ ((more : List Token) → ts ≢ GROUPING ∷ SETS ∷ lparen ∷ more)
-begins_sets ts = after (begins_word (codes "GROUPING") ts) where
-  behind : (us : List Token) → ts ≡ GROUPING ∷ us → BeginsBoth SETS lparen us → ((more : List Token) × (ts ≡ GROUPING ∷ SETS ∷ lparen ∷ more)) ⊎ ((more : List Token) → ts ≢ GROUPING ∷ SETS ∷ lparen ∷ more)
-  behind us e (inl h) = inl (h.0, e ∙ ap (λ v. GROUPING ∷ v) h.1)
-  behind us e (inr other) = inr (λ r f. other r (tail_same GROUPING us (SETS ∷ lparen ∷ r) (sym e ∙ f)))
-
-  after : Begins GROUPING ts → ((more : List Token) × (ts ≡ GROUPING ∷ SETS ∷ lparen ∷ more)) ⊎ ((more : List Token) → ts ≢ GROUPING ∷ SETS ∷ lparen ∷ more)
-  after (inl h) = behind h.0 h.1 (begins_call (codes "SETS") h.0)
-  after (inr other) = inr (λ r f. other (SETS ∷ lparen ∷ r) f)
+begins_sets : (ts : List Token) → BeginsAs (λ more. GROUPING ∷ SETS ∷ lparen ∷ more) ts
+begins_sets ts = begins_then GROUPING (λ more. SETS ∷ lparen ∷ more) (begins_word (codes "GROUPING")) (begins_call (codes "SETS")) ts
 
 -- the element, by those that stand in its GROUPING SETS
 element_by : (ts : List Token) → ((more : List Token) → length more < length ts → Decided (λ xs r. Separated comma SpellsElement more xs (rparen ∷ r))) → Decided (Starts SpellsElement Any ts)
-element_by ts inner = first (begins_both lparen rparen begins_open begins_close ts) where
+element_by ts inner = first (begins_then lparen (λ more. rparen ∷ more) begins_open begins_close ts) where
   fourth : ((more : List Token) → ts ≢ lparen ∷ rparen ∷ more) → BeginsNotCall ROLLUP ts → BeginsNotCall CUBE ts
-      → ((more : List Token) × (ts ≡ GROUPING ∷ SETS ∷ lparen ∷ more)) ⊎ ((more : List Token) → ts ≢ GROUPING ∷ SETS ∷ lparen ∷ more) → Decided (Starts SpellsElement Any ts)
+      → BeginsAs (λ more. GROUPING ∷ SETS ∷ lparen ∷ more) ts → Decided (Starts SpellsElement Any ts)
   fourth e r c (inl h) = turned (element_sets ts h.0 h.1) (inner h.0 (omega (arith, ap length h.1)))
   fourth e r c (inr s) = turned (element_unit ts (record { no_empty = e; no_rollup = r; no_cube = c; no_sets = s })) (unit_decided ts)
 
@@ -124,16 +117,12 @@ module _ {C : Type 0} {Leaf : List Token → C → List Token → Type 0} (begin
     null_decided = let m = marked_of (codes "NOT") us in null_by m.0 m.1 m.2 (begins_word (codes "NULL") m.1)
 
     module _ (not : Bool) where
-      low_by : (more : List Token) → us ≡ BETWEEN ∷ more → Decided (λ l r. SpellsOperand Leaf more l (AND ∷ r)) → Decided (RangeAfter Leaf a not us)
-      low_by more e (one_phrase low vs h) = turned (range_low a us not more e low vs h) (operand_decided vs)
-      low_by more e (no_phrase h) = no_phrase (range_no_low a us not more e h)
-
       list_by : BeginsNot BETWEEN us → BeginsBoth IN lparen us → Decided (RangeAfter Leaf a not us)
       list_by b (inl h) = turned (range_list a us not h.0 h.1) (list_in SpellsLiteral shorter_literal literal_decided h.0)
       list_by b (inr i) = no_phrase (range_nothing a us not b i)
 
       range_by : Begins BETWEEN us → Decided (RangeAfter Leaf a not us)
-      range_by (inl h) = low_by h.0 h.1 (ended (SpellsOperand Leaf) Any AND (begins_word (codes "AND")) h.0 (λ r. tt) (operand_decided h.0))
+      range_by (inl h) = split_decided (range_split a us not h.0 h.1) (ended (SpellsOperand Leaf) Any AND (begins_word (codes "AND")) h.0 (λ r. tt) (operand_decided h.0)) (λ low. operand_decided)
       range_by (inr b) = list_by b (begins_call (codes "IN") us)
 
       range_decided : Decided (RangeAfter Leaf a not us)
@@ -148,12 +137,8 @@ module _ {C : Type 0} {Leaf : List Token → C → List Token → Type 0} (begin
     compare_by None e = is_by e (begins_word (codes "IS") us)
     compare_by (Some x) e = turned (test_compare a us x.0 x.1 e) (operand_decided x.1)
 
-  test_by : (ts : List Token) → Decided (Starts (SpellsOperand Leaf) Any ts) → Decided (Starts (SpellsTest Leaf) Any ts)
-  test_by ts (one_phrase a us h) = turned (test_operand ts a us h) (compare_by a us (comparison_at us) refl)
-  test_by ts (no_phrase h) = no_phrase (test_no_operand ts h)
-
   test_decided : (ts : List Token) → Decided (Starts (SpellsTest Leaf) Any ts)
-  test_decided ts = test_by ts (operand_decided ts)
+  test_decided ts = split_decided (test_split ts) (operand_decided ts) (λ a us. compare_by a us (comparison_at us) refl)
 
   -- ---- predicates, by their primaries
   module _ (most : ℕ) (primary : (us : List Token) → length us ≤ most → Decided (Starts (SpellsPrimary Leaf) Any us)) where
@@ -201,43 +186,30 @@ having_decided (t ∷ ts) = having_by_word (t ∷ ts) (λ e. let bad : t ∷ ts 
 by_decided : (ts : List Token) → Decided (Starts SpellsBy (Ends comma Any) ts)
 by_decided ts = let m = marked_of (codes "DISTINCT") ts in turned (by_mark ts m.0 m.1 m.2) (elements_decided m.1)
 
-grouped_by_elements : (ts more : List Token) → ts ≡ GROUP ∷ BY ∷ more → Decided (Starts SpellsBy (Ends comma Any) more) → Decided (Whole SpellsGrouped ts)
-grouped_by_elements ts more e (one_phrase groups rest h) = turned (grouped_by ts more e groups rest h) (having_decided rest)
-grouped_by_elements ts more e (no_phrase h) = no_phrase (grouped_no_by ts more e h)
-
 grouped_by_words : (ts : List Token) → BeginsBoth GROUP BY ts → Decided (Whole SpellsGrouped ts)
-grouped_by_words ts (inl h) = grouped_by_elements ts h.0 h.1 (by_decided h.0)
+grouped_by_words ts (inl h) = split_decided (grouped_split ts h.0 h.1) (by_decided h.0) (λ groups. having_decided)
 grouped_by_words ts (inr other) = turned (grouped_none ts other) (having_decided ts)
 
 grouped_decided : (ts : List Token) → Decided (Whole SpellsGrouped ts)
-grouped_decided ts = grouped_by_words ts (begins_both GROUP BY (begins_word (codes "GROUP")) (begins_word (codes "BY")) ts)
+grouped_decided ts = grouped_by_words ts (begins_then GROUP (λ more. BY ∷ more) (begins_word (codes "GROUP")) (begins_word (codes "BY")) ts)
 
 module _ (ts : List Token) where
-  where_by : (more : List Token) → ts ≡ WHERE ∷ more → Decided (Starts (SpellsPredicate SpellsName) AfterOr more) → Decided (Whole SpellsTail ts)
-  where_by more e (one_phrase p behind h) = turned (tail_where ts more e p behind h) (grouped_decided behind)
-  where_by more e (no_phrase h) = no_phrase (tail_no_where ts more e h)
-
   tail_by : Begins WHERE ts → Decided (Whole SpellsTail ts)
-  tail_by (inl h) = where_by h.0 h.1 (predicate_decided name_begins shorter_name name_decided h.0)
+  tail_by (inl h) = split_decided (tail_split ts h.0 h.1) (predicate_decided name_begins shorter_name name_decided h.0) (λ p. grouped_decided)
   tail_by (inr other) = turned (tail_none ts other) (grouped_decided ts)
 
   tail_decided : Decided (Whole SpellsTail ts)
   tail_decided = tail_by (begins_word (codes "WHERE") ts)
 
-from_by : (ts : List Token) → Decided (Starts SpellsName Any ts) → Decided (Whole SpellsFrom ts)
-from_by ts (one_phrase table behind h) = turned (from_name ts table behind h) (tail_decided behind)
-from_by ts (no_phrase h) = no_phrase (from_no_name ts h)
+from_decided : (ts : List Token) → Decided (Whole SpellsFrom ts)
+from_decided ts = split_decided (from_split ts) (name_decided ts) (λ table. tail_decided)
 
 comma_ends : (r : List Token) → Ends comma Any (FROM ∷ r)
 comma_ends r = record { no_more = λ us e. let bad : FROM ≡ comma = cc in cc; apart = tt }
 
 module _ (ts : List Token) where
-  items_by : (more : List Token) → ts ≡ SELECT ∷ more → Decided (λ is r. Separated comma SpellsItem more is (FROM ∷ r)) → Decided (Whole SpellsQuery ts)
-  items_by more e (one_phrase items behind h) = turned (query_items ts more e items behind h) (from_by behind (name_decided behind))
-  items_by more e (no_phrase h) = no_phrase (query_no_items ts more e h)
-
   query_by : Begins SELECT ts → Decided (Whole SpellsQuery ts)
-  query_by (inl h) = items_by h.0 h.1 (ended (Separated comma SpellsItem) (Ends comma Any) FROM (begins_word (codes "FROM")) h.0 comma_ends (any_list SpellsItem shorter_item item_decided h.0))
+  query_by (inl h) = split_decided (query_split ts h.0 h.1) (ended (Separated comma SpellsItem) (Ends comma Any) FROM (begins_word (codes "FROM")) h.0 comma_ends (any_list SpellsItem shorter_item item_decided h.0)) (λ items. from_decided)
   query_by (inr other) = no_phrase (query_none ts other)
 
   pub query_decided : Decided (Whole SpellsQuery ts)

@@ -9,8 +9,8 @@ use Rattle.cells.specs.declared.token.Token.TheVariants.{Word, Mark}
 use Rattle.cells.specs.declared.token.Mark.TheVariants.{LeftParen, RightParen, Comma}
 use Rattle.query.specs.Depth.{is_close, is_open}
 use Rattle.query.specs.Grammar.{Separated, comma, lparen, rparen}
-use Rattle.query.specs.Reading.{Any, BeginsNot, Ends, Found, Nothing, Starts}
-use Rattle.query.proofs.Lists.{Turns, closed, list_end, list_next, list_none, none_closed, not_closed, turn_found, turn_nothing}
+use Rattle.query.specs.Reading.{Any, Ends, Found, Nothing, Starts}
+use Rattle.query.proofs.Lists.{Splits, Turns, closed, list_end, list_next, list_none, none_closed, not_closed, split_found, split_nothing, turn_found, turn_nothing}
 use Rattle.query.proofs.PhrasesLemmas.{Computes}
 
 -- one phrase with what follows it, and no other, or none
@@ -22,6 +22,11 @@ pub turned : {X Y : Type 0} {S : X → List Token → Type 0} {T : Y → List To
 turned {f = f} turns (one_phrase y rest h) = one_phrase (f y) rest (turn_found turns h)
 turned turns (no_phrase h) = no_phrase (turn_nothing turns h)
 
+pub split_decided : {X Y Z : Type 0} {S : Z → List Token → Type 0} {A : X → List Token → Type 0} {B : X → List Token → Y → List Token → Type 0} {join : X → Y → Z}
+    → Splits S A B join → Decided A → ((x : X) (us : List Token) → Decided (B x us)) → Decided S
+split_decided splits (one_phrase x us h) behind = turned (split_found splits h) (behind x us)
+split_decided splits (no_phrase h) behind = no_phrase (split_nothing splits h)
+
 -- ---- short phrases
 pub computed_phrase : {X : Type 0} (Sp : List Token → X → List Token → Type 0) (ts : List Token) (o : Option (X × List Token)) → Computes Sp ts o → Decided (Starts Sp Any ts)
 computed_phrase Sp ts None c = no_phrase (record { none = λ x r s. none-some (x, r) (c.complete x r s.spells) })
@@ -31,8 +36,11 @@ computed_phrase Sp ts (Some y) c = one_phrase y.0 y.1 (record {
 })
 
 -- ---- what tokens begin with
+abbrev pub BeginsAs : (List Token → List Token) → List Token → Type 0
+BeginsAs f ts = ((more : List Token) × (ts ≡ f more)) ⊎ ((more : List Token) → ts ≢ f more)
+
 abbrev pub Begins : Token → List Token → Type 0
-Begins t ts = ((more : List Token) × (ts ≡ t ∷ more)) ⊎ BeginsNot t ts
+Begins t ts = BeginsAs (λ more. t ∷ more) ts
 
 -- a test that one token alone passes
 begins_by : (p : Token → Bool) (t : Token) → p t ≡ true → ((u : Token) → p u ≡ true → u ≡ t) → (ts : List Token) → Begins t ts
@@ -81,26 +89,27 @@ begins_close ts = begins_by is_close rparen refl close_alone ts
 pub begins_word : (w : List ℕ) (ts : List Token) → Begins (Word w) ts
 begins_word w ts = begins_by (is_word w) (Word w) ((bytes_eq-Decides w w).1 refl) (word_alone w) ts
 
-pub tail_same : (t : Token) (us vs : List Token) → t ∷ us ≡ t ∷ vs → us ≡ vs
+tail_same : (t : Token) (us vs : List Token) → t ∷ us ≡ t ∷ vs → us ≡ vs
 tail_same t us vs e = cc
+
+-- a token, and what the others begin with
+pub begins_then : (t : Token) (f : List Token → List Token) → ((ts : List Token) → Begins t ts) → ((us : List Token) → BeginsAs f us) → (ts : List Token) → BeginsAs (λ more. t ∷ f more) ts
+begins_then t f begins_first begins_others ts = after (begins_first ts) where
+  behind : (us : List Token) → ts ≡ t ∷ us → BeginsAs f us → BeginsAs (λ more. t ∷ f more) ts
+  behind us e (inl h) = inl (h.0, e ∙ ap (λ v. t ∷ v) h.1)
+  behind us e (inr other) = inr (λ r g. other r (tail_same t us (f r) (sym e ∙ g)))
+
+  after : Begins t ts → BeginsAs (λ more. t ∷ f more) ts
+  after (inl h) = behind h.0 h.1 (begins_others h.0)
+  after (inr other) = inr (λ r g. other (f r) g)
 
 -- two tokens
 abbrev pub BeginsBoth : Token → Token → List Token → Type 0
-BeginsBoth t u ts = ((more : List Token) × (ts ≡ t ∷ u ∷ more)) ⊎ ((more : List Token) → ts ≢ t ∷ u ∷ more)
-
-pub begins_both : (t u : Token) → ((ts : List Token) → Begins t ts) → ((ts : List Token) → Begins u ts) → (ts : List Token) → BeginsBoth t u ts
-begins_both t u begins_first begins_second ts = after (begins_first ts) where
-  behind : (us : List Token) → ts ≡ t ∷ us → Begins u us → BeginsBoth t u ts
-  behind us e (inl h) = inl (h.0, e ∙ ap (λ v. t ∷ v) h.1)
-  behind us e (inr other) = inr (λ r f. other r (tail_same t us (u ∷ r) (sym e ∙ f)))
-
-  after : Begins t ts → BeginsBoth t u ts
-  after (inl h) = behind h.0 h.1 (begins_second h.0)
-  after (inr other) = inr (λ r f. other (u ∷ r) f)
+BeginsBoth t u ts = BeginsAs (λ more. t ∷ u ∷ more) ts
 
 -- a word and "("
 pub begins_call : (w : List ℕ) (ts : List Token) → BeginsBoth (Word w) lparen ts
-begins_call w ts = begins_both (Word w) lparen (begins_word w) begins_open ts
+begins_call w ts = begins_then (Word w) (λ more. lparen ∷ more) (begins_word w) begins_open ts
 
 -- ---- up to a token that ends it
 module _ {X : Type 0} (Sp : List Token → X → List Token → Type 0) (Apart : List Token → Type 0) (t : Token) (begins : (us : List Token) → Begins t us) (ts : List Token) (apart : (r : List Token) → Apart (t ∷ r)) where

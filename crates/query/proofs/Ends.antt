@@ -6,7 +6,7 @@ use Rattle.cells.specs.declared.refused.Refused.TheVariants.{QuerySyntax}
 use Rattle.cells.specs.declared.token.Token.{Token}
 use Rattle.cells.specs.declared.token.Token.TheVariants.{Word}
 use Rattle.query.specs.Trees.{ElementTree, PredicateTree}
-use Rattle.query.specs.Values.{FromTree, GroupedTree, GroupsTree, HavingTree, QueryTree, all_rows, from_tree, no_having, query_tree}
+use Rattle.query.specs.Values.{GroupedTree, GroupsTree, HavingTree, QueryTree, all_rows, from_tree, no_having, query_tree}
 use Rattle.query.specs.Grammar.{Separated, SpellsItem, SpellsName, SpellsElement, SpellsPredicate, SpellsWhere, no_where, where_predicate, SpellsGroups, no_groups, group_by, SpellsHaving, without_having, having, SpellsMark, SpellsQuery, query, comma, BY, DISTINCT, FROM, GROUP, HAVING, SELECT, WHERE}
 use Rattle.query.specs.Having.{having_of}
 use Rattle.query.specs.Reading.{AfterOr, Any, BeginsNot, Ends, Marked, ReadsPhrase, Starts, Found, Nothing}
@@ -14,7 +14,7 @@ use Rattle.query.specs.Ends.{SpellsBy, SpellsEnd, SpellsFrom, SpellsGrouped, Spe
 use Rattle.query.specs.declared.item.Item.{Item}
 use Rattle.query.specs.declared.test.Test.{Test}
 use Rattle.query.proofs.Elements.{elements_head}
-use Rattle.query.proofs.Lists.{Turns}
+use Rattle.query.proofs.Lists.{Halves, Splits, Turns}
 use Rattle.query.proofs.TestsLemmas.{words_differ}
 
 -- the predicates of WHERE, and those of HAVING
@@ -130,27 +130,23 @@ by_of {r = r} (group_by {ts = us} {us = ws} {d = d} {es = es} m h) more f other 
     let same : us ≡ more = cc in
     (ws, subst (λ v. SpellsMark DISTINCT v d ws) same m, h)
 
-module _ (ts more : List Token) (e : ts ≡ GROUP ∷ BY ∷ more) where
-  -- GROUP BY, and then HAVING
-  behind_by : (x : GroupedTree) → SpellsGrouped ts x → (us : List Token) × Starts SpellsBy (Ends comma Any) more x.groups us × SpellsEnd us x.having
-  behind_by x s = (s.0, record { spells = by_of s.1 more e (having_not_group s.2 refl); apart = no_comma (having_begins s.2 refl) }, s.2)
-
-  pub grouped_by : (groups : GroupsTree) (rest : List Token) → Found (Starts SpellsBy (Ends comma Any) more) groups rest → Turns (Whole SpellsGrouped ts) (Whole SpellsEnd rest) (with_having groups)
-  grouped_by groups rest found = record {
-    to = λ h r s.
-        let b = (found.is).spells in
-        record { spells = (rest, subst (λ v. SpellsGroups v groups rest) (sym e) (group_by b.1 b.2), s.spells); ended = s.ended };
-    from = λ x r s.
-        let b = behind_by x s.spells in
-        let same = found.only x.groups b.0 b.1 in (
-          x.having,
-          ap (λ g. with_having g x.having) same.0,
-          record { spells = subst (λ v. SpellsEnd v x.having) same.1 b.2; ended = s.ended },
-        );
-  }
-
-  pub grouped_no_by : Nothing (Starts SpellsBy (Ends comma Any) more) → Nothing (Whole SpellsGrouped ts)
-  grouped_no_by nothing = record { none = λ x r s. let b = behind_by x s.spells in nothing.none x.groups b.0 b.1 }
+-- GROUP BY, and then HAVING
+pub grouped_split : (ts more : List Token) → ts ≡ GROUP ∷ BY ∷ more → Splits (Whole SpellsGrouped ts) (Starts SpellsBy (Ends comma Any) more) (λ _ us. Whole SpellsEnd us) with_having
+grouped_split ts more e = record {
+  to = λ groups us h r b s.
+      let t = b.spells in
+      record { spells = (us, subst (λ v. SpellsGroups v groups us) (sym e) (group_by t.1 t.2), s.spells); ended = s.ended };
+  from = λ x r s.
+      let t = s.spells in
+      record {
+        first = x.groups;
+        behind = t.0;
+        second = x.having;
+        is = refl;
+        starts = record { spells = by_of t.1 more e (having_not_group t.2 refl); apart = no_comma (having_begins t.2 refl) };
+        follows = record { spells = t.2; ended = s.ended };
+      };
+}
 
 pub grouped_none : (ts : List Token) → ((more : List Token) → ts ≢ GROUP ∷ BY ∷ more) → Turns (Whole SpellsGrouped ts) (Whole SpellsEnd ts) (with_having all_rows)
 grouped_none ts other = record {
@@ -178,23 +174,13 @@ module _ (ts : List Token) where
         let same : us ≡ more = cc in
         (p, refl, record { spells = subst (λ v. SpellsPredicate SpellsName v p xs) same k; apart = after_or b })
 
-  pub tail_where : (more : List Token) → ts ≡ WHERE ∷ more → (p : P) (behind : List Token) → Found (Starts (SpellsPredicate SpellsName) AfterOr more) p behind
-      → Turns (Whole SpellsTail ts) (Whole SpellsGrouped behind) (λ g. (Some p, g))
-  tail_where more e p behind found = record {
-    to = λ g r h. record { spells = (behind, subst (λ v. SpellsWhere v (Some p) behind) (sym e) (where_predicate (found.is).spells), h.spells); ended = h.ended };
+  pub tail_split : (more : List Token) → ts ≡ WHERE ∷ more → Splits (Whole SpellsTail ts) (Starts (SpellsPredicate SpellsName) AfterOr more) (λ _ us. Whole SpellsGrouped us) (λ p g. (Some p, g))
+  tail_split more e = record {
+    to = λ p us g r h s. record { spells = (us, subst (λ v. SpellsWhere v (Some p) us) (sym e) (where_predicate h.spells), s.spells); ended = s.ended };
     from = λ x r s.
         let t = s.spells in
         let w = where_from more x.0 x.1 ts t.0 e t.1 t.2 in
-        let same = found.only w.0 t.0 w.2 in
-        (x.1, ap (λ c. (c, x.1)) (w.1 ∙ ap Some same.0), record { spells = subst (λ v. SpellsGrouped v x.1) same.1 t.2; ended = s.ended });
-  }
-
-  pub tail_no_where : (more : List Token) → ts ≡ WHERE ∷ more → Nothing (Starts (SpellsPredicate SpellsName) AfterOr more) → Nothing (Whole SpellsTail ts)
-  tail_no_where more e nothing = record {
-    none = λ x r s.
-        let t = s.spells in
-        let w = where_from more x.0 x.1 ts t.0 e t.1 t.2 in
-        nothing.none w.0 t.0 w.2;
+        record { first = w.0; behind = t.0; second = x.1; is = ap (λ c. (c, x.1)) w.1; starts = w.2; follows = record { spells = t.2; ended = s.ended } };
   }
 
   pub tail_none : BeginsNot WHERE ts → Turns (Whole SpellsTail ts) (Whole SpellsGrouped ts) (λ g. (None, g))
@@ -210,56 +196,42 @@ module _ (ts : List Token) where
     inside (where_predicate {ts = us} k) f = absurd (f us refl)
 
   -- ---- the table and the rest
-  pub from_name : (table : List ℕ) (behind : List Token) → Found (Starts SpellsName Any ts) table behind → Turns (Whole SpellsFrom ts) (Whole SpellsTail behind) (from_tree table)
-  from_name table behind found = record {
-    to = λ x r h. record { spells = (behind, (found.is).spells, h.spells); ended = h.ended };
+  pub from_split : Splits (Whole SpellsFrom ts) (Starts SpellsName Any ts) (λ _ us. Whole SpellsTail us) from_tree
+  from_split = record {
+    to = λ table us x r h s. record { spells = (us, h.spells, s.spells); ended = s.ended };
     from = λ f r s.
         let t = s.spells in
-        let same = found.only f.table t.0 (record { spells = t.1; apart = tt }) in (
-          (f.condition, f.grouped),
-          ap (λ n. from_tree n (f.condition, f.grouped)) same.0,
-          record { spells = subst (λ v. SpellsTail v (f.condition, f.grouped)) same.1 t.2; ended = s.ended },
-        );
+        record {
+          first = f.table;
+          behind = t.0;
+          second = (f.condition, f.grouped);
+          is = refl;
+          starts = record { spells = t.1; apart = tt };
+          follows = record { spells = t.2; ended = s.ended };
+        };
   }
-
-  pub from_no_name : Nothing (Starts SpellsName Any ts) → Nothing (Whole SpellsFrom ts)
-  from_no_name nothing = record { none = λ f r s. let t = s.spells in nothing.none f.table t.0 (record { spells = t.1; apart = tt }) }
 
   -- ---- the query
-  -- what a query has behind FROM
-  abbrev from_of : QueryTree → FromTree
-  from_of q = from_tree q.table (q.condition, with_having q.groups q.having)
-
-  -- what a query is made of, behind SELECT
-  pub record Parts (more : List Token) (q : QueryTree) : Type 0 where
-    pub behind : List Token
-    pub items : Separated comma SpellsItem more q.items (FROM ∷ behind)
-    pub others : SpellsFrom behind (from_of q)
-
-  parts_of : {us : List Token} {q : QueryTree} → SpellsQuery us q → (more : List Token) → us ≡ SELECT ∷ more → Parts more q
-  parts_of (query {ts = us} {us = vs} {vs = ws} {ws = xs} {xs = ys} {items = items} i n w g h) more e =
-      let same : us ≡ more = cc in
-      record { behind = vs; items = subst (λ v. Separated comma SpellsItem v items (FROM ∷ vs)) same i; others = (ws, n, (xs, w, (ys, g, h))) }
-
-  pub query_items : (more : List Token) → ts ≡ SELECT ∷ more → (items : List (Item (List ℕ))) (behind : List Token) → Found (λ is r. Separated comma SpellsItem more is (FROM ∷ r)) items behind
-      → Turns (Whole SpellsQuery ts) (Whole SpellsFrom behind) (query_tree items)
-  query_items more e items behind found = record {
-    to = λ x r h.
-        let t = h.spells in
+  pub query_split : (more : List Token) → ts ≡ SELECT ∷ more → Splits (Whole SpellsQuery ts) (λ is r. Separated comma SpellsItem more is (FROM ∷ r)) (λ _ us. Whole SpellsFrom us) query_tree
+  query_split more e = record {
+    to = λ items us x r i s.
+        let t = s.spells in
         let u = t.2 in
         let g = u.2 in
-        record { spells = subst (λ v. SpellsQuery v (query_tree items x)) (sym e) (query found.is t.1 u.1 g.1 g.2); ended = h.ended };
-    from = λ q r s.
-        let p = parts_of s.spells more e in
-        let same = found.only q.items p.behind p.items in (
-          from_of q,
-          ap (λ is. query_tree is (from_of q)) same.0,
-          record { spells = subst (λ v. SpellsFrom v (from_of q)) same.1 p.others; ended = s.ended },
-        );
-  }
-
-  pub query_no_items : (more : List Token) → ts ≡ SELECT ∷ more → Nothing (λ is r. Separated comma SpellsItem more is (FROM ∷ r)) → Nothing (Whole SpellsQuery ts)
-  query_no_items more e nothing = record { none = λ q r s. let p = parts_of s.spells more e in nothing.none q.items p.behind p.items }
+        record { spells = subst (λ v. SpellsQuery v (query_tree items x)) (sym e) (query i t.1 u.1 g.1 g.2); ended = s.ended };
+    from = λ q r s. inside s.spells s.ended e;
+  } where
+    inside : {us r : List Token} {q : QueryTree} → SpellsQuery us q → r ≡ [] → us ≡ SELECT ∷ more → Halves (λ is v. Separated comma SpellsItem more is (FROM ∷ v)) (λ _ v. Whole SpellsFrom v) query_tree q r
+    inside (query {ts = us} {us = vs} {vs = ws} {ws = xs} {xs = ys} {items = items} {table = table} {condition = d} {groups = gs} {having = hv} i n w g h) z f =
+        let same : us ≡ more = cc in
+        record {
+          first = items;
+          behind = vs;
+          second = from_tree table (d, with_having gs hv);
+          is = refl;
+          starts = subst (λ v. Separated comma SpellsItem v items (FROM ∷ vs)) same i;
+          follows = record { spells = (ws, n, (xs, w, (ys, g, h))); ended = z };
+        }
 
   pub query_none : BeginsNot SELECT ts → Nothing (Whole SpellsQuery ts)
   query_none other = record { none = λ q r s. inside s.spells other } where

@@ -1,14 +1,11 @@
 pub mod CountsLemmas
 pub mod MarksLemmas
 pub mod GroupedLemmas
-pub mod DifferentLemmas
 pub mod FallsLemmas
-pub mod HavingLemmas
 pub mod HeadingsLemmas
-pub mod NamingLemmas
-pub mod PlacesLemmas
+pub mod ResolvingLemmas
+pub mod TruthLemmas
 pub mod ShortLemmas
-pub mod TypesLemmas
 pub mod Trees
 pub mod Lists
 pub mod PhrasesLemmas

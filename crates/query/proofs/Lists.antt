@@ -33,6 +33,34 @@ module _ {X Y : Type 0} {S : X → List Token → Type 0} {T : Y → List Token 
   pub turn_err : {e : Refused} → Turns S T f → (e ≡ OutOfMemory) ⊎ ((e ≡ QuerySyntax) × Nothing T) → (e ≡ OutOfMemory) ⊎ ((e ≡ QuerySyntax) × Nothing S)
   turn_err turns = part_err (turn_nothing turns)
 
+-- what S has of z: an A, and behind it a B, which make z
+pub record Halves {X Y Z : Type 0} (A : X → List Token → Type 0) (B : X → List Token → Y → List Token → Type 0) (join : X → Y → Z) (z : Z) (rest : List Token) : Type 0 where
+  pub first : X
+  pub behind : List Token
+  pub second : Y
+  pub is : z ≡ join first second
+  pub starts : A first behind
+  pub follows : B first behind second rest
+
+-- S is an A, and behind it a B
+pub record Splits {X Y Z : Type 0} (S : Z → List Token → Type 0) (A : X → List Token → Type 0) (B : X → List Token → Y → List Token → Type 0) (join : X → Y → Z) : Type 0 where
+  pub to : (x : X) (us : List Token) (y : Y) (r : List Token) → A x us → B x us y r → S (join x y) r
+  pub from : (z : Z) (r : List Token) → S z r → Halves A B join z r
+
+module _ {X Y Z : Type 0} {S : Z → List Token → Type 0} {A : X → List Token → Type 0} {B : X → List Token → Y → List Token → Type 0} {join : X → Y → Z} (splits : Splits S A B join) where
+  -- once the A is found, S is what follows it
+  pub split_found : {x : X} {us : List Token} → Found A x us → Turns S (B x us) (join x)
+  split_found {x} {us} found = record {
+    to = λ y r b. splits.to x us y r found.is b;
+    from = λ z r s.
+        let h = splits.from z r s in
+        let same = found.only h.first h.behind h.starts in
+        (h.second, h.is ∙ ap (λ a. join a h.second) same.0, subst (λ v. B x v h.second r) same.1 (subst (λ a. B a h.behind h.second r) same.0 h.follows));
+  }
+
+  pub split_nothing : Nothing A → Nothing S
+  split_nothing nothing = record { none = λ z r s. let h = splits.from z r s in nothing.none h.first h.behind h.starts }
+
 -- what the reader of the part answers is what the reader of the whole answers, where it hands it on
 pub turn_reads : {X Y : Type 0} {S T : X → List Token → Type 0} (view : Y → X × List Token) (r : Result Y Refused) → Turns S T (λ x. x) → ReadsPhrase view T r → ReadsPhrase view S r
 turn_reads view (Ok y) turns found = turn_found turns found

@@ -8,7 +8,7 @@ use Rattle.std.specs.Prelude.{bytes_eq}
 use Rattle.cells.specs.declared.schema.Column.{Column}
 use Rattle.query.specs.Trees.{ElementTree, elements_of}
 use Rattle.query.specs.Marks.{joined, marked_from, marks}
-use Rattle.query.specs.Sets.{Names, cube, grouping_sets, names_column, places, places_from, rollup, sets_of, sets_of_each}
+use Rattle.query.specs.Sets.{Names, cube, grouping_sets, indexes, indexes_from, names_column, rollup, sets_of, sets_of_each}
 use Rattle.query.proofs.CountsLemmas.{drop_back}
 
 pub joined_end : (aes bs : List Bool) → (aes ≡ []) ⊎ (bs ≡ []) → joined aes bs ≡ []
@@ -61,14 +61,14 @@ sets_step cs es left e some within is sets new made n =
     n ∙ ap (λ s. flat_map (λ f. map (joined f) s) (map (marks cs) (sets_of e))) made ∙ sym (marks_sets cs e (drop left es))
     ∙ ap (λ v. map (marks cs) (grouping_sets v)) (sym (drop_back es left e some within is))
 
--- the places that are marked are those of the columns that the set names
-marked_places : (cs : List Column) (k : ℕ) (g : Names) → marked_from k (marks cs g) ≡ places_from k cs g
-marked_places [] k g = refl
-marked_places (c ∷ cs) k g = ap (λ l. if names_column g c then k ∷ l else l) (marked_places cs (k + 1) g)
+-- the indexes that are marked are those of the columns that the set names
+marked_indexes : (cs : List Column) (k : ℕ) (g : Names) → marked_from k (marks cs g) ≡ indexes_from k cs g
+marked_indexes [] k g = refl
+marked_indexes (c ∷ cs) k g = ap (λ l. if names_column g c then k ∷ l else l) (marked_indexes cs (k + 1) g)
 
-places_of_marks : (cs : List Column) (gs : List Names) → map (marked_from 0) (map (marks cs) gs) ≡ map (places cs) gs
-places_of_marks cs [] = refl
-places_of_marks cs (g ∷ gs) = ap₂ (λ p l. p ∷ l) (marked_places cs 0 g) (places_of_marks cs gs)
+indexes_of_marks : (cs : List Column) (gs : List Names) → map (marked_from 0) (map (marks cs) gs) ≡ map (indexes cs) gs
+indexes_of_marks cs [] = refl
+indexes_of_marks cs (g ∷ gs) = ap₂ (λ p l. p ∷ l) (marked_indexes cs 0 g) (indexes_of_marks cs gs)
 
 pub each_step : (cs : List Column) (es : List ElementTree) (i : ℕ) (e : ElementTree) (whole found more new : List (List Bool)) → i < length es → e ≡ get_or es i e
     → whole ≡ found ++ map (marks cs) (sets_of_each (elements_of (drop i es))) → more ≡ map (marks cs) (sets_of e) → new ≡ found ++ more
@@ -96,6 +96,6 @@ pub grouping_step : (cs : List Column) (es : List ElementTree) (left : ℕ) (e :
 grouping_step cs es left e some within is sets new firsts lf ls made f a b n =
     sets_step cs es left e some within is sets new made (n ∙ ap₂ (λ x y. flat_map (λ g. map (joined g) x) y) b (a ∙ f))
 
-pub places_all : (cs : List Column) (gs : List Names) (made lent : List (List Bool)) (i : ℕ) (found : List (List ℕ)) → made ≡ map (marks cs) gs → lent ≡ made → length lent ≤ i
-    → found ≡ map (marked_from 0) (take i lent) → found ≡ map (places cs) gs
-places_all cs gs made lent i found m l all e = e ∙ ap (map (marked_from 0)) (take_all i lent all ∙ l ∙ m) ∙ places_of_marks cs gs
+pub indexes_all : (cs : List Column) (gs : List Names) (made lent : List (List Bool)) (i : ℕ) (found : List (List ℕ)) → made ≡ map (marks cs) gs → lent ≡ made → length lent ≤ i
+    → found ≡ map (marked_from 0) (take i lent) → found ≡ map (indexes cs) gs
+indexes_all cs gs made lent i found m l all e = e ∙ ap (map (marked_from 0)) (take_all i lent all ∙ l ∙ m) ∙ indexes_of_marks cs gs

@@ -1,13 +1,13 @@
 -- Tests.
-use Rattle.std.proofs.Common.{◌≡◌, ℕ, Bool, true, false, List, [], ◌∷◌, Some, None, refl, sym, ap, ◌∙◌, subst}
+use Rattle.std.proofs.Common.{◌≡◌, ℕ, Bool, true, false, List, ◌∷◌, Some, None, refl, sym, ap, ◌∙◌, subst}
 use Rattle.std.specs.Prelude.{bytes_eq, codes}
 use Rattle.std.proofs.lemmas.Slice.Eq.{bytes_eq-Decides}
 use Rattle.std.proofs.lemmas.Option.{none-some, some_pair_parts}
 use Rattle.cells.specs.declared.token.Token.{Token}
-use Rattle.cells.specs.declared.token.Token.TheVariants.{Word, Number, Quoted, Mark}
+use Rattle.cells.specs.declared.token.Token.TheVariants.{Word, Number, Quoted}
 use Rattle.query.specs.Grammar.{Separated, SpellsLiteral, number, text, SpellsOperand, leaf_operand, literal_operand, SpellsMark, SpellsNot, without, with, SpellsTest, compare, is_null, between, among, lparen, rparen, comma, AND, BETWEEN, IN, IS, NOT, NULL}
 use Rattle.query.specs.Leaves.{begins_leaf}
-use Rattle.query.specs.Phrases.{begins_literal, comparison_at, BoundsAt, NullAfter, null, RangeAfter, range, list, TestAfter, after_compare, after_is, after_not}
+use Rattle.query.specs.Phrases.{begins_literal, comparison_at, NullAfter, null, RangeAfter, range, list, TestAfter, after_compare, after_is, after_not}
 use Rattle.query.specs.Reading.{Any, BeginsNot, BeginsNotCall, Marked, Starts, Found, Nothing}
 use Rattle.query.specs.declared.test.Test.{Test}
 use Rattle.query.specs.declared.test.Test.TheVariants as test
@@ -15,7 +15,7 @@ use Rattle.query.specs.declared.test.Literal.{Literal}
 use Rattle.query.specs.declared.test.Operand.{Operand}
 use Rattle.query.specs.declared.test.Operand.TheVariants as operand
 use Rattle.query.specs.declared.test.Comparison.{Comparison}
-use Rattle.query.proofs.Lists.{Turns}
+use Rattle.query.proofs.Lists.{Halves, Splits, Turns}
 use Rattle.query.proofs.PhrasesLemmas.{comparison_sound, comparison_complete}
 
 -- two words that differ
@@ -48,10 +48,7 @@ not_null r rest e = let bad : NULL ≡ NOT = cc in cc
 
 no_literal : (ts : List Token) → begins_leaf ts ≡ true → begins_literal ts ≡ true → ⊥
 no_literal (Word w ∷ ts) a b = let bad : false ≡ true = b in cc
-no_literal (Number n ∷ ts) a b = let bad : false ≡ true = a in cc
-no_literal (Quoted t ∷ ts) a b = let bad : false ≡ true = a in cc
-no_literal (Mark m ∷ ts) a b = let bad : false ≡ true = a in cc
-no_literal [] a b = let bad : false ≡ true = a in cc
+no_literal ts a b = let bad : false ≡ true = a in cc
 
 module _ {C : Type 0} where
   module _ (a : Operand C) (us : List Token) where
@@ -73,48 +70,19 @@ module _ {C : Type 0} where
         inside {r = r} (null {not = n} h) = other r (sym (m.only n (NULL ∷ r) h (not_null r)).1)
 
 module _ {C : Type 0} {Leaf : List Token → C → List Token → Type 0} where
-  -- the bounds of BETWEEN
-  module _ (us : List Token) where
-    pub bounds_low : (low : Operand C) (vs : List Token) → Found (λ l r. SpellsOperand Leaf us l (AND ∷ r)) low vs → Turns (BoundsAt Leaf us) (Starts (SpellsOperand Leaf) Any vs) (λ high. (low, high))
-    bounds_low low vs found = record {
-      to = λ high r h. (vs, found.is, h.spells);
-      from = λ b r s.
-          let same = found.only b.0 s.0 s.1 in
-          (b.1, ap (λ l. (l, b.1)) same.0, record { spells = subst (λ v. SpellsOperand Leaf v b.1 r) same.1 s.2; apart = tt });
-    }
-
   module _ (a : Operand C) (us : List Token) where
     -- BETWEEN and IN
     module _ (not : Bool) where
-      pub range_low : (more : List Token) → us ≡ BETWEEN ∷ more → (low : Operand C) (vs : List Token) → Found (λ l r. SpellsOperand Leaf more l (AND ∷ r)) low vs
-          → Turns (RangeAfter Leaf a not us) (Starts (SpellsOperand Leaf) Any vs) (λ high. test.Between a low high not)
-      range_low more e low vs found = record {
-        to = λ high r h. subst (λ v. RangeAfter Leaf a not v (test.Between a low high not) r) (sym e) (range found.is h.spells);
+      pub range_split : (more : List Token) → us ≡ BETWEEN ∷ more → Splits (RangeAfter Leaf a not us) (λ l r. SpellsOperand Leaf more l (AND ∷ r)) (λ _ vs. Starts (SpellsOperand Leaf) Any vs) (λ low high. test.Between a low high not)
+      range_split more e = record {
+        to = λ low vs high r l h. subst (λ v. RangeAfter Leaf a not v (test.Between a low high not) r) (sym e) (range l h.spells);
         from = λ t r s. inside s e;
       } where
-        inside : {ws r : List Token} {t : Test C} → RangeAfter Leaf a not ws t r → ws ≡ BETWEEN ∷ more → (high : Operand C) × (t ≡ test.Between a low high not) × Starts (SpellsOperand Leaf) Any vs high r
-        inside {r = r} (range {us = ws} {vs = xs} {low = l} {high = high} h k) f =
+        inside : {ws r : List Token} {t : Test C} → RangeAfter Leaf a not ws t r → ws ≡ BETWEEN ∷ more → Halves (λ l v. SpellsOperand Leaf more l (AND ∷ v)) (λ _ vs. Starts (SpellsOperand Leaf) Any vs) (λ low high. test.Between a low high not) t r
+        inside (range {us = ws} {vs = vs} {low = low} {high = high} l h) f =
             let same : ws ≡ more = cc in
-            let parts = found.only l xs (subst (λ v. SpellsOperand Leaf v l (AND ∷ xs)) same h) in
-            (high, ap (λ x. test.Between a x high not) parts.0, record { spells = subst (λ v. SpellsOperand Leaf v high r) parts.1 k; apart = tt })
+            record { first = low; behind = vs; second = high; is = refl; starts = subst (λ v. SpellsOperand Leaf v low (AND ∷ vs)) same l; follows = record { spells = h; apart = tt } }
         inside (list h) f = absurd (let bad : IN ≡ BETWEEN = cc in cc)
-
-      pub range_bounds : (more : List Token) → us ≡ BETWEEN ∷ more → Turns (RangeAfter Leaf a not us) (BoundsAt Leaf more) (λ b. test.Between a b.0 b.1 not)
-      range_bounds more e = record {
-        to = λ b r h. subst (λ v. RangeAfter Leaf a not v (test.Between a b.0 b.1 not) r) (sym e) (range h.1 h.2);
-        from = λ t r s. inside s e;
-      } where
-        inside : {ws r : List Token} {t : Test C} → RangeAfter Leaf a not ws t r → ws ≡ BETWEEN ∷ more → (b : Operand C × Operand C) × (t ≡ test.Between a b.0 b.1 not) × BoundsAt Leaf more b r
-        inside (range {us = ws} {vs = xs} {low = l} {high = high} h k) f =
-            let same : ws ≡ more = cc in
-            ((l, high), refl, (xs, subst (λ v. SpellsOperand Leaf v l (AND ∷ xs)) same h, k))
-        inside (list h) f = absurd (let bad : IN ≡ BETWEEN = cc in cc)
-
-      pub range_no_low : (more : List Token) → us ≡ BETWEEN ∷ more → Nothing (λ l r. SpellsOperand Leaf more l (AND ∷ r)) → Nothing (RangeAfter Leaf a not us)
-      range_no_low more e nothing = record { none = λ t r s. inside s e } where
-        inside : {ws r : List Token} {t : Test C} → RangeAfter Leaf a not ws t r → ws ≡ BETWEEN ∷ more → ⊥
-        inside (range {us = ws} {vs = xs} {low = l} h k) f = let same : ws ≡ more = cc in nothing.none l xs (subst (λ v. SpellsOperand Leaf v l (AND ∷ xs)) same h)
-        inside (list h) f = let bad : IN ≡ BETWEEN = cc in cc
 
       pub range_list : (more : List Token) → us ≡ IN ∷ lparen ∷ more → Turns (RangeAfter Leaf a not us) (λ ls r. Separated comma SpellsLiteral more ls (rparen ∷ r)) (λ ls. test.In a ls not)
       range_list more e = record {
@@ -179,30 +147,19 @@ module _ {C : Type 0} {Leaf : List Token → C → List Token → Type 0} where
   test_to o (after_not k (range h i)) = between o k h i
   test_to o (after_not k (list h)) = among o k h
 
-  pub test_operand : (ts : List Token) (a : Operand C) (us : List Token) → Found (Starts (SpellsOperand Leaf) Any ts) a us → Turns (Starts (SpellsTest Leaf) Any ts) (TestAfter Leaf a us) (λ t. t)
-  test_operand ts a us found = record {
-    to = λ t r h. record { spells = test_to (found.is).spells h; apart = tt };
-    from = λ t r s. (t, refl, inside s.spells);
+  pub test_split : (ts : List Token) → Splits (Starts (SpellsTest Leaf) Any ts) (Starts (SpellsOperand Leaf) Any ts) (TestAfter Leaf) (λ _ t. t)
+  test_split ts = record {
+    to = λ a us t r o h. record { spells = test_to o.spells h; apart = tt };
+    from = λ t r s. inside s.spells;
   } where
-    move : {b : Operand C} {vs r : List Token} {t : Test C} → SpellsOperand Leaf ts b vs → TestAfter Leaf b vs t r → TestAfter Leaf a us t r
-    move {b} {vs} {r} {t} o h =
-        let same = found.only b vs (record { spells = o; apart = tt }) in
-        subst (λ v. TestAfter Leaf a v t r) same.1 (subst (λ x. TestAfter Leaf x vs t r) same.0 h)
+    half : {us r : List Token} {a : Operand C} {t : Test C} → SpellsOperand Leaf ts a us → TestAfter Leaf a us t r → Halves (Starts (SpellsOperand Leaf) Any ts) (TestAfter Leaf) (λ _ t. t) t r
+    half {us} {r} {a} {t} o h = record { first = a; behind = us; second = t; is = refl; starts = record { spells = o; apart = tt }; follows = h }
 
-    inside : {r : List Token} {t : Test C} → SpellsTest Leaf ts t r → TestAfter Leaf a us t r
-    inside (compare o k h) = move o (after_compare k h)
-    inside (is_null o h) = move o (after_is (null h))
-    inside (between o k h i) = move o (after_not k (range h i))
-    inside (among o k h) = move o (after_not k (list h))
-
-  operand_of_test : {ts r : List Token} {t : Test C} → SpellsTest Leaf ts t r → (a : Operand C) × (us : List Token) × SpellsOperand Leaf ts a us
-  operand_of_test (compare {us = us} {a = a} o k h) = (a, us, o)
-  operand_of_test (is_null {us = us} {a = a} o h) = (a, IS ∷ us, o)
-  operand_of_test (between {us = us} {a = a} o k h i) = (a, us, o)
-  operand_of_test (among {us = us} {a = a} o k h) = (a, us, o)
-
-  pub test_no_operand : (ts : List Token) → Nothing (Starts (SpellsOperand Leaf) Any ts) → Nothing (Starts (SpellsTest Leaf) Any ts)
-  test_no_operand ts nothing = record { none = λ t r s. let o = operand_of_test s.spells in nothing.none o.0 o.1 (record { spells = o.2; apart = tt }) }
+    inside : {r : List Token} {t : Test C} → SpellsTest Leaf ts t r → Halves (Starts (SpellsOperand Leaf) Any ts) (TestAfter Leaf) (λ _ t. t) t r
+    inside (compare o k h) = half o (after_compare k h)
+    inside (is_null o h) = half o (after_is (null h))
+    inside (between o k h i) = half o (after_not k (range h i))
+    inside (among o k h) = half o (after_not k (list h))
 
   -- no leaf begins so
   module _ (begins : (ts : List Token) (c : C) (rest : List Token) → Leaf ts c rest → begins_leaf ts ≡ true) where
@@ -215,7 +172,7 @@ module _ {C : Type 0} {Leaf : List Token → C → List Token → Type 0} where
 
     -- a test begins with no "(" and not with NOT
     pub test_head : {ts r : List Token} {t : Test C} → SpellsTest Leaf ts t r → ((more : List Token) → ts ≡ lparen ∷ more → ⊥) × ((more : List Token) → ts ≡ NOT ∷ more → ⊥)
-    test_head s = operand_head (operand_of_test s).2
+    test_head {ts} {r} {t} s = operand_head ((test_split ts).from t r (record { spells = s; apart = tt })).starts.spells
 
     -- an operand that begins with a literal is one, and an other is a leaf
     pub operand_literal : (ts : List Token) → begins_literal ts ≡ true → Turns (Starts (SpellsOperand Leaf) Any ts) (Starts SpellsLiteral Any ts) operand.Literal

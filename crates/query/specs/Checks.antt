@@ -1,5 +1,5 @@
 -- The faults of a query that is asked of a table: each by itself, and the one that is answered.
-use Rattle.std.specs.Prelude.{ℕ, zero, suc, Bool, true, false, not, ◌||◌, List, [], ◌∷◌, Option, Some, None, bytes_eq, if◌then◌else◌, length, nat_lt}
+use Rattle.std.specs.Prelude.{ℕ, Bool, true, false, not, ◌||◌, List, [], ◌∷◌, Option, Some, None, bytes_eq, if◌then◌else◌, length, nat_lt, slice_get}
 use Rattle.std.specs.List.{list_any}
 use Rattle.cells.specs.Values.{Table}
 use Rattle.cells.specs.declared.refused.Refused.{Refused}
@@ -54,11 +54,13 @@ is_text_item columns (item.Min n) = is_text_column columns n
 is_text_item columns (item.Max n) = is_text_column columns n
 is_text_item columns i = false
 
--- the values of the item at the place are texts
+abbrev pub is_text_some : List Column → Option (Item (List ℕ)) → Bool
+is_text_some columns None = false
+is_text_some columns (Some i) = is_text_item columns i
+
+-- the values of the item at the index are texts
 abbrev pub is_text_at : List Column → List (Item (List ℕ)) → ℕ → Bool
-is_text_at columns [] place = false
-is_text_at columns (i ∷ items) zero = is_text_item columns i
-is_text_at columns (i ∷ items) (suc place) = is_text_at columns items place
+is_text_at columns items index = is_text_some columns (slice_get items index)
 
 abbrev pub is_text_operand : {C : Type 0} → (C → Bool) → Operand C → Bool
 is_text_operand is_text (operand.Column c) = is_text c

@@ -1,42 +1,30 @@
--- HAVING (ISO/IEC 9075-2:1999, 7.10 <having clause>) as a predicate over values: the items that it names are taken out of
--- it, in the order of the text, and in their stead stand their places among them.
-use Rattle.std.specs.Prelude.{ℕ, ◌+◌, List, Some, length}
-use Rattle.query.specs.Names.{leaves_of, operand_leaves}
-use Rattle.query.specs.Trees.{PredicateTree, Or, And, Not, Holds, PredicateTrees, NoPredicates, MorePredicates}
+-- HAVING (ISO/IEC 9075-2:1999, 7.10 <having clause>): a search condition on groups, whose leaves are items. A query has the items
+-- taken out of it, in the order of the text, and in their stead their indexes among them.
+use Rattle.std.specs.Prelude.{ℕ, List, [], ◌∷◌, ◌++◌, Some, length}
+use Rattle.cells.specs.declared.total.Total.{Total}
+use Rattle.query.specs.Names.{leaves_of}
+use Rattle.query.specs.Resolving.{resolved}
+use Rattle.query.specs.Trees.{PredicateTree}
+use Rattle.query.specs.Truth.{truth_by}
 use Rattle.query.specs.Values.{HavingTree}
 use Rattle.query.specs.declared.item.Item.{Item}
-use Rattle.query.specs.declared.test.Operand.{Operand}
-use Rattle.query.specs.declared.test.Operand.TheVariants as operand
 use Rattle.query.specs.declared.test.Test.{Test}
-use Rattle.query.specs.declared.test.Test.TheVariants.{Compare, IsNull, Between, In}
+use Rattle.query.specs.declared.truth.Truth.{Truth}
 
-module _ {C : Type 0} where
-  -- the number behind those of an operand's leaves
-  abbrev pub behind : ℕ → Operand C → ℕ
-  behind k a = k + length (operand_leaves a)
+-- what HAVING says of a group, by the value of each item for the group
+abbrev pub having_truth : (Item (List ℕ) → Total) → PredicateTree (Test (Item (List ℕ))) → Truth
+having_truth value p = truth_by value p
 
-  -- a predicate with numbers for its leaves: the first is k, and they rise in the order of the text
-  abbrev pub numbered_operand : ℕ → Operand C → Operand ℕ
-  numbered_operand k (operand.Column c) = operand.Column k
-  numbered_operand k (operand.Literal l) = operand.Literal l
+-- the index of a leaf: how many stand before it
+abbrev pub count_before : {C : Type 0} → List C → C → ℕ
+count_before before c = length before
 
-  abbrev pub numbered_test : ℕ → Test C → Test ℕ
-  numbered_test k (Compare a c b) = Compare (numbered_operand k a) c (numbered_operand (behind k a) b)
-  numbered_test k (IsNull a not) = IsNull (numbered_operand k a) not
-  numbered_test k (Between a low high not) = Between (numbered_operand k a) (numbered_operand (behind k a) low) (numbered_operand (behind (behind k a) low) high) not
-  numbered_test k (In a ls not) = In (numbered_operand k a) ls not
+abbrev pub with_leaf : {C : Type 0} → List C → C → List C
+with_leaf before c = before ++ c ∷ []
 
-  abbrev mutual
-    pub numbered : ℕ → PredicateTree (Test C) → PredicateTree (Test ℕ)
-    numbered k (Or ps) = Or (numbered_each k ps)
-    numbered k (And ps) = And (numbered_each k ps)
-    numbered k (Not p) = Not (numbered k p)
-    numbered k (Holds t) = Holds (numbered_test k t)
-
-    pub numbered_each : ℕ → PredicateTrees (Test C) → PredicateTrees (Test ℕ)
-    numbered_each k NoPredicates = NoPredicates
-    numbered_each k (MorePredicates p ps) = MorePredicates (numbered k p) (numbered_each (k + length (leaves_of p)) ps)
+abbrev pub numbered : {C : Type 0} → PredicateTree (Test C) → PredicateTree (Test ℕ)
+numbered p = resolved count_before with_leaf [] p
 
 -- HAVING of a predicate over items
 abbrev pub having_of : PredicateTree (Test (Item (List ℕ))) → HavingTree
-having_of p = record { items = leaves_of p; predicate = Some (numbered 0 p) }
+having_of p = record { items = leaves_of p; predicate = Some (numbered p) }

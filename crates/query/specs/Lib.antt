@@ -12,12 +12,14 @@ pub mod Phrases
 pub mod Depth
 pub mod Queries
 pub mod Ends
+pub mod Different
 pub mod Sets
 pub mod Marks
 pub mod Truth
 pub mod Leaves
 pub mod Lent
 pub mod Names
+pub mod Resolving
 pub mod Naming
 pub mod Checks
 pub mod Having

@@ -13,7 +13,7 @@ joined [] bs = []
 joined (a ∷ aes) [] = []
 joined (a ∷ aes) (b ∷ bs) = (a || b) ∷ joined aes bs
 
--- the places, counted from k, that are marked
+-- the indexes, counted from k, that are marked
 abbrev pub marked_from : ℕ → List Bool → List ℕ
 marked_from k [] = []
 marked_from k (b ∷ bs) = if b then k ∷ marked_from (k + 1) bs else marked_from (k + 1) bs

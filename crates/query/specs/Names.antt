@@ -28,7 +28,7 @@ operand_leaves (operand.Literal l) = []
 abbrev pub test_leaves : {C : Type 0} → Test C → List C
 test_leaves (Compare a c b) = operand_leaves a ++ operand_leaves b
 test_leaves (IsNull a not) = operand_leaves a
-test_leaves (Between a low high not) = operand_leaves a ++ operand_leaves low ++ operand_leaves high
+test_leaves (Between a low high not) = operand_leaves a ++ (operand_leaves low ++ operand_leaves high)
 test_leaves (In a ls not) = operand_leaves a
 
 abbrev mutual

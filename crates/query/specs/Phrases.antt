@@ -84,11 +84,6 @@ comparison_at ts = None
 pub data NullAfter {C : Type 0} (a : Operand C) : List Token → Test C → List Token → Type 0 where
   null : {us rest : List Token} {not : Bool} → SpellsNot us not (NULL ∷ rest) → NullAfter a us (test.IsNull a not) rest
 
-module _ {C : Type 0} (Leaf : List Token → C → List Token → Type 0) where
-  -- the bounds behind BETWEEN
-  abbrev pub BoundsAt : List Token → Operand C × Operand C → List Token → Type 0
-  BoundsAt us bounds rest = (vs : List Token) × SpellsOperand Leaf us bounds.0 (AND ∷ vs) × SpellsOperand Leaf vs bounds.1 rest
-
 pub data RangeAfter {C : Type 0} (Leaf : List Token → C → List Token → Type 0) (a : Operand C) (not : Bool) : List Token → Test C → List Token → Type 0 where
   range : {us vs rest : List Token} {low high : Operand C} → SpellsOperand Leaf us low (AND ∷ vs) → SpellsOperand Leaf vs high rest → RangeAfter Leaf a not (BETWEEN ∷ us) (test.Between a low high not) rest
   list : {us rest : List Token} {ls : List Literal} → Separated comma SpellsLiteral us ls (rparen ∷ rest) → RangeAfter Leaf a not (IN ∷ lparen ∷ us) (test.In a ls not) rest

@@ -1,9 +1,10 @@
 -- The grouping sets of GROUP BY (ISO/IEC 9075-2:1999, 7.9 <group by clause>). A set is a list of names, and stands for the
 -- columns that it names. Sets that are equal all stay, as in the standard, unless DISTINCT is asked for (ISO/IEC 9075-2:2016,
 -- feature T434); the order of the sets is this project's own.
-use Rattle.std.specs.Prelude.{ℕ, ◌+◌, Bool, true, false, not, List, [], ◌∷◌, ◌++◌, bytes_eq, filter, if◌then◌else◌, map, min}
+use Rattle.std.specs.Prelude.{ℕ, ◌+◌, Bool, true, false, List, [], ◌∷◌, ◌++◌, bytes_eq, if◌then◌else◌, map, min}
 use Rattle.std.specs.List.{flat_map, list_any}
 use Rattle.cells.specs.declared.schema.Column.{Column}
+use Rattle.query.specs.Different.{different}
 use Rattle.query.specs.Limits.{set_limit}
 use Rattle.query.specs.Values.{GroupsTree}
 use Rattle.query.specs.Trees.{ElementTree, Empty, OneUnit, Rollup, Cube, Sets, ElementTrees, NoElements, MoreElements}
@@ -44,28 +45,23 @@ grouping_sets (e ∷ es) = flat_map (λ s. map (λ r. s ++ r) (grouping_sets es)
 abbrev pub names_column : Names → Column → Bool
 names_column set column = list_any (λ n. bytes_eq column.name n) set
 
--- the places, counted from k, of the columns that the set names
-abbrev pub places_from : ℕ → List Column → Names → List ℕ
-places_from k [] set = []
-places_from k (c ∷ cs) set = if names_column set c then k ∷ places_from (k + 1) cs set else places_from (k + 1) cs set
+-- the indexes, counted from k, of the columns that the set names
+abbrev pub indexes_from : ℕ → List Column → Names → List ℕ
+indexes_from k [] set = []
+indexes_from k (c ∷ cs) set = if names_column set c then k ∷ indexes_from (k + 1) cs set else indexes_from (k + 1) cs set
 
--- the places of the columns that the set names, rising
-abbrev pub places : List Column → Names → List ℕ
-places columns set = places_from 0 columns set
-
--- sets of places without those that stand earlier in the list, too: of equal ones the first stays
-abbrev pub different_sets : List (List ℕ) → List (List ℕ)
-different_sets [] = []
-different_sets (s ∷ ss) = s ∷ filter (λ t. not (bytes_eq t s)) (different_sets ss)
+-- the indexes of the columns that the set names, rising
+abbrev pub indexes : List Column → Names → List ℕ
+indexes columns set = indexes_from 0 columns set
 
 -- the sets that GROUP BY keeps: all of them, and with DISTINCT the different ones
 abbrev pub kept_sets : Bool → List (List ℕ) → List (List ℕ)
 kept_sets false sets = sets
-kept_sets true sets = different_sets sets
+kept_sets true sets = different bytes_eq sets
 
--- the sets of GROUP BY over the columns of a table, as places
-abbrev pub placed_sets : List Column → GroupsTree → List (List ℕ)
-placed_sets columns groups = kept_sets groups.distinct (map (places columns) (grouping_sets groups.elements))
+-- the sets of GROUP BY over the columns of a table, as indexes
+abbrev pub resolved_sets : List Column → GroupsTree → List (List ℕ)
+resolved_sets columns groups = kept_sets groups.distinct (map (indexes columns) (grouping_sets groups.elements))
 
 -- a number of sets as far as it is counted: one above the limit stands for all that are more
 abbrev pub counted : ℕ → ℕ

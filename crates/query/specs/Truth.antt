@@ -1,5 +1,5 @@
--- The truth of a predicate over values, those of a row's cells or of a group's items, in three values (ISO/IEC 9075-2:1999,
--- 8.1 <predicate> and the truth tables of its <boolean value expression>).
+-- The truth of a predicate, by what its leaves stand for, in three values (ISO/IEC 9075-2:1999, 8.1 <predicate> and the truth
+-- tables of its <boolean value expression>).
 use Rattle.std.specs.Prelude.{ℕ, Bool, true, false, List, [], ◌∷◌, if◌then◌else◌, slice_index_or}
 use Rattle.std.specs.Ordering.{is_lt, is_le, is_gt, is_ge, is_eq, is_ne}
 use Rattle.std.specs.declared.cmp.Ordering.{Ordering}
@@ -46,11 +46,6 @@ abbrev pub literal_total : Literal → Total
 literal_total (literal.Int n) = total.Int n
 literal_total (literal.Text t) = total.Text t
 
--- the value of an operand, and NULL where there is none at its place
-abbrev pub value_of : Operand ℕ → List Total → Total
-value_of (operand.Column place) values = slice_index_or values place total.Null
-value_of (operand.Literal l) values = literal_total l
-
 -- whether the order of two values is as the comparison wants it
 abbrev pub meets : Comparison → Ordering → Bool
 meets Equal o = is_eq o
@@ -81,25 +76,39 @@ abbrev pub among : Total → List Literal → Truth
 among x [] = False
 among x (l ∷ ls) = or_truth (compared x Equal (literal_total l)) (among x ls)
 
-abbrev pub test_truth : Test ℕ → List Total → Truth
-test_truth (Compare a c b) values = compared (value_of a values) c (value_of b values)
-test_truth (IsNull a not) values = negated not (is_null (value_of a values))
-test_truth (Between a low high not) values = negated not (between (value_of a values) (value_of low values) (value_of high values))
-test_truth (In a ls not) values = negated not (among (value_of a values) ls)
+-- ---- where each leaf, as the name of a column, stands for a value
+module _ {C : Type 0} (value : C → Total) where
+  abbrev pub value_of : Operand C → Total
+  value_of (operand.Column c) = value c
+  value_of (operand.Literal l) = literal_total l
 
-abbrev mutual
-  pub truth : PredicateTree (Test ℕ) → List Total → Truth
-  truth (Or ps) values = any_truth ps values
-  truth (And ps) values = all_truth ps values
-  truth (Not p) values = not_truth (truth p values)
-  truth (Holds t) values = test_truth t values
+  abbrev pub test_truth : Test C → Truth
+  test_truth (Compare a c b) = compared (value_of a) c (value_of b)
+  test_truth (IsNull a not) = negated not (is_null (value_of a))
+  test_truth (Between a low high not) = negated not (between (value_of a) (value_of low) (value_of high))
+  test_truth (In a ls not) = negated not (among (value_of a) ls)
 
-  -- p1 OR p2 OR ..
-  pub any_truth : PredicateTrees (Test ℕ) → List Total → Truth
-  any_truth NoPredicates values = False
-  any_truth (MorePredicates p ps) values = or_truth (truth p values) (any_truth ps values)
+  abbrev mutual
+    pub truth_by : PredicateTree (Test C) → Truth
+    truth_by (Or ps) = any_truth ps
+    truth_by (And ps) = all_truth ps
+    truth_by (Not p) = not_truth (truth_by p)
+    truth_by (Holds t) = test_truth t
 
-  -- p1 AND p2 AND ..
-  pub all_truth : PredicateTrees (Test ℕ) → List Total → Truth
-  all_truth NoPredicates values = True
-  all_truth (MorePredicates p ps) values = and_truth (truth p values) (all_truth ps values)
+    -- p1 OR p2 OR ..
+    pub any_truth : PredicateTrees (Test C) → Truth
+    any_truth NoPredicates = False
+    any_truth (MorePredicates p ps) = or_truth (truth_by p) (any_truth ps)
+
+    -- p1 AND p2 AND ..
+    pub all_truth : PredicateTrees (Test C) → Truth
+    all_truth NoPredicates = True
+    all_truth (MorePredicates p ps) = and_truth (truth_by p) (all_truth ps)
+
+-- ---- where a leaf is the index of a value in a list
+-- the value at the index, and NULL where there is none
+abbrev pub value_at : List Total → ℕ → Total
+value_at values index = slice_index_or values index total.Null
+
+abbrev pub truth : PredicateTree (Test ℕ) → List Total → Truth
+truth p values = truth_by (value_at values) p

@@ -16,7 +16,7 @@ pub record GroupsTree : Type 0 where
 abbrev pub all_rows : GroupsTree
 all_rows = record { distinct = false; elements = Empty ∷ [] }
 
--- HAVING: the items that its predicate names, in the order of the text, and the predicate over their places among them
+-- HAVING: the items that its predicate names, in the order of the text, and the predicate over their indexes among them
 pub record HavingTree : Type 0 where
   pub items : List (Item (List ℕ))
   pub predicate : Option (PredicateTree (Test ℕ))

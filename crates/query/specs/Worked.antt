@@ -1,19 +1,22 @@
--- Worked examples: a table of three columns, elements of GROUP BY over them, and their grouping sets as places;
--- predicates of each truth, and two of them with AND or OR between; the text of a query, and its tree.
-use Rattle.std.specs.Prelude.{ℕ, List, [], ◌∷◌, Some, codes, false, pos, true}
+-- Worked examples: a table of three columns, elements of GROUP BY over them, and their grouping sets as indexes;
+-- predicates of each truth, and two of them with AND or OR between; the texts of queries, and their trees.
+use Rattle.std.specs.Prelude.{ℕ, List, [], ◌∷◌, None, Some, codes, false, pos, true}
 use Rattle.cells.specs.declared.schema.Column.{Column}
 use Rattle.cells.specs.declared.schema.ColumnType.TheVariants.{Int}
 use Rattle.cells.specs.declared.total.Total.TheVariants as total
-use Rattle.query.specs.Sets.{Names, placed_sets}
-use Rattle.query.specs.Trees.{Cube, ElementTree, And, Holds, MorePredicates, NoPredicates, Or, PredicateTree}
+use Rattle.query.specs.Having.{having_of}
+use Rattle.query.specs.Sets.{Names, resolved_sets}
+use Rattle.query.specs.Trees.{Cube, ElementTree, And, Holds, MorePredicates, NoPredicates, Or, PredicateTree, Rollup}
 use Rattle.query.specs.Truth.{truth}
 use Rattle.query.specs.Values.{QueryTree, no_having}
-use Rattle.query.specs.declared.item.Item.TheVariants.{Column as Named, Sum}
+use Rattle.query.specs.declared.item.Item.{Item}
+use Rattle.query.specs.declared.item.Item.TheVariants.{Column as Named, Grouping, Sum}
 use Rattle.query.specs.declared.test.Comparison.TheVariants.{Equal, Greater}
 use Rattle.query.specs.declared.test.Literal.TheVariants as literal
+use Rattle.query.specs.declared.test.Operand.{Operand}
 use Rattle.query.specs.declared.test.Operand.TheVariants as operand
 use Rattle.query.specs.declared.test.Test.{Test}
-use Rattle.query.specs.declared.test.Test.TheVariants.{Compare}
+use Rattle.query.specs.declared.test.Test.TheVariants.{Between, Compare}
 use Rattle.query.specs.declared.truth.Truth.{Truth}
 
 -- the units of one column each
@@ -31,11 +34,11 @@ columns = record { name = codes "A"; kind = Int } ∷ record { name = codes "B";
 
 -- the grouping sets over the table
 abbrev pub sets_over : List ElementTree → List (List ℕ)
-sets_over elements = placed_sets columns (record { distinct = false; elements = elements })
+sets_over elements = resolved_sets columns (record { distinct = false; elements = elements })
 
 -- the same with DISTINCT
 abbrev pub different_sets_over : List ElementTree → List (List ℕ)
-different_sets_over elements = placed_sets columns (record { distinct = true; elements = elements })
+different_sets_over elements = resolved_sets columns (record { distinct = true; elements = elements })
 
 -- 1 = 1, 1 = 2, and UNITS = 1 for the one column UNITS
 abbrev pub holds : PredicateTree (Test ℕ)
@@ -68,4 +71,22 @@ sums_tree = record {
   condition = Some (Holds (Compare (operand.Column (codes "B")) Greater (operand.Literal (literal.Int (pos 1)))));
   groups = record { distinct = false; elements = Cube (A ∷ []) ∷ [] };
   having = no_having;
+}
+
+-- the regions of few units, and all regions together
+abbrev pub regions : List ℕ
+regions = codes "SELECT REGION, SUM(UNITS) FROM SALES GROUP BY ROLLUP (REGION) HAVING SUM(UNITS) BETWEEN 1 AND 9 OR GROUPING(REGION) = 1"
+
+abbrev number : ℕ → Operand (Item (List ℕ))
+number n = operand.Literal (literal.Int (pos n))
+
+abbrev pub regions_tree : QueryTree
+regions_tree = record {
+  items = Named (codes "REGION") ∷ Sum (codes "UNITS") ∷ [];
+  table = codes "SALES";
+  condition = None;
+  groups = record { distinct = false; elements = Rollup ((codes "REGION" ∷ []) ∷ []) ∷ [] };
+  having = having_of (Or (
+      MorePredicates (Holds (Between (operand.Column (Sum (codes "UNITS"))) (number 1) (number 9) false)) (
+      MorePredicates (Holds (Compare (operand.Column (Grouping (codes "REGION" ∷ []))) Equal (number 1))) NoPredicates)));
 }

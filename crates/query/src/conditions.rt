@@ -1,9 +1,8 @@
 //! Reads the predicates of WHERE and of HAVING. Chains of OR and of AND are read by loops, so that only parentheses go deep.
-ghost use Rattle.std.specs.Prelude.{◌≡◌, ◌<◌, ◌∷◌, IfOk, List, Some, length};
-ghost use Rattle.cells.specs.declared.token.Token.{Token};
-ghost use Rattle.query.specs.Grammar.{AND, BETWEEN, IN, SpellsFactor, SpellsOperand, SpellsPredicate, SpellsPrimary, SpellsTerm, SpellsTest, lparen, rparen};
-ghost use Rattle.query.specs.Phrases.{BoundsAt, NullAfter, RangeAfter, TestAfter, comparison_at};
-ghost use Rattle.query.specs.Reading.{AfterAnd, AfterOr, Any, Ends, ReadsPhrase, Starts};
+ghost use Rattle.std.specs.Prelude.{◌<◌, ◌∷◌, IfOk, length};
+ghost use Rattle.query.specs.Grammar.{BETWEEN, SpellsFactor, SpellsPredicate, SpellsPrimary, SpellsTerm, SpellsTest, rparen};
+ghost use Rattle.query.specs.Phrases.{NullAfter, RangeAfter, TestAfter};
+ghost use Rattle.query.specs.Reading.{AfterAnd, AfterOr, Any, ReadsPhrase, Starts};
 
 use crate::leaf::Leaf;
 use crate::owned::closed;
@@ -11,24 +10,9 @@ use crate::phrases::{
     after_call, after_mark, after_word, comparison_at, list_in, operand, word_mark,
 };
 use crate::predicate::Predicate;
-use crate::test::{Comparison, Literals, Operand, Test};
+use crate::test::{Literals, Operand, Test};
 use cells::{Mark, Refused, Token};
 use std::alloc::Global;
-
-/// The operand up to the AND behind it, and what follows it.
-fn operand_and<C: Leaf + Drop>(
-    alloc: Global,
-    tokens: &[Token],
-) -> Result<(Operand<C>, &[Token]), Refused>
-    ensures reads { ReadsPhrase (λ x. (x.0, x.1.now)) (λ a r. SpellsOperand C.spells tokens.now a (AND ∷ r)) result }
-    ensures shorter { IfOk result (λ x. length x.1.now < length tokens.now) }
-{
-    let (operand, rest) = operand(alloc, tokens)?;
-    let Some(behind) = after_word(rest, "AND") else {
-        return Err(Refused::QuerySyntax);
-    };
-    Ok((operand, behind))
-}
 
 /// The test of NULL behind the operand and IS, and what follows it.
 fn null_test<C: Leaf + Drop>(
@@ -49,19 +33,6 @@ fn null_test<C: Leaf + Drop>(
     Ok((test, rest))
 }
 
-/// The bounds behind BETWEEN, and what follows them.
-fn bounds<C: Leaf + Drop>(
-    alloc: Global,
-    tokens: &[Token],
-) -> Result<(Operand<C>, Operand<C>, &[Token]), Refused>
-    ensures reads { ReadsPhrase (λ x. ((x.0, x.1), x.2.now)) (BoundsAt C.spells tokens.now) result }
-    ensures shorter { IfOk result (λ x. length x.2.now < length tokens.now) }
-{
-    let (low, behind) = operand_and(alloc, tokens)?;
-    let (high, rest) = operand(alloc, behind)?;
-    Ok((low, high, rest))
-}
-
 /// The test by BETWEEN behind the operand, an optional NOT and BETWEEN, and what follows it.
 fn between_test<C: Leaf + Drop>(
     alloc: Global,
@@ -72,30 +43,15 @@ fn between_test<C: Leaf + Drop>(
     ensures reads { ReadsPhrase (λ x. (x.0, x.1.now)) (RangeAfter C.spells left negated (BETWEEN ∷ tokens.now)) result }
     ensures shorter { IfOk result (λ x. length x.1.now < length tokens.now) }
 {
-    let (low, high, rest) = bounds(alloc, tokens)?;
+    let (low, behind) = operand(alloc, tokens)?;
+    let Some(more) = after_word(behind, "AND") else {
+        return Err(Refused::QuerySyntax);
+    };
+    let (high, rest) = operand(alloc, more)?;
     let test = Test::Between {
         operand: left,
         low,
         high,
-        negated,
-    };
-    Ok((test, rest))
-}
-
-/// The test by IN behind the operand, an optional NOT and `IN (`, and what follows it.
-fn in_test<C: Leaf + Drop>(
-    alloc: Global,
-    left: Operand<C>,
-    negated: bool,
-    tokens: &[Token],
-) -> Result<(Test<C>, &[Token]), Refused>
-    ensures reads { ReadsPhrase (λ x. (x.0, x.1.now)) (RangeAfter C.spells left negated (IN ∷ lparen ∷ tokens.now)) result }
-    ensures shorter { IfOk result (λ x. length x.1.now < length tokens.now) }
-{
-    let (literals, rest) = list_in(alloc, tokens)?;
-    let test = Test::In {
-        operand: left,
-        list: Literals::new(literals),
         negated,
     };
     Ok((test, rest))
@@ -117,22 +73,13 @@ fn range_test<C: Leaf + Drop>(
     let Some(more) = after_call(tokens, "IN") else {
         return Err(Refused::QuerySyntax);
     };
-    in_test(alloc, left, negated, more)
-}
-
-/// The test by a comparison behind the operand and its sign, and what follows it.
-fn compare_test<C: Leaf + Drop>(
-    alloc: Global,
-    left: Operand<C>,
-    comparison: Comparison,
-    tokens: &[Token],
-) -> Result<(Test<C>, &[Token]), Refused>
-    // The sign is what any tokens begin with that go on as these.
-    ensures reads { (signed : List Token) → comparison_at signed ≡ Some (comparison, tokens.now) → ReadsPhrase (λ x. (x.0, x.1.now)) (TestAfter C.spells left signed) result }
-    ensures shorter { IfOk result (λ x. length x.1.now < length tokens.now) }
-{
-    let (right, rest) = operand(alloc, tokens)?;
-    Ok((Test::Compare(left, comparison, right), rest))
+    let (literals, rest) = list_in(alloc, more)?;
+    let test = Test::In {
+        operand: left,
+        list: Literals::new(literals),
+        negated,
+    };
+    Ok((test, rest))
 }
 
 /// The test behind its first operand, and what follows it.
@@ -145,7 +92,8 @@ fn test_after<C: Leaf + Drop>(
     ensures shorter { IfOk result (λ x. length x.1.now < length tokens.now) }
 {
     if let Some((comparison, more)) = comparison_at(tokens) {
-        return compare_test(alloc, left, comparison, more);
+        let (right, rest) = operand(alloc, more)?;
+        return Ok((Test::Compare(left, comparison, right), rest));
     }
     if let Some(more) = after_word(tokens, "IS") {
         return null_test(left, more);

@@ -1,7 +1,7 @@
 //! Reads the elements of GROUP BY. Lists are read by loops, so that only a nested GROUPING SETS goes deep.
 ghost use Rattle.std.specs.Prelude.{◌≡◌, ◌≢◌, ◌<◌, ◌∷◌, List, IfOk, MatchOption, length};
 ghost use Rattle.cells.specs.declared.token.Token.{Token};
-ghost use Rattle.query.specs.Grammar.{CUBE, GROUPING, ROLLUP, SETS, Separated, SpellsElement, SpellsUnit, comma, lparen, rparen};
+ghost use Rattle.query.specs.Grammar.{GROUPING, SETS, Separated, SpellsElement, SpellsUnit, comma, lparen, rparen};
 ghost use Rattle.query.specs.Phrases.{IsPlain};
 ghost use Rattle.query.specs.Reading.{Any, Ends, ReadsPhrase, Starts};
 
@@ -40,24 +40,6 @@ fn after_empty(tokens: &[Token]) -> Option<&[Token]>
     after_mark(rest, Mark::RightParen)
 }
 
-/// The element behind `ROLLUP (`, and what follows it.
-fn rollup_element(alloc: Global, tokens: &[Token]) -> Result<(Element, &[Token]), Refused>
-    ensures reads { ReadsPhrase (λ x. (x.0, x.1.now)) (Starts SpellsElement Any (ROLLUP ∷ lparen ∷ tokens.now)) result }
-    ensures shorter { IfOk result (λ x. length x.1.now < length tokens.now) }
-{
-    let (units, rest) = list_in(alloc, tokens)?;
-    Ok((Element::rollup(units), rest))
-}
-
-/// The element behind `CUBE (`, and what follows it.
-fn cube_element(alloc: Global, tokens: &[Token]) -> Result<(Element, &[Token]), Refused>
-    ensures reads { ReadsPhrase (λ x. (x.0, x.1.now)) (Starts SpellsElement Any (CUBE ∷ lparen ∷ tokens.now)) result }
-    ensures shorter { IfOk result (λ x. length x.1.now < length tokens.now) }
-{
-    let (units, rest) = list_in(alloc, tokens)?;
-    Ok((Element::cube(units), rest))
-}
-
 /// The unit at the front as an element, where no other form of element begins, and what follows it.
 fn unit_element(alloc: Global, tokens: &[Token]) -> Result<(Element, &[Token]), Refused>
     ensures reads { IsPlain tokens.now → ReadsPhrase (λ x. (x.0, x.1.now)) (Starts SpellsElement Any tokens.now) result }
@@ -77,10 +59,12 @@ fn element(alloc: Global, tokens: &[Token]) -> Result<(Element, &[Token]), Refus
         return Ok((Element::empty(), rest));
     }
     if let Some(more) = after_call(tokens, "ROLLUP") {
-        return rollup_element(alloc, more);
+        let (units, rest) = list_in(alloc, more)?;
+        return Ok((Element::rollup(units), rest));
     }
     if let Some(more) = after_call(tokens, "CUBE") {
-        return cube_element(alloc, more);
+        let (units, rest) = list_in(alloc, more)?;
+        return Ok((Element::cube(units), rest));
     }
     if let Some(more) = after_sets(tokens) {
         return sets_element(alloc, more);

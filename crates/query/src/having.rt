@@ -1,134 +1,87 @@
-//! HAVING as a predicate over the values of the items that it names: each leaf gives way to its place among the leaves.
-ghost use Rattle.std.specs.Prelude.{◌≡◌, ◌++◌, IfOk, length};
-ghost use Rattle.query.specs.Having.{numbered, numbered_operand, numbered_test};
-ghost use Rattle.query.specs.Names.{leaves_of, operand_leaves, test_leaves};
-ghost use Rattle.query.specs.declared.test.Test.TheVariants.{Between, Compare};
+//! HAVING, as a predicate over the values of the items that it names.
+ghost use Rattle.std.specs.Prelude.{◌≡◌, IfOk};
+ghost use Rattle.query.specs.Having.{count_before, having_of, with_leaf};
+ghost use Rattle.query.specs.Values.{no_having};
 
 use crate::item::Item;
-use crate::owned::beside;
-use crate::predicate::{Predicate, PredicateForm};
-use crate::test::{Comparison, Operand, Test};
+use crate::predicate::Predicate;
+use crate::resolving::{Resolver, resolved};
 use cells::Text;
 use std::alloc::{AllocError, Global};
+use std::marker::Model;
 
-/// The predicate with a place for each leaf: that among the leaves, behind which it is put.
-pub fn numbered(
-    alloc: Global,
-    predicate: Predicate<Item<Text>>,
-    leaves: &mut Vec<Item<Text>>,
-) -> Result<Predicate<usize>, AllocError>
-    ensures places { IfOk result (λ p. p ≡ numbered (length leaves.old.items) predicate) }
-    ensures leaves { IfOk result (λ _. leaves.new.items ≡ leaves.old.items ++ leaves_of predicate) }
-{
-    match predicate.form {
-        PredicateForm::Or(inners) => {
-            let mut placed = Vec::new(alloc);
-            for inner in inners {
-                placed.push(numbered(alloc, inner, leaves)?)?;
-            }
-            Ok(Predicate {
-                form: PredicateForm::Or(placed),
-            })
+/// HAVING of a query: the items that its predicate names stand apart, in the order of the text, and the predicate is over
+/// their indexes.
+#[derive(Drop)]
+pub(crate) struct Having {
+    /// The items that the predicate names.
+    pub items: Vec<Item<Text>>,
+    /// The predicate over their indexes, where there is a HAVING.
+    pub predicate: Option<Predicate<usize>>,
+}
+
+impl Model for Having {
+    ghost use Rattle.query.specs.Values.{HavingTree};
+
+    ghost Value = { HavingTree };
+
+    ghost use Rattle.query.specs.Codes.{coded_predicate};
+    ghost use Rattle.std.specs.Coded.{codes};
+
+    ghost coded = { Prim.hlevel (codes, coded_predicate) };
+
+    ghost view = { λ h. record { items = h.items.items; predicate = h.predicate } };
+}
+
+impl Having {
+    /// What a query without HAVING has.
+    pub fn none(alloc: Global) -> Having
+        ensures { result ≡ no_having }
+    {
+        Having {
+            items: Vec::new(alloc),
+            predicate: None,
         }
-        PredicateForm::And(inners) => {
-            let mut placed = Vec::new(alloc);
-            for inner in inners {
-                placed.push(numbered(alloc, inner, leaves)?)?;
-            }
-            Ok(Predicate {
-                form: PredicateForm::And(placed),
-            })
-        }
-        PredicateForm::Not(inner) => {
-            let inner = numbered(alloc, Box::into_inner(inner), leaves)?;
-            Predicate::not(alloc, inner)
-        }
-        PredicateForm::Test(test) => Ok(Predicate::test(numbered_test(test, leaves)?)),
+    }
+
+    /// HAVING of a predicate over items, which are taken out of it.
+    pub fn of(alloc: Global, predicate: Predicate<Item<Text>>) -> Result<Having, AllocError>
+        ensures { IfOk result (λ having. having ≡ having_of predicate) }
+    {
+        let mut taken = Taken {
+            items: Vec::new(alloc),
+        };
+        let predicate = resolved(alloc, &mut taken, predicate)?;
+        Ok(Having {
+            items: taken.items,
+            predicate: Some(predicate),
+        })
     }
 }
 
-/// The test with a place for each leaf.
-fn numbered_test(
-    test: Test<Item<Text>>,
-    leaves: &mut Vec<Item<Text>>,
-) -> Result<Test<usize>, AllocError>
-    ensures places { IfOk result (λ t. t ≡ numbered_test (length leaves.old.items) test) }
-    ensures leaves { IfOk result (λ _. leaves.new.items ≡ leaves.old.items ++ test_leaves test) }
-{
-    match test {
-        Test::Compare(a, comparison, b) => numbered_comparison(a, comparison, b, leaves),
-        Test::IsNull { operand, negated } => Ok(Test::IsNull {
-            operand: numbered_operand(operand, leaves)?,
-            negated,
-        }),
-        Test::Between {
-            operand,
-            low,
-            high,
-            negated,
-        } => numbered_between(operand, (low, high), negated, leaves),
-        Test::In {
-            operand,
-            list,
-            negated,
-        } => Ok(Test::In {
-            operand: numbered_operand(operand, leaves)?,
-            list,
-            negated,
-        }),
-    }
+/// The items that were taken out of a predicate, in the order of the text. The index of an item is that in this list.
+#[derive(Drop)]
+struct Taken {
+    items: Vec<Item<Text>>,
 }
 
-/// The test by a comparison with a place for each leaf.
-fn numbered_comparison(
-    left: Operand<Item<Text>>,
-    comparison: Comparison,
-    right: Operand<Item<Text>>,
-    leaves: &mut Vec<Item<Text>>,
-) -> Result<Test<usize>, AllocError>
-    ensures places { IfOk result (λ t. t ≡ numbered_test (length leaves.old.items) (Compare left comparison right)) }
-    ensures leaves { IfOk result (λ _. leaves.new.items ≡ leaves.old.items ++ test_leaves (Compare left comparison right)) }
-{
-    let (right, left) = beside(numbered_operand(left, leaves), right)?;
-    let (left, right) = beside(numbered_operand(right, leaves), left)?;
-    Ok(Test::Compare(left, comparison, right))
+impl Model for Taken {
+    ghost use Rattle.std.specs.Prelude.{ℕ, List};
+    ghost use Rattle.query.specs.declared.item.Item.{Item};
+
+    ghost Value = { List (Item (List ℕ)) };
+
+    ghost view = { λ t. t.items.items };
 }
 
-/// The test by BETWEEN with a place for each leaf. The bounds are the low and the high one.
-fn numbered_between(
-    operand: Operand<Item<Text>>,
-    bounds: (Operand<Item<Text>>, Operand<Item<Text>>),
-    negated: bool,
-    leaves: &mut Vec<Item<Text>>,
-) -> Result<Test<usize>, AllocError>
-    ensures places { IfOk result (λ t. t ≡ numbered_test (length leaves.old.items) (Between operand bounds.0 bounds.1 negated)) }
-    ensures leaves { IfOk result (λ _. leaves.new.items ≡ leaves.old.items ++ test_leaves (Between operand bounds.0 bounds.1 negated)) }
-{
-    let ((low, high), operand) = beside(numbered_operand(operand, leaves), bounds)?;
-    let ((operand, high), low) = beside(numbered_operand(low, leaves), (operand, high))?;
-    let ((operand, low), high) = beside(numbered_operand(high, leaves), (operand, low))?;
-    Ok(Test::Between {
-        operand,
-        low,
-        high,
-        negated,
-    })
-}
+impl Resolver<Item<Text>> for Taken {
+    ghost index = { count_before };
 
-/// The operand with a place for its leaf.
-fn numbered_operand(
-    operand: Operand<Item<Text>>,
-    leaves: &mut Vec<Item<Text>>,
-) -> Result<Operand<usize>, AllocError>
-    ensures places { IfOk result (λ o. o ≡ numbered_operand (length leaves.old.items) operand) }
-    ensures leaves { IfOk result (λ _. leaves.new.items ≡ leaves.old.items ++ operand_leaves operand) }
-{
-    match operand {
-        Operand::Column(leaf) => {
-            let place = leaves.len();
-            leaves.push(leaf)?;
-            Ok(Operand::Column(place))
-        }
-        Operand::Literal(literal) => Ok(Operand::Literal(literal)),
+    ghost after = { with_leaf };
+
+    fn resolve(&mut self, leaf: Item<Text>) -> Result<usize, AllocError> {
+        let index = self.items.len();
+        self.items.push(leaf)?;
+        Ok(index)
     }
 }

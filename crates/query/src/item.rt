@@ -34,7 +34,7 @@ impl<C: Drop> GroupingColumns<C> {
 }
 
 /// An item of a select list: a column, GROUPING of some columns, or a set function (ISO/IEC 9075-2:1999, 6.16; GROUPING of
-/// several columns is feature T433 of ISO/IEC 9075-2:2016). `C` stands for a column: it is its name in a query, and its place
+/// several columns is feature T433 of ISO/IEC 9075-2:2016). `C` stands for a column: it is its name in a query, and its index
 /// in a plan.
 #[derive(Drop)]
 pub enum Item<C> {

@@ -3,7 +3,7 @@ ghost use Rattle.std.specs.Prelude.{◌≡◌, ℕ, List};
 ghost use Rattle.cells.specs.declared.refused.Refused.{Refused as Fault};
 ghost use Rattle.query.specs.Queries.{FirstFault, IsAnswered, IsQuery};
 ghost use Rattle.query.specs.Values.{QueryTree};
-ghost use Rattle.query.specs.Worked.{sums, sums_tree};
+ghost use Rattle.query.specs.Worked.{regions, regions_tree, sums, sums_tree};
 
 /// A text is one query at most, it has one first fault at most, and no query has a fault.
 pub fn a_text_has_one_answer()
@@ -17,8 +17,9 @@ pub fn each_text_has_an_answer()
     ensures { (text : List ℕ) → IsAnswered text }
 {}
 
-/// A text and its tree, rule by rule of the grammar: `SELECT A, SUM(B) FROM T WHERE B > 1 GROUP BY
-/// CUBE (A)`.
+/// Texts and their trees, rule by rule of the grammar: `SELECT A, SUM(B) FROM T WHERE B > 1 GROUP BY CUBE (A)`, and `SELECT
+/// REGION, SUM(UNITS) FROM SALES GROUP BY ROLLUP (REGION) HAVING SUM(UNITS) BETWEEN 1 AND 9 OR GROUPING(REGION) = 1`.
 pub fn worked_query()
-    ensures { IsQuery sums sums_tree }
+    ensures sums { IsQuery sums sums_tree }
+    ensures regions { IsQuery regions regions_tree }
 {}

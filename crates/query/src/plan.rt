@@ -3,22 +3,22 @@ ghost use Rattle.std.specs.Prelude.{◌≡◌, IfOk, false, map};
 ghost use Rattle.std.specs.List.{list_any};
 ghost use Rattle.std.specs.Option.{option_copied};
 ghost use Rattle.query.specs.Headings.{heading};
-ghost use Rattle.query.specs.Plans.{placed_item, plan_of};
-ghost use Rattle.query.specs.Sets.{placed_sets};
+ghost use Rattle.query.specs.Plans.{plan_of, resolved_item};
+ghost use Rattle.query.specs.Sets.{resolved_sets};
 ghost use Rattle.query.specs.Values.{is_long, items_of};
 
 use crate::headings::headings;
+use crate::indexes::{resolved_condition, resolved_items};
 use crate::item::Item;
 use crate::owned::beside;
-use crate::places::{placed_condition, placed_items};
 use crate::predicate::Predicate;
 use crate::query::Query;
-use crate::sets::{GroupSet, placed_sets};
+use crate::sets::{GroupSet, resolved_sets};
 use cells::{Column, Schema, Text};
 use std::alloc::{AllocError, Global};
 use std::marker::Model;
 
-/// A query with the places of columns for their names, and with its grouping sets. It is made by
+/// A query by the indexes of its columns, and with its grouping sets. It is made by
 /// [`check`](crate::check), for the table that the query was checked for. No GROUPING in it has more than
 /// [`MAX_GROUPING_COLUMNS`](crate::MAX_GROUPING_COLUMNS).
 #[derive(Drop)]
@@ -60,14 +60,14 @@ struct Outline {
 impl Outline {
     /// The outline of the query, whose names are all of these columns.
     fn of(alloc: Global, columns: &[Column], query: &Query) -> Result<Outline, AllocError>
-        ensures items { IfOk result (λ outline. outline.items.items ≡ map (placed_item columns.now) (items_of query.now)) }
+        ensures items { IfOk result (λ outline. outline.items.items ≡ map (resolved_item columns.now) (items_of query.now)) }
         ensures short { IfOk result (λ outline. list_any is_long outline.items.items ≡ false) }
         ensures headings { IfOk result (λ outline. outline.headings.items ≡ map heading query.now.items) }
-        ensures sets { IfOk result (λ outline. outline.sets.items ≡ placed_sets columns.now query.now.groups) }
+        ensures sets { IfOk result (λ outline. outline.sets.items ≡ resolved_sets columns.now query.now.groups) }
     {
-        let items = placed_items(alloc, columns, query.items(), query.having_items())?;
+        let items = resolved_items(alloc, columns, query.items(), query.having_items())?;
         let headings = headings(alloc, query.items())?;
-        let sets = placed_sets(alloc, columns, query.is_distinct(), query.elements())?;
+        let sets = resolved_sets(alloc, columns, query.is_distinct(), query.elements())?;
         Ok(Outline {
             items,
             headings,
@@ -84,7 +84,7 @@ impl Plan {
         let columns = schema.columns();
         let (query, outline) = beside(Outline::of(alloc, columns, &query), query)?;
         let (condition, having) = query.into_predicates();
-        let condition = placed_condition(alloc, columns, condition);
+        let condition = resolved_condition(alloc, columns, condition);
         let ((outline, having), condition) = beside(condition, (outline, having))?;
         Ok(Plan {
             items: outline.items,
@@ -125,7 +125,7 @@ impl Plan {
         self.sets.as_slice()
     }
 
-    /// The predicate of HAVING, where there is one, over the places of its items, which count from the first behind the select
+    /// The predicate of HAVING, where there is one, over the indexes of its items, which count from the first behind the select
     /// list's. It takes no memory.
     pub fn having(&self) -> Option<&Predicate<usize>>
         ensures { option_copied result ≡ self.now.having }

@@ -1,9 +1,15 @@
 //! Laws of grouping sets and of truth: functions that do nothing, whose clauses say them.
-ghost use Rattle.std.specs.Prelude.{◌≡◌, ◌++◌, ℕ, List, [], ◌∷◌, false, map, pos, true};
+ghost use Rattle.std.specs.Prelude.{◌≡◌, ◌++◌, ℕ, List, [], ◌∷◌, Some, drop, false, length, map, option_map, pos, true};
+ghost use Rattle.cells.specs.Values.{Table};
+ghost use Rattle.cells.specs.declared.schema.Column.{Column};
+ghost use Rattle.query.specs.Having.{having_of, having_truth};
 ghost use Rattle.query.specs.Naming.{AgreeAt, columns_named};
+ghost use Rattle.query.specs.Plans.{index_of, plan_of, resolved_condition, resolved_item};
 ghost use Rattle.query.specs.Trees.{Cube, Empty, MoreElements, NoElements, Not, OneUnit, PredicateTree, Rollup, Sets, Holds};
-ghost use Rattle.query.specs.Truth.{truth};
+ghost use Rattle.query.specs.Truth.{truth, truth_by, value_at};
+ghost use Rattle.query.specs.Values.{QueryTree};
 ghost use Rattle.query.specs.Worked.{A, B, C, both, different_sets_over, either, fails, holds, of_null, sets_over, unknown};
+ghost use Rattle.query.specs.declared.item.Item.{Item as ItemTree};
 ghost use Rattle.query.specs.declared.test.Test.{Test as TestTree};
 
 use crate::item::Item;
@@ -37,7 +43,7 @@ pub fn worked_sets()
     // DISTINCT GROUPING SETS (A, B, ROLLUP(A)): the first of equal sets stays.
     ensures first { different_sets_over (Sets (MoreElements (OneUnit A) (MoreElements (OneUnit B) (MoreElements (Rollup (A ∷ [])) NoElements))) ∷ []) ≡ (0 ∷ []) ∷ (1 ∷ []) ∷ [] ∷ [] }
     // DISTINCT GROUPING SETS ((A, A), A, (B, A), (A, B)): sets are equal where their columns are.
-    ensures by_places { different_sets_over (Sets (MoreElements (OneUnit (A ++ A)) (MoreElements (OneUnit A) (MoreElements (OneUnit (B ++ A)) (MoreElements (OneUnit (A ++ B)) NoElements)))) ∷ []) ≡ (0 ∷ []) ∷ (0 ∷ 1 ∷ []) ∷ [] }
+    ensures by_indexes { different_sets_over (Sets (MoreElements (OneUnit (A ++ A)) (MoreElements (OneUnit A) (MoreElements (OneUnit (B ++ A)) (MoreElements (OneUnit (A ++ B)) NoElements)))) ∷ []) ≡ (0 ∷ []) ∷ (0 ∷ 1 ∷ []) ∷ [] }
 {}
 
 /// The truth of examples over rows of one cell, computed by the definition.
@@ -60,7 +66,17 @@ pub fn worked_truths()
     ensures between { truth (Holds (Test.Between (Operand.Column 0) (Operand.Literal (Literal.Int (pos 1))) (Operand.Literal (Literal.Int (pos 2))) false)) (Total.Int (pos 2) ∷ []) ≡ Truth.True }
 {}
 
-/// The truth of a predicate over values is decided by those at the places of the columns that it names.
+/// What WHERE and HAVING say, in the words of the query. A plan's predicates have the truth of those that the text spells: the
+/// name of a column stands for the value in that column, and an item of HAVING for the item's value for the group.
+pub fn truth_by_names()
+    ensures condition { (columns : List Column) (p : PredicateTree (TestTree (List ℕ))) (cells : List Total) →
+        truth (resolved_condition columns p) cells ≡ truth_by (λ name. value_at cells (index_of columns name)) p }
+    // Whatever value each item has for a group: those that HAVING names stand behind those of the select list.
+    ensures having { (t : Table) (q : QueryTree) (p : PredicateTree (TestTree (ItemTree (List ℕ)))) (value : ItemTree ℕ → Total) → q.having ≡ having_of p →
+        option_map (λ n. truth n (drop (length (plan_of t q).headings) (map value (plan_of t q).items))) (plan_of t q).having ≡ Some (having_truth (λ i. value (resolved_item t.columns i)) p) }
+{}
+
+/// The truth of a predicate over values is decided by those at the indexes of the columns that it names.
 pub fn truth_by_columns()
     ensures { (p : PredicateTree (TestTree ℕ)) (xs ys : List Total) → AgreeAt (columns_named p) xs ys → truth p xs ≡ truth p ys }
 {}

@@ -7,7 +7,7 @@ use crate::test::Test;
 use std::alloc::{AllocError, Global};
 use std::marker::Model;
 
-/// A predicate over a row. `C` stands for a column: it is its name in a query, and its place in a plan. Clauses
+/// A predicate over a row. `C` stands for a column: it is its name in a query, and its index in a plan. Clauses
 /// see its tree.
 #[derive(Drop)]
 #[cycle(predicate)]

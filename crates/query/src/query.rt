@@ -2,11 +2,10 @@
 ghost use Rattle.std.specs.Prelude.{◌≡◌, IfOk, false};
 ghost use Rattle.std.specs.List.{list_any};
 ghost use Rattle.std.specs.Option.{option_copied};
-ghost use Rattle.query.specs.Having.{having_of};
-ghost use Rattle.query.specs.Values.{AreFilled, IsKept, all_rows, is_long, no_having};
+ghost use Rattle.query.specs.Values.{AreFilled, IsKept, all_rows, is_long};
 
 use crate::element::Element;
-use crate::having::numbered;
+use crate::having::Having;
 use crate::item::Item;
 use crate::predicate::Predicate;
 use cells::Text;
@@ -45,53 +44,6 @@ impl Groups {
         Ok(Groups {
             distinct: false,
             elements,
-        })
-    }
-}
-
-/// HAVING of a query: the items that its predicate names stand apart, in the order of the text, and the predicate is over
-/// their places.
-#[derive(Drop)]
-pub(crate) struct Having {
-    /// The items that the predicate names.
-    pub items: Vec<Item<Text>>,
-    /// The predicate over their places, where there is a HAVING.
-    pub predicate: Option<Predicate<usize>>,
-}
-
-impl Model for Having {
-    ghost use Rattle.query.specs.Values.{HavingTree};
-
-    ghost Value = { HavingTree };
-
-    ghost use Rattle.query.specs.Codes.{coded_predicate};
-    ghost use Rattle.std.specs.Coded.{codes};
-
-    ghost coded = { Prim.hlevel (codes, coded_predicate) };
-
-    ghost view = { λ h. record { items = h.items.items; predicate = h.predicate } };
-}
-
-impl Having {
-    /// What a query without HAVING has.
-    pub fn none(alloc: Global) -> Having
-        ensures { result ≡ no_having }
-    {
-        Having {
-            items: Vec::new(alloc),
-            predicate: None,
-        }
-    }
-
-    /// HAVING of a predicate over items, which are taken out of it.
-    pub fn of(alloc: Global, predicate: Predicate<Item<Text>>) -> Result<Having, AllocError>
-        ensures { IfOk result (λ having. having ≡ having_of predicate) }
-    {
-        let mut items = Vec::new(alloc);
-        let predicate = numbered(alloc, predicate, &mut items)?;
-        Ok(Having {
-            items,
-            predicate: Some(predicate),
         })
     }
 }
@@ -194,7 +146,7 @@ impl Query {
         self.clauses.having.items.as_slice()
     }
 
-    /// The predicate of HAVING over the places of the items that it names, where there is one.
+    /// The predicate of HAVING over the indexes of the items that it names, where there is one.
     pub fn having(&self) -> Option<&Predicate<usize>>
         ensures { option_copied result ≡ self.now.having.predicate }
     {

@@ -15,12 +15,13 @@ ghost use Rattle.query.specs.Values.{QueryTree, from_tree, has_too_many, is_aggr
 use crate::conditions::predicate;
 use crate::depth::is_too_deep;
 use crate::grouping::elements;
+use crate::having::Having;
 use crate::item::Item;
 use crate::limits::{MAX_GROUPING_COLUMNS, MAX_ITEMS, MAX_QUERY_BYTES};
 use crate::owned::{beside, unless};
 use crate::phrases::{Phrase, after_word, list, word_mark};
 use crate::predicate::Predicate;
-use crate::query::{Clauses, Grouped, Groups, Having, Query};
+use crate::query::{Clauses, Grouped, Groups, Query};
 use cells::{Refused, Text, Token, tokens_or};
 use std::alloc::Global;
 

@@ -1,15 +1,16 @@
 //! The grouping sets of GROUP BY.
-ghost use Rattle.std.specs.Prelude.{◌≡◌, ◌∷◌, [], IfOk, bytes_eq, map};
+ghost use Rattle.std.specs.Prelude.{◌≡◌, ◌∷◌, [], IfOk, OnOk, bytes_eq, map};
 ghost use Rattle.std.specs.List.{flat_map, list_any};
+ghost use Rattle.query.specs.Different.{different, with_new};
 ghost use Rattle.query.specs.Marks.{joined, marked_from, marks};
-ghost use Rattle.query.specs.Sets.{cube, different_sets, grouping_sets, names_column, placed_sets, places, rollup, sets_of};
+ghost use Rattle.query.specs.Sets.{cube, grouping_sets, indexes, names_column, resolved_sets, rollup, sets_of};
 
 use crate::element::{Element, ElementForm, Unit};
 use cells::Column;
 use std::alloc::{AllocError, Global};
 use std::marker::Model;
 
-/// A grouping set: the places of its columns among those of the table, rising.
+/// A grouping set: the indexes of its columns among those of the table, rising.
 #[derive(Debug, Drop)]
 pub struct GroupSet {
     pub columns: Vec<usize>,
@@ -38,13 +39,13 @@ impl Model for Marks {
 }
 
 /// The grouping sets of GROUP BY, in order; with DISTINCT without those that stand earlier in the list, too.
-pub fn placed_sets(
+pub fn resolved_sets(
     alloc: Global,
     columns: &[Column],
     distinct: bool,
     elements: &[Element],
 ) -> Result<Vec<GroupSet>, AllocError>
-    ensures { IfOk result (λ sets. sets.items ≡ placed_sets columns.now (record { distinct = distinct; elements = elements.now })) }
+    ensures { IfOk result (λ sets. sets.items ≡ resolved_sets columns.now (record { distinct = distinct; elements = elements.now })) }
 {
     let sets = grouping_sets(alloc, columns, elements)?;
     if distinct {
@@ -55,22 +56,30 @@ pub fn placed_sets(
 
 /// The sets without those that stand earlier in the list, too.
 fn different_sets(alloc: Global, sets: Vec<GroupSet>) -> Result<Vec<GroupSet>, AllocError>
-    ensures { IfOk result (λ different. different.items ≡ different_sets sets.items) }
+    ensures { IfOk result (λ found. found.items ≡ different bytes_eq sets.items) }
 {
     let mut different = Vec::new(alloc);
     for set in sets {
-        if !is_among(different.as_slice(), &set) {
-            different.push(set)?;
-        }
+        add_set(&mut different, set)?;
     }
     Ok(different)
 }
 
+/// Adds the set behind those that are there, unless one of them has the same columns.
+fn add_set(sets: &mut Vec<GroupSet>, set: GroupSet) -> Result<(), AllocError>
+    ensures { OnOk result (sets.new.items ≡ with_new bytes_eq sets.old.items set) }
+{
+    if is_among(sets.as_slice(), &set) {
+        return Ok(());
+    }
+    Ok(sets.push(set)?)
+}
+
 /// Whether one of the sets has the same columns.
 fn is_among(sets: &[GroupSet], set: &GroupSet) -> bool
-    ensures { result ≡ list_any (bytes_eq set.now) sets.now }
+    ensures { result ≡ list_any (λ other. bytes_eq other set.now) sets.now }
 {
-    sets.iter().any(|other| set.columns == other.columns)
+    sets.iter().any(|other| other.columns == set.columns)
 }
 
 /// The grouping sets that the elements of GROUP BY give, in order: the union of each choice of one set from every
@@ -80,7 +89,7 @@ fn grouping_sets(
     columns: &[Column],
     elements: &[Element],
 ) -> Result<Vec<GroupSet>, AllocError>
-    ensures { IfOk result (λ sets. sets.items ≡ map (places columns.now) (grouping_sets elements.now)) }
+    ensures { IfOk result (λ sets. sets.items ≡ map (indexes columns.now) (grouping_sets elements.now)) }
 {
     let marks = grouping_marks(alloc, columns, elements)?;
     let mut sets = Vec::new(alloc);
@@ -90,14 +99,14 @@ fn grouping_sets(
     Ok(sets)
 }
 
-/// The places that are marked, rising.
+/// The indexes that are marked, rising.
 fn group_set(alloc: Global, marks: &Marks) -> Result<GroupSet, AllocError>
     ensures { IfOk result (λ set. set ≡ marked_from 0 marks.now) }
 {
     let mut columns = Vec::new(alloc);
-    for (place, marked) in marks.marks.iter().enumerate() {
+    for (index, marked) in marks.marks.iter().enumerate() {
         if *marked {
-            columns.push(place)?;
+            columns.push(index)?;
         }
     }
     Ok(GroupSet { columns })

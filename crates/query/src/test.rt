@@ -13,7 +13,7 @@ pub enum Literal {
     Text(Text),
 }
 
-/// What a test compares. `C` stands for a column: it is its name in a query, and its place in a plan.
+/// What a test compares. `C` stands for a column: it is its name in a query, and its index in a plan.
 #[derive(Drop)]
 pub enum Operand<C> {
     Column(C),

@@ -3,7 +3,7 @@ ghost use Rattle.std.specs.Prelude.{◌≡◌, map};
 ghost use Rattle.cells.specs.TotalOrder.{cell_total};
 ghost use Rattle.cells.specs.declared.total.Total.{Total};
 ghost use Rattle.query.specs.Lent.{total_of};
-ghost use Rattle.query.specs.Truth.{among, and_truth, between, compared, is_null, literal_total, meets, negated, not_truth, or_truth, test_truth, truth, value_of};
+ghost use Rattle.query.specs.Truth.{among, and_truth, between, compared, is_null, literal_total, meets, negated, not_truth, or_truth, test_truth, truth, value_at, value_of};
 
 use crate::predicate::{Predicate, PredicateForm};
 use crate::test::{Comparison, Literal, Operand, Test};
@@ -108,12 +108,12 @@ fn literal_value(literal: &Literal) -> Value
     }
 }
 
-/// The value of an operand among the values, and NULL where there is none at its place.
+/// The value of an operand among the values, and NULL where there is none at its index.
 fn value_at<'a, V: Valued>(operand: &'a Operand<usize>, values: &'a [V]) -> Value<'a>
-    ensures { total_of result ≡ value_of operand.now (map V.total values.now) }
+    ensures { total_of result ≡ value_of (value_at (map V.total values.now)) operand.now }
 {
     match operand {
-        Operand::Column(place) => match values.get(*place) {
+        Operand::Column(index) => match values.get(*index) {
             Some(value) => value.value(),
             None => Value::Null,
         },
@@ -186,7 +186,7 @@ fn among(value: Value, literals: &[Literal]) -> Truth
 impl Test<usize> {
     /// The truth of the test over the values.
     fn truth<V: Valued>(&self, row: &[V]) -> Truth
-        ensures { result ≡ test_truth self.now (map V.total row.now) }
+        ensures { result ≡ test_truth (value_at (map V.total row.now)) self.now }
     {
         match self {
             Test::Compare(a, comparison, b) => {
@@ -216,7 +216,7 @@ impl Test<usize> {
 }
 
 impl Predicate<usize> {
-    /// The truth of the predicate over a row. A place that the row does not have is as NULL. Only
+    /// The truth of the predicate over a row. An index that the row does not have is as NULL. Only
     /// `Truth::True` keeps a row. It takes no memory.
     pub fn truth(&self, row: &Row) -> Truth
         ensures { result ≡ truth self.now (map cell_total row.now.cells) }
@@ -224,7 +224,7 @@ impl Predicate<usize> {
         self.truth_of_cells(row.cells())
     }
 
-    /// The truth of the predicate over cells, one at each place that it names. A place that is not there is
+    /// The truth of the predicate over cells, one at each index that it names. An index that is not there is
     /// as NULL. It takes no memory.
     pub fn truth_of_cells(&self, cells: &[Cell]) -> Truth
         ensures { result ≡ truth self.now (map cell_total cells.now) }
@@ -232,7 +232,7 @@ impl Predicate<usize> {
         self.truth_over(cells)
     }
 
-    /// The truth of the predicate over values, one at each place that it names. It takes no memory.
+    /// The truth of the predicate over values, one at each index that it names. It takes no memory.
     pub fn truth_of(&self, values: &[Total]) -> Truth
         ensures { result ≡ truth self.now values.now }
     {

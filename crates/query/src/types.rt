@@ -72,7 +72,7 @@ impl Finder<Text> for TextColumns<'_> {
     }
 }
 
-/// Looks for texts among the items that HAVING names, by their places.
+/// Looks for texts among the items that HAVING names, by their indexes.
 #[derive(Clone, Copy, Drop)]
 struct TextItems<'a> {
     columns: &'a [Column],
@@ -80,10 +80,10 @@ struct TextItems<'a> {
 }
 
 impl Finder<usize> for TextItems<'_> {
-    ghost finds = { λ t place. is_text_at t.columns.now t.items.now place };
+    ghost finds = { λ t index. is_text_at t.columns.now t.items.now index };
 
-    fn finds(&self, place: &usize) -> bool {
-        match self.items.get(*place) {
+    fn finds(&self, index: &usize) -> bool {
+        match self.items.get(*index) {
             Some(item) => is_text_item(self.columns, item),
             None => false,
         }

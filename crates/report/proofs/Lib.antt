@@ -1,7 +1,5 @@
-pub mod ByColumnsLemmas
 pub mod CrossingLemmas
 pub mod PiecesLemmas
-pub mod TableRowsLemmas
 pub mod WaitingLemmas
 pub mod WantsLemmas
 pub mod WatchingLemmas

@@ -1,23 +1,24 @@
--- The rows of the pieces of a trie are those of its map.
+-- The rows of the pieces of a trie, and of its columns, are those of its map.
 use Rattle.std.proofs.Common.{◌≡◌, ◌≤◌, ℕ, List, [], ◌∷◌, ◌++◌, length, refl, sym, ap, ◌∙◌, arith}
-use Rattle.std.specs.FinMap.{get, len}
+use Rattle.std.specs.FinMap.{entries, len, values}
 use Rattle.std.specs.List.{AllByRecursion, flat_map}
 use Rattle.std.specs.List.Sorted.{IsPermutation}
 use Rattle.std.proofs.lemmas.List.{length-append, length-map, map-append}
-use Rattle.std.proofs.lemmas.List.Sorted.{IsPermutation-map}
-use Rattle.cells.specs.Tables.{AreRowsOf, Rows}
-use Rattle.cells.specs.CellOrder.{cell_cmp, cell_cmp-total}
+use Rattle.std.proofs.lemmas.List.Sorted.{IsPermutation-map, IsPermutation-sym, IsPermutation-trans, length_permutation}
+use Rattle.board.specs.Beside.{AreColumnsOf, IsListOf}
+use Rattle.cells.specs.CellOrder.{cell_cmp}
 use Rattle.cells.specs.Laws.{len_left}
-use Rattle.cells.specs.Tables.{keyed_rows, table}
+use Rattle.cells.specs.Tables.{Rows, keyed_rows, table}
 use Rattle.cells.specs.Updates.{AreLeft}
-use Rattle.cells.specs.Values.{RowValue, Table}
+use Rattle.cells.specs.Values.{RowValue}
 use Rattle.cells.specs.declared.cell.Cell.{Cell}
+use Rattle.columns.specs.Columns.{ColumnsValue}
 use Rattle.crew.specs.Gathering.{PieceValue, rows_in}
+use Rattle.crew.specs.Laying.{HoldAll}
 use Rattle.groups.specs.Partials.{rows_of}
 use Rattle.trie.specs.Cuts.{IsPart}
 use Rattle.trie.specs.Maps.{map_of}
-use Rattle.report.specs.Pieces.{HoldRows}
-use Rattle.report.proofs.TableRowsLemmas.{same_map_moves}
+use Rattle.report.specs.Pieces.{ArePiecesOf}
 
 rows_of_keyed : (rs : List RowValue) → rows_of (keyed_rows rs) ≡ rs
 rows_of_keyed [] = refl
@@ -43,20 +44,40 @@ few_pieces hash es (piece ∷ pieces) parts = omega (
   length-map piece (λ (e : Cell × RowValue). e.1),
 )
 
-module _ (rows : Rows) (es : List (Cell × RowValue)) (is : map_of cell_cmp es ≡ rows) (es_once : len (map_of cell_cmp es) ≡ length es) where
-  entries_each : (rs : List RowValue) → AreLeft rs → rows ≡ table rs → IsPermutation (rows_of es) rs
-  entries_each rs left same = rw (← rows_of_keyed rs)
-      (IsPermutation-map (λ (e : Cell × RowValue). e.1) es (keyed_rows rs)
-      (same_map_moves cell_cmp-total es (keyed_rows rs) es_once (once rs left) (is ∙ same)))
+-- the trie's law: entries in which no key comes twice are those of their map
+abbrev Moves : Type 0
+Moves = (es : List (Cell × RowValue)) → len (map_of cell_cmp es) ≡ length es → IsPermutation es (entries (map_of cell_cmp es))
 
-  -- pieces that are the entries, joined in order
-  pub hold_rows : (hash : Cell → ℕ) (pieces : List PieceValue) → AllByRecursion (IsPart hash es) pieces → flat_map (λ piece. piece) pieces ≡ es → HoldRows rows pieces
-  hold_rows hash pieces parts joined =
-      let same : rows_of es ≡ rows_in pieces = ap rows_of (sym joined) ∙ rows_joined pieces in
-      record {
-        all = record {
-          each = λ rs left alike. rw same at (entries_each rs left alike);
-          count = ap length (sym same) ∙ length-map es (λ e. e.1) ∙ sym es_once ∙ ap (λ (m : Rows). len m) is;
-        };
-        few = few_pieces hash es pieces parts;
-      }
+-- their rows, and those of the map
+entries_list : Moves → (es : List (Cell × RowValue)) → len (map_of cell_cmp es) ≡ length es → IsPermutation (rows_of es) (values (map_of cell_cmp es))
+entries_list moves es once = IsPermutation-map (λ (e : Cell × RowValue). e.1) es (entries (map_of cell_cmp es)) (moves es once)
+
+-- what lists the rows of an edition moves what updates leave of them
+pub listed_as : Moves → (rows : Rows) (list rs : List RowValue) → IsListOf rows list → AreLeft rs → rows ≡ table rs → IsPermutation list rs
+listed_as moves rows list rs all left same =
+    let keyed = rw (rows_of_keyed rs) at (entries_list moves (keyed_rows rs) (once rs left)) in
+    IsPermutation-trans list (values rows) rs all.order (rw same (IsPermutation-sym rs (values (table rs)) keyed))
+
+-- pieces that are the entries, joined in order
+pub are_pieces : Moves → (rows : Rows) (es : List (Cell × RowValue)) → map_of cell_cmp es ≡ rows → len (map_of cell_cmp es) ≡ length es →
+    (hash : Cell → ℕ) (pieces : List PieceValue) → AllByRecursion (IsPart hash es) pieces → flat_map (λ piece. piece) pieces ≡ es → ArePiecesOf rows pieces
+are_pieces moves rows es is es_once hash pieces parts joined =
+    let same : rows_of es ≡ rows_in pieces = ap rows_of (sym joined) ∙ rows_joined pieces in
+    record {
+      all = record {
+        order = rw (← same, ← is) (entries_list moves es es_once);
+        count = ap length (sym same) ∙ length-map es (λ e. e.1) ∙ sym es_once ∙ ap (λ (m : Rows). len m) is;
+      };
+      few = few_pieces hash es pieces parts;
+    }
+
+-- columns of these rows, in some order, are those of the edition
+pub hold_edition : (rows : Rows) (list : List RowValue) (columns : ColumnsValue) → IsListOf rows list → HoldAll list columns → AreColumnsOf rows columns
+hold_edition rows list columns all holds = record {
+  list = holds.rows;
+  all = record {
+    order = IsPermutation-trans holds.rows list (values rows) holds.order all.order;
+    count = sym (length_permutation holds.rows list holds.order) ∙ all.count;
+  };
+  held = holds.held;
+}

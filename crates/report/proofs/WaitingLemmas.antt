@@ -9,7 +9,7 @@ use Rattle.board.specs.Editions.{Edition}
 use Rattle.query.specs.Plans.{PlanTree}
 use Rattle.report.specs.Laws.{takes_beginning, takes_last, takes_more, takes_start, takes_whole}
 use Rattle.report.specs.Taken.{TakesBeginning, TakesUpTo}
-use Rattle.report.specs.Waiting.{Awaits, AwaitsThen, Comes, GoesOn, HasAnswer, Heads, IsReportText, TakesFront, UnderWay, Waits, report_first, text_alone}
+use Rattle.report.specs.Waiting.{Awaits, AwaitsThen, Comes, GoesOn, HasAnswer, Heads, IsReportText, TakesFront, UnderWay, Waits, report_first, text_alone, with_report, with_text}
 use Rattle.report.specs.declared.unwritten.Unwritten.{Unwritten}
 
 pub always_on_err : {T E P : Type 0} (r : Result T E) → P → OnErr r P
@@ -54,7 +54,7 @@ takes_with a b whole rest more t = record {
 -- ---- what waits
 
 -- a text comes behind all the rest
-comes_text : (after text : List ℕ) (reports : List UnderWay) (waiting : List ℕ) → Comes after reports waiting → Comes (after ++ text) reports (waiting ++ text)
+pub comes_text : (after text : List ℕ) (reports : List UnderWay) (waiting : List ℕ) → Comes after reports waiting → Comes (after ++ text) reports (waiting ++ text)
 comes_text after text [] waiting text_alone = text_alone
 comes_text after text (report ∷ more) waiting (report_first answer rest has comes) =
     let longer : report.before ++ (answer ++ (rest ++ text)) ≡ (report.before ++ (answer ++ rest)) ++ text =
@@ -72,20 +72,10 @@ comes_report after answer edition plan (report ∷ more) waiting has (report_fir
     sym (append_assoc report.before (first ++ rest) answer ∙ ap (λ t. report.before ++ t) (append_assoc first rest answer)) in
     subst (Comes [] (report ∷ (more ++ whole ∷ []))) longer (report_first first (rest ++ answer) other (comes_report after answer edition plan more rest has comes))
 
-pub awaits_text : (w v : Waits) (waiting text : List ℕ) → v.reports ≡ w.reports → v.after ≡ w.after ++ text → Awaits w waiting → Awaits v (waiting ++ text)
-awaits_text w v waiting text same more awaits = rw (same, more) (comes_text w.after text w.reports waiting awaits)
-
-pub awaits_report : (w v : Waits) (waiting answer : List ℕ) (edition : Edition) (plan : PlanTree) → v.reports ≡ w.reports ++ record { before = w.after; edition = edition; plan = plan } ∷ [] →
-    v.after ≡ [] → HasAnswer edition plan answer → Awaits w waiting → Awaits v (waiting ++ answer)
-awaits_report w v waiting answer edition plan is none has awaits = rw (is, none) (comes_report w.after answer edition plan w.reports waiting has awaits)
-
 -- where no report is under way, the text behind them is all
-only_text : (after : List ℕ) (reports : List UnderWay) (waiting : List ℕ) → reports ≡ [] → Comes after reports waiting → waiting ≡ after
-only_text after [] waiting none text_alone = refl
-only_text after (report ∷ more) waiting none (report_first answer rest has comes) = absurd cc
-
-pub awaits_only_text : (w : Waits) (waiting : List ℕ) → w.reports ≡ [] → Awaits w waiting → waiting ≡ w.after
-awaits_only_text w waiting none awaits = only_text w.after w.reports waiting none awaits
+pub only_text : {after : List ℕ} {reports : List UnderWay} {waiting : List ℕ} → reports ≡ [] → Comes after reports waiting → waiting ≡ after
+only_text none text_alone = refl
+only_text none (report_first answer rest has comes) = absurd cc
 
 pub awaits_nothing : (w : Waits) → w.reports ≡ [] → w.after ≡ [] → Awaits w []
 awaits_nothing w none empty = rw (none, empty) text_alone
@@ -141,36 +131,34 @@ module _ {T : Type 0} (a b : Option (List ℕ)) where
   }
   goes_whole v text (Err e) all beginning nothing = record { front = tt; beginning = beginning }
 
--- nothing was written
-pub waits_all : {T : Type 0} (a : Option (List ℕ)) (v : Waits) (text : List ℕ) (x : T) → Awaits v text → GoesOn a a v text (Ok x)
-waits_all a v text x awaits = record { front = record { rest = text; taken = takes_start a text; awaits = awaits }; beginning = tt }
-
--- a heading waits behind all that was left
-pub front_heading : {T : Type 0} (a b : Option (List ℕ)) (w v : Waits) (waiting heading : List ℕ) (x : T) → TakesFront a b w waiting → v.reports ≡ w.reports → v.after ≡ w.after ++ heading →
-    GoesOn a b v (waiting ++ heading) (Ok x)
-front_heading a b w v waiting heading x f same more = record {
-  front = record { rest = f.rest ++ heading; taken = takes_with a b waiting f.rest heading f.taken; awaits = awaits_text w v f.rest heading same more f.awaits };
+-- a text waits behind all that was left
+pub front_text : {T : Type 0} (a b : Option (List ℕ)) (w : Waits) (waiting text : List ℕ) (x : T) → TakesFront a b w waiting → GoesOn a b (with_text w text) (waiting ++ text) (Ok x)
+front_text a b w waiting text x f = record {
+  front = record { rest = f.rest ++ text; taken = takes_with a b waiting f.rest text f.taken; awaits = comes_text w.after text w.reports f.rest f.awaits };
   beginning = tt;
 }
 
--- and then the answer of a report
+-- nothing was written, and a text waits behind all that waited
+pub waits_text : {T : Type 0} (a : Option (List ℕ)) (w : Waits) (waiting text : List ℕ) (x : T) → Awaits w waiting → GoesOn a a (with_text w text) (waiting ++ text) (Ok x)
+waits_text a w waiting text x awaits = front_text a a w waiting text x record { rest = waiting; taken = takes_start a waiting; awaits = awaits }
+
+-- a heading, and then the answer of a report
 module _ (waits : Waits) (heading : List ℕ) (edition : Edition) (plan : PlanTree) (text : List ℕ) (p : AwaitsThen waits (Heads heading edition plan) text) where
   pub before_answer : AwaitsThen waits (λ more. heading ≡ more) (p.waiting ++ heading)
   before_answer = record { waiting = p.waiting; more = heading; awaits = p.awaits; is_more = refl; joined = refl }
 
-  behind_heading : text ≡ (p.waiting ++ heading) ++ p.is_more.answer
+  pub behind_heading : text ≡ (p.waiting ++ heading) ++ p.is_more.answer
   behind_heading = p.joined ∙ ap (λ more. p.waiting ++ more) p.is_more.joined ∙ sym (append_assoc p.waiting heading p.is_more.answer)
 
   pub begins_answer : (a b : Option (List ℕ)) → TakesBeginning a b (p.waiting ++ heading) → TakesBeginning a b text
   begins_answer a b early = rw behind_heading (begins_first a b (p.waiting ++ heading) p.is_more.answer early)
 
-  pub front_answer : {T : Type 0} (a b : Option (List ℕ)) (w v : Waits) (x : T) → TakesFront a b w (p.waiting ++ heading) →
-      v.reports ≡ w.reports ++ record { before = w.after; edition = edition; plan = plan } ∷ [] → v.after ≡ [] → GoesOn a b v text (Ok x)
-  front_answer a b w v x f is none = rw behind_heading (record {
+  pub front_answer : {T : Type 0} (a b : Option (List ℕ)) (w : Waits) (x : T) → TakesFront a b w (p.waiting ++ heading) → GoesOn a b (with_report w edition plan) text (Ok x)
+  front_answer a b w x f = rw behind_heading (record {
     front = record {
       rest = f.rest ++ p.is_more.answer;
       taken = takes_with a b (p.waiting ++ heading) f.rest p.is_more.answer f.taken;
-      awaits = awaits_report w v f.rest p.is_more.answer edition plan is none p.is_more.has f.awaits;
+      awaits = comes_report w.after p.is_more.answer edition plan w.reports f.rest p.is_more.has f.awaits;
     };
     beginning = tt;
   })
@@ -185,10 +173,10 @@ module _ {U : Type 0} (a b c : Option (List ℕ)) where
   -- what was written, and the text behind all reports
   pub wholly : (w : Waits) (text : List ℕ) (r : Result U Unwritten) → w.reports ≡ [] → TakesFront a b w text → OnOk r (Appends b c w.after) → OnOk r (Appends a c text)
   wholly w text r none f = on_ok_weaker r (λ last.
-      let all : f.rest ≡ w.after = awaits_only_text w f.rest none f.awaits in
+      let all : f.rest ≡ w.after = only_text none f.awaits in
       takes_whole a c text (takes_more a b c text f.rest [] (rw append-nil f.taken) (subst (Appends b c) (sym all) last)))
 
   pub begins_wholly : (w : Waits) (text : List ℕ) (r : Result U Unwritten) → w.reports ≡ [] → TakesFront a b w text → OnErr r (TakesBeginning b c w.after) → OnErr r (TakesBeginning a c text)
   begins_wholly w text r none f = on_err_weaker r (λ late.
-      let all : f.rest ≡ w.after = awaits_only_text w f.rest none f.awaits in
+      let all : f.rest ≡ w.after = only_text none f.awaits in
       takes_last a b c text f.rest f.taken (subst (TakesBeginning b c) (sym all) late))

@@ -1,14 +1,14 @@
 -- What viewers have reported, while what they know grows.
-use Rattle.std.proofs.Common.{◌≡◌, ℕ, zero, suc, ◌+◌, ◌<◌, ◌≤◌, true, false, Some, Result, Ok, Err, List, [], ◌∷◌, ◌++◌, inl, inr, length, map, get_or, refl, sym, ap, subst, ◌∙◌, arith, length-append}
+use Rattle.std.proofs.Common.{◌≡◌, ℕ, zero, suc, ◌+◌, ◌<◌, ◌≤◌, true, false, Some, Result, Ok, Err, List, [], ◌∷◌, ◌++◌, inl, inr, length, map, get_or, refl, sym, ap, subst, ◌∙◌, arith, append_assoc, length-append}
 use mathlib.Core.List.{IsPrefix}
 use Rattle.std.proofs.Math.Seq.{get_or-append_seam}
 use Rattle.std.proofs.lemmas.Bool.{cases_Bool}
 use Rattle.std.proofs.lemmas.Bool.Decides.{nat_tests}
 use Rattle.std.proofs.lemmas.List.{append-nil, get_or_append_left}
-use Rattle.std.proofs.lemmas.Option.{get_or_from_slice_get, slice_get-get_or, slice_get_within}
+use Rattle.std.proofs.lemmas.Option.{slice_get-get_or, slice_get_within}
 use Rattle.std.specs.List.{slice_get}
 use Rattle.std.specs.Prelude.{IfOk, nat_lt}
-use Rattle.board.specs.Editions.{Edition, Editions, History, IsLastOf, Known, Learns, Looks, Note, last_rows}
+use Rattle.board.specs.Editions.{Edition, Editions, History, IsLastOf, Known, KnowsAllOf, Learns, Looks, Note, last_rows}
 use Rattle.board.specs.Editions as keeper
 use Rattle.cells.specs.Tables.{Rows}
 use Rattle.query.specs.Plans.{PlanTree}
@@ -20,18 +20,11 @@ module _ {A : Type 0} where
   prefix_length : (xs ys : List A) → IsPrefix xs ys → length xs ≤ length ys
   prefix_length xs ys a = let e : length (xs ++ a.0) ≡ length ys = ap length a.1 in omega (arith, e, length-append xs a.0)
 
-  at_append : (xs ys : List A) (k : ℕ) (x : A) → slice_get xs k ≡ Some x → slice_get (xs ++ ys) k ≡ Some x
-  at_append xs ys k x e =
-      let within = slice_get_within xs k x e in
-      slice_get-get_or (xs ++ ys) k x (omega (arith, within, length-append xs ys)) ∙ ap Some (get_or_append_left xs ys x k within ∙ get_or_from_slice_get xs k x x e)
-
   -- what stands at a place of a beginning stands there
-  at_longer : (xs ys : List A) (k : ℕ) (x : A) → IsPrefix xs ys → slice_get xs k ≡ Some x → slice_get ys k ≡ Some x
-  at_longer xs ys k x a e = subst (λ (w : List A). slice_get w k ≡ Some x) a.1 (at_append xs a.0 k x e)
-
-  at_shorter : (xs ys : List A) (k : ℕ) (x : A) → IsPrefix xs ys → k < length xs → slice_get ys k ≡ Some x → slice_get xs k ≡ Some x
-  at_shorter xs ys k x a within e =
-      slice_get-get_or xs k x within ∙ ap Some (sym (get_or_append_left xs a.0 x k within) ∙ ap (λ (w : List A). get_or w k x) a.1 ∙ get_or_from_slice_get ys k x x e)
+  at_prefix : (xs ys : List A) (k : ℕ) (d : A) → IsPrefix xs ys → k < length xs → slice_get ys k ≡ slice_get xs k
+  at_prefix xs ys k d a within =
+      slice_get-get_or ys k d (omega (arith, within, prefix_length xs ys a)) ∙ ap Some (ap (λ (w : List A). get_or w k d) (sym a.1) ∙ get_or_append_left xs a.0 d k within)
+      ∙ sym (slice_get-get_or xs k d within)
 
   -- a beginning as long as the whole is the whole
   prefix_whole : (xs ys : List A) → IsPrefix xs ys → length ys ≤ length xs → xs ≡ ys
@@ -56,10 +49,10 @@ shot_on_last h plan shot number rows last same is = record {
 }
 
 shot_longer : (h more : History) (plan : PlanTree) (shot : Sight) → IsPrefix h more → IsShot h plan shot → IsShot more plan shot
-shot_longer h more plan shot begins is = record { rows = is.rows; at = at_longer h more shot.edition is.rows begins is.at; is = is.is }
+shot_longer h more plan shot begins is = record { rows = is.rows; at = at_prefix h more shot.edition is.rows begins (slice_get_within h shot.edition is.rows is.at) ∙ is.at; is = is.is }
 
 shot_shorter : (h more : History) (plan : PlanTree) (shot : Sight) → IsPrefix h more → shot.edition < length h → IsShot more plan shot → IsShot h plan shot
-shot_shorter h more plan shot begins within is = record { rows = is.rows; at = at_shorter h more shot.edition is.rows begins within is.at; is = is.is }
+shot_shorter h more plan shot begins within is = record { rows = is.rows; at = sym (at_prefix h more shot.edition is.rows begins within) ∙ is.at; is = is.is }
 
 -- a report more, on the last edition of a longer history
 pub shots_more : {h : History} {plan : PlanTree} {least : ℕ} {shots : List Sight} (more : History) (shot : Sight) → IsPrefix h more → length more ≡ shot.edition + 1 → least ≤ shot.edition →
@@ -102,21 +95,24 @@ sees_last k more seen begins mine last within schema =
       schema = schema;
     }
 
--- a viewer that was told of a history and looks then sees one that begins with it
-pub learnt_of : (before : Known) (note : Note) (after seen : Known) → Learns before note after → Looks after seen → IsPrefix note.history seen.history
-learnt_of before note after seen learns looks =
-    let at : get_or after.told (length before.told) [] ≡ note.history =
-    ap (λ (w : List History). get_or w (length before.told) []) learns.told ∙ get_or-append_seam before.told note.history [] [] in
+-- a viewer that was told all that the keeper knows and looks then sees a history that begins with it
+pub learnt_of : (k : Editions) (note : Note) (before after seen : Known) → KnowsAllOf k note → Learns before note after → Looks after seen → IsPrefix (keeper.history k) seen.history
+learnt_of k note before after seen knows learns looks =
+    let at : get_or after.told (length before.told) [] ≡ keeper.history k =
+    ap (λ (w : List History). get_or w (length before.told) []) learns.told ∙ get_or-append_seam before.told note.history [] [] ∙ knows.history in
     let within : length before.told < length after.told = omega (arith, ap length learns.told, length-append before.told (note.history ∷ [])) in
     subst (λ (h : History). IsPrefix h seen.history) at (looks.learnt (length before.told) [] within)
 
 -- a viewer that makes no reports more, and one more behind so many
-pub watched_none : (before : Watching) → HasWatched (record { before = before; count = 0 }) before
-watched_none before = record { board = refl; schema = refl; plan = refl; many = omega arith }
+pub watched_none : (before : Watching) → HasWatched before 0 before
+watched_none before = record { seen = ([], append-nil _); board = refl; schema = refl; plan = refl; many = omega arith }
 
-pub watched_more : (before middle after : Watching) (count : ℕ) → HasWatched (record { before = before; count = count }) middle → HasWatched (record { before = middle; count = 1 }) after →
-    HasWatched (record { before = before; count = count + 1 }) after
+pub watched_more : (before middle after : Watching) (count : ℕ) → HasWatched before count middle → HasWatched middle 1 after → HasWatched before (count + 1) after
 watched_more before middle after count watched once = record {
+  seen = (
+    watched.seen.0 ++ once.seen.0,
+    sym (append_assoc before.viewer.history watched.seen.0 once.seen.0) ∙ ap (λ h. h ++ once.seen.0) watched.seen.1 ∙ once.seen.1,
+  );
   board = once.board ∙ watched.board;
   schema = once.schema ∙ watched.schema;
   plan = once.plan ∙ watched.plan;

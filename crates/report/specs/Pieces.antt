@@ -12,7 +12,7 @@ use Rattle.trie.specs.Maps.{RiseByHash, map_of}
 use Rattle.trie.specs.declared.cutting.Cutting.{Cutting}
 
 -- the pieces have each row of the map once, and each piece has one at least
-pub record HoldRows (rows : Rows) (pieces : List PieceValue) : Type 0 where
+pub record ArePiecesOf (rows : Rows) (pieces : List PieceValue) : Type 0 where
   pub all : IsListOf rows (rows_in pieces)
   pub few : length pieces ≤ length (rows_in pieces)
 

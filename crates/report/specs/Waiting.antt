@@ -28,6 +28,14 @@ pub record Waits : Type 0 where
   pub reports : List UnderWay
   pub after : List ℕ
 
+-- a text more waits behind all the rest
+abbrev pub with_text : Waits → List ℕ → Waits
+with_text w text = record { reports = w.reports; after = w.after ++ text }
+
+-- one report more is under way, and what waited behind the others waits before it
+abbrev pub with_report : Waits → Edition → PlanTree → Waits
+with_report w edition plan = record { reports = w.reports ++ record { before = w.after; edition = edition; plan = plan } ∷ []; after = [] }
+
 -- what is known of a report whose thread was started
 abbrev pub under_way : {H : Type 0} → Pending H → UnderWay
 under_way p = record { before = p.before.items; edition = p.answer.promise.edition.value; plan = p.answer.promise.plan.value }

@@ -1,6 +1,7 @@
 -- Viewers that report in threads of their own, and what they have reported.
-use Rattle.std.specs.Prelude.{◌≡◌, ◌≤◌, ◌+◌, ℕ, suc, List, [], ◌∷◌, Some, Result, IfOk, length, nat_lt, if◌then◌else◌}
+use Rattle.std.specs.Prelude.{◌≡◌, ◌≤◌, ◌+◌, ℕ, suc, List, [], ◌∷◌, ◌++◌, Some, Result, IfOk, length, nat_lt, if◌then◌else◌}
 use Rattle.std.specs.List.{slice_get}
+use mathlib.Core.List.{IsPrefix}
 use Rattle.board.specs.Editions.{Edition, Editions, History, Known}
 use Rattle.board.specs.Editions as keeper
 use Rattle.cells.specs.Tables.{Rows}
@@ -37,27 +38,42 @@ pub record Watching : Type 0 where
   pub plan : PlanTree
   pub shots : List Sight
 
--- a viewer whose thread was started: as it was then, and how many reports it is to make
+-- a viewer whose thread was started: its number, as it was then, and how many reports it is to make
 pub record Watch : Type 0 where
+  pub number : ℕ
   pub before : Watching
   pub count : ℕ
 
--- a viewer that is to make so many reports of a plan
-abbrev pub watch_from : Known → PlanTree → ℕ → Watch
-watch_from viewer plan count = record { before = record { viewer = viewer; plan = plan; shots = [] }; count = count }
+-- a viewer before its first report
+abbrev pub unwatched : Known → PlanTree → Watching
+unwatched viewer plan = record { viewer = viewer; plan = plan; shots = [] }
 
--- it made so many reports more, and all else but what it has seen stays
-pub record HasWatched (watch : Watch) (after : Watching) : Type 0 where
-  pub board : after.viewer.board ≡ watch.before.viewer.board
-  pub schema : after.viewer.schema ≡ watch.before.viewer.schema
-  pub plan : after.plan ≡ watch.before.plan
-  pub many : length after.shots ≡ length watch.before.shots + watch.count
+-- a viewer of this number that is to make so many reports of a plan
+abbrev pub watch_from : ℕ → Known → PlanTree → ℕ → Watch
+watch_from number viewer plan count = record { number = number; before = unwatched viewer plan; count = count }
+
+-- how many viewers were begun, and those of them that are still here
+pub record AudienceValue : Type 0 where
+  pub begun : ℕ
+  pub watches : List Watch
+
+-- one viewer more was begun, of the next number
+abbrev pub with_watch : AudienceValue → Known → PlanTree → ℕ → AudienceValue
+with_watch a viewer plan count = record { begun = a.begun + 1; watches = a.watches ++ watch_from (a.begun + 1) viewer plan count ∷ [] }
+
+-- it made so many reports more: it has seen a history that begins with all that it had seen, and all else stays
+pub record HasWatched (before : Watching) (count : ℕ) (after : Watching) : Type 0 where
+  pub seen : IsPrefix before.viewer.history after.viewer.history
+  pub board : after.viewer.board ≡ before.viewer.board
+  pub schema : after.viewer.schema ≡ before.viewer.schema
+  pub plan : after.plan ≡ before.plan
+  pub many : length after.shots ≡ length before.shots + count
 
 -- the first of those that were started came back
 pub record ComesBack (old new : List Watch) (result : Result Watching Want) : Type 0 where
   pub watch : Watch
   pub first : old ≡ watch ∷ new
-  pub watched : IfOk result (HasWatched watch)
+  pub watched : IfOk result (HasWatched watch.before watch.count)
 
 -- the viewer is one of the keeper's board and table
 pub record IsOf (k : Editions) (viewer : Known) : Type 0 where

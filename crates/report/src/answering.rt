@@ -1,26 +1,26 @@
 //! The answer of a plan on a snapshot.
-ghost use Rattle.std.specs.Prelude.{◌≡◌, ◌⊎◌, List, IfErr, IfOk};
-ghost use Rattle.cells.specs.Tables.{table};
-ghost use Rattle.cells.specs.Updates.{AreLeft};
-ghost use Rattle.cells.specs.Values.{RowValue};
+ghost use Rattle.std.specs.Prelude.{◌≡◌, ◌≤◌, ◌⊎◌, IfErr, IfOk, IfSome};
+ghost use Rattle.std.specs.FinMap.{len};
+ghost use Rattle.board.specs.Beside.{AreColumnsOf};
+ghost use Rattle.board.specs.Limits.{row_limit};
 ghost use Rattle.cells.specs.declared.refused.Refused.TheVariants as Refused;
-ghost use Rattle.groups.specs.Groups.{report_rows};
-ghost use Rattle.report.specs.Reports.{report_text};
 ghost use Rattle.report.specs.Standing.{StandsForEdition};
+ghost use Rattle.report.specs.Waiting.{IsReportText};
 
 use crate::limits::COLUMNS_FROM;
 use crate::pieces::pieces_of;
 use crate::printing::text;
 use crate::want::Want;
-use board::Snapshot;
-use cells::{Cell, KeyHash, Refused, Tuple};
-use crew::{Gate, gather};
+use board::{Root, Snapshot};
+use cells::{Cell, KeyHash, Refused, Row, Tuple};
+use columns::Columns;
+use crew::{Gate, columns_of, gather, gather_rows};
 use groups::{Partial, any_order};
 use query::Plan;
 use std::alloc::{AllocError, Global};
 use std::sync::Wait;
 use std::thread::Threads;
-use trie::Cutting;
+use trie::{Cutting, a_map_has_its_entries};
 
 /// The text of the plan's report over the rows of the snapshot, in whatever order they came and however they are cut
 /// into pieces. As many workers as the smaller of `workers`, taken as 1 at least and
@@ -40,8 +40,7 @@ pub fn answer<H: KeyHash<Cell> + KeyHash<Tuple> + Send + Sync, G: Gate, R: Threa
     cutting: &Cutting,
     gate: &G,
 ) -> Result<Vec<u8>, Refused>
-    ensures text { (rs : List RowValue) → AreLeft rs → snapshot.now.rows ≡ table rs →
-        IfOk result (λ text. text.items ≡ report_text plan.now (report_rows plan.now rs)) }
+    ensures text { IfOk result (λ text. IsReportText snapshot.now.rows plan.now text.items) }
     ensures refused { IfErr result (λ e. (e ≡ Refused.NoWorker) ⊎ (e ≡ Refused.OutOfMemory)) }
 {
     let answering = Answering {
@@ -59,8 +58,8 @@ pub fn answer<H: KeyHash<Cell> + KeyHash<Tuple> + Send + Sync, G: Gate, R: Threa
 /// into pieces, from how many rows on an edition has columns, and who is told of the pieces.
 ///
 /// No text depends on these. The first report on an edition of `columns_from` rows or more folds its rows; the second one
-/// lays out their columns, by as many workers, and it and all later ones go over the columns instead: then there are no
-/// pieces, and the gate is told of none. Where the columns can't be made, or a plan can't be answered by them, the rows are
+/// lays out their columns, by as many workers, and the gate is told of the pieces that these take. It and all later ones go
+/// over the columns instead: then there are no pieces, and the gate is told of none. Where the columns can't be made, or a plan can't be answered by them, the rows are
 /// folded.
 #[derive(Drop)]
 pub struct Answering<'a, R, G> {
@@ -91,18 +90,18 @@ impl<'a, R: Threads + Wait, G: Gate> Answering<'a, R, G> {
         snapshot: &Snapshot<H>,
         plan: &Plan,
     ) -> Result<Vec<u8>, Want>
-        ensures { (rs : List RowValue) → AreLeft rs → snapshot.now.rows ≡ table rs →
-            IfOk result (λ text. text.items ≡ report_text plan.now (report_rows plan.now rs)) }
+        ensures { IfOk result (λ text. IsReportText snapshot.now.rows plan.now text.items) }
     {
-        // This does nothing: it is the law that the order of rows does not count.
+        // These do nothing: the order of rows does not count, and a list of an edition's rows has those of its map.
         any_order::<H>();
+        a_map_has_its_entries::<Cell, Row>();
         let partial = self.partial(snapshot, plan)?;
         let rows = Partial::finish(self.alloc, plan, partial)?;
         Ok(text(self.alloc, plan, rows.as_slice())?)
     }
 
-    /// The partial result of the plan on the snapshot: by its columns, where it has so many rows and that goes, and else by
-    /// its pieces.
+    /// The partial result of the plan on the snapshot: by its columns, where it has so many rows and that goes, and else of
+    /// the pieces that its rows are cut into.
     fn partial<H: KeyHash<Cell> + KeyHash<Tuple> + Send + Sync>(
         &self,
         snapshot: &Snapshot<H>,
@@ -116,17 +115,6 @@ impl<'a, R: Threads + Wait, G: Gate> Answering<'a, R, G> {
                 return Ok(partial);
             }
         }
-        self.partial_by_pieces(snapshot, plan)
-    }
-
-    /// The partial result of the plan on the snapshot, whose rows are cut into pieces.
-    fn partial_by_pieces<H: KeyHash<Cell> + KeyHash<Tuple> + Send + Sync>(
-        &self,
-        snapshot: &Snapshot<H>,
-        plan: &Plan,
-    ) -> Result<Partial<H>, Want>
-        ensures { IfOk result (StandsForEdition H.KeyHash-2.hash_of snapshot.now.rows plan.now) }
-    {
         let pieces = pieces_of(self.alloc, snapshot.root(), &self.cutting)?;
         let partial = gather(
             self.rt,
@@ -138,4 +126,63 @@ impl<'a, R: Threads + Wait, G: Gate> Answering<'a, R, G> {
         )?;
         Ok(partial)
     }
+
+    /// The partial result of the plan on the snapshot, by its columns. None where there are no columns, as at the first call for
+    /// an edition, or where the plan can't be answered by them: then the rows are to be folded.
+    fn partial_by_columns<H: KeyHash<Cell> + KeyHash<Tuple> + Send + Sync>(
+        &self,
+        snapshot: &Snapshot<H>,
+        plan: &Plan,
+    ) -> Result<Option<Partial<H>>, Want>
+        ensures { IfOk result (λ made. IfSome made (StandsForEdition H.KeyHash-2.hash_of snapshot.now.rows plan.now)) }
+    {
+        let root = snapshot.root();
+        let width = snapshot.schema().columns().len();
+        let key = snapshot.schema().key();
+        let Some(shelf) = snapshot.columns_if_asked_before() else {
+            return Ok(None);
+        };
+        let rt = self.rt;
+        let alloc = self.alloc;
+        let workers = self.workers;
+        let cutting = &self.cutting;
+        let gate = self.gate;
+        let found = shelf.value_or_make(
+            rt,
+            move || -> Option<Columns<H>>
+                requires { len root.now ≤ row_limit }
+                ensures { IfSome result (AreColumnsOf root.entry.now) }
+            { laid_out(rt, alloc, root, width, key, workers, cutting, gate) },
+        );
+        let Some(columns) = found else {
+            return Ok(None);
+        };
+        let rows = root.len();
+        let made = gather_rows(rt, alloc, plan, &columns, rows, workers)?;
+        Ok(made)
+    }
+}
+
+/// The columns of an edition's rows, for a table of `width` columns, of which the key's is left out. None where memory for
+/// them or a worker was refused.
+fn laid_out<H: KeyHash<Cell> + KeyHash<Tuple> + Send + Sync, G: Gate, R: Threads + Wait>(
+    rt: &R,
+    alloc: Global,
+    root: &Root<H>,
+    width: usize,
+    key: usize,
+    workers: u64,
+    cutting: &Cutting,
+    gate: &G,
+) -> Option<Columns<H>>
+    requires few { len root.now ≤ row_limit }
+    ensures { IfSome result (AreColumnsOf root.now) }
+{
+    let Ok(pieces) = pieces_of(alloc, root, cutting) else {
+        return None;
+    };
+    let Ok(columns) = columns_of(rt, alloc, pieces.as_slice(), width, key, workers, gate) else {
+        return None;
+    };
+    Some(columns)
 }

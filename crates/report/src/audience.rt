@@ -1,6 +1,6 @@
 //! The threads of viewers.
-ghost use Rattle.std.specs.Prelude.{◌≡◌, ◌++◌, ◌∷◌, [], IfOk, IfSome, IsNone, OnOk};
-ghost use Rattle.report.specs.Watching.{ComesBack, HasWatched, watch_from};
+ghost use Rattle.std.specs.Prelude.{◌≡◌, ◌≤◌, [], IfOk, IfSome, IsNone, OnErr, OnOk};
+ghost use Rattle.report.specs.Watching.{ComesBack, HasWatched, unwatched, with_watch};
 
 use crate::starting::Starter;
 use crate::want::Want;
@@ -21,14 +21,15 @@ use std::thread::{Promise, PromisedHandle, Threads};
 struct WatchOf<H: KeyHash<Cell>> {
     viewer: snapshot::Snapshot<Viewer<H>>,
     plan: snapshot::Snapshot<Plan>,
+    number: u64,
     count: u64,
 }
 
 impl<H: KeyHash<Cell>> Promise<Result<Watcher<H>, Want>> for WatchOf<H> {
     ghost use Rattle.std.specs.Prelude.{IfOk};
-    ghost use Rattle.report.specs.Watching.{HasWatched, watch_from};
+    ghost use Rattle.report.specs.Watching.{HasWatched, unwatched};
 
-    ghost kept_by = { λ promise result. IfOk result (HasWatched (watch_from promise.viewer.value promise.plan.value promise.count)) };
+    ghost kept_by = { λ promise result. IfOk result (HasWatched (unwatched promise.viewer.value promise.plan.value) promise.count) };
 }
 
 /// A viewer's thread, which was started.
@@ -40,37 +41,39 @@ struct Started<H: KeyHash<Cell>> {
 /// Viewers that report in threads of their own, in the order of their numbers.
 #[derive(Drop)]
 pub struct Audience<H: KeyHash<Cell>> {
+    begun: u64,
     started: VecDeque<Started<H>>,
 }
 
 impl<H: KeyHash<Cell>> Model for Audience<H> {
-    ghost use Rattle.std.specs.Prelude.{List, map};
+    ghost use Rattle.std.specs.Prelude.{map};
     ghost use Rattle.std.specs.Coded.{codes};
     ghost use Rattle.board.specs.Editions.{coded_known};
     ghost use Rattle.query.specs.Codes.{coded_predicate};
     ghost use Rattle.report.specs.Audiences.{watch_of};
-    ghost use Rattle.report.specs.Watching.{Watch};
+    ghost use Rattle.report.specs.Watching.{AudienceValue};
 
-    ghost Value = { List Watch };
+    ghost Value = { AudienceValue };
 
     ghost coded = { Prim.hlevel (codes, coded_known, coded_predicate) };
 
-    ghost view = { λ a. map watch_of a.started.items };
+    ghost view = { λ a. record { begun = a.begun; watches = map watch_of a.started.items } };
 }
 
 impl<H: KeyHash<Cell>> Audience<H> {
     /// Nobody watches. It takes no memory.
     pub fn new(alloc: Global) -> Audience<H>
-        ensures { result ≡ [] }
+        ensures { result ≡ record { begun = 0; watches = [] } }
     {
         Audience {
+            begun: 0,
             started: VecDeque::new(alloc),
         }
     }
 
     /// Starts a thread in which the viewer answers the plan so many times, each time on a snapshot that it takes then.
-    /// The gate is told of each snapshot before the answer on it, with the viewer's number, which counts from 1 those
-    /// that were started here.
+    /// The gate is told of each snapshot before the answer on it, with the viewer's number. Numbers count from 1 the
+    /// viewers that were begun here, also those who are gone, so none is given twice.
     ///
     /// [`Want::Worker`] where the thread can't be started, [`Want::Memory`] where a growth was refused.
     pub fn begin<'s, 'e: 's, R: Threads + Wait + Sync, G: Gate>(
@@ -82,9 +85,13 @@ impl<H: KeyHash<Cell>> Audience<H> {
     ) -> Result<(), Want>
     where
         H: KeyHash<Tuple> + Send + Sync + 's,
-        ensures watching { OnOk result (self.new ≡ self.old ++ watch_from viewer plan count ∷ []) }
+        ensures watching { OnOk result (self.new ≡ with_watch self.old viewer plan count) }
+        ensures onward { OnErr result (self.old.begun ≤ self.new.begun) }
     {
-        let number = self.started.len() as u64 + 1;
+        let Some(number) = self.begun.checked_add(1) else {
+            return Err(Want::Memory);
+        };
+        self.begun = number;
         let handle = start(starter, viewer, plan, number, count)?;
         self.started.push_back(Started { handle })?;
         Ok(())
@@ -93,8 +100,9 @@ impl<H: KeyHash<Cell>> Audience<H> {
     /// Waits for the viewer of the least number that is still here. It has made its reports, or met want of memory or of a
     /// worker. None where nobody is left.
     pub fn next<R: Threads>(&mut self, rt: &R) -> Option<Result<Watcher<H>, Want>>
-        ensures some { IfSome result (ComesBack self.old self.new) }
-        ensures none { IsNone result → self.old ≡ [] }
+        ensures some { IfSome result (ComesBack self.old.watches self.new.watches) }
+        ensures none { IsNone result → self.old.watches ≡ [] }
+        ensures begun { self.new.begun ≡ self.old.begun }
     {
         let Started { handle } = self.started.pop_front()?;
         Some(handle.join(rt))
@@ -124,6 +132,7 @@ fn start<
 ) -> Result<PromisedHandle<Result<Watcher<H>, Want>, WatchOf<H>>, Want>
     ensures viewer { IfOk result (λ handle. handle.promise.viewer.value ≡ viewer) }
     ensures plan { IfOk result (λ handle. handle.promise.plan.value ≡ plan) }
+    ensures number { IfOk result (λ handle. handle.promise.number ≡ number) }
     ensures count { IfOk result (λ handle. handle.promise.count ≡ count) }
 {
     // The law by which a viewer may be moved to the thread; it does nothing.
@@ -131,11 +140,12 @@ fn start<
     let promise = WatchOf {
         viewer: snapshot::Snapshot::of(&viewer),
         plan: snapshot::Snapshot::of(&plan),
+        number,
         count,
     };
     let answering = starter.answering;
     let job = move || -> Result<Watcher<H>, Want>
-        ensures { IfOk result (HasWatched (watch_from viewer plan count)) }
+        ensures { IfOk result (HasWatched (unwatched viewer plan) count) }
     { Watcher::new(answering.alloc, viewer, plan).watched(&answering, number, count) };
     match starter.scope.spawn_with(promise, job) {
         Ok(handle) => Ok(handle),

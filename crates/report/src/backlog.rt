@@ -3,7 +3,7 @@ ghost use Rattle.std.specs.Prelude.{◌≡◌, ℕ, ◌+◌, ◌<◌, ◌≤◌,
 ghost use Rattle.std.specs.Io.KnownBytes.{Appends};
 ghost use Rattle.report.specs.Limits.{under_way_limit};
 ghost use Rattle.report.specs.Taken.{TakesBeginning};
-ghost use Rattle.report.specs.Waiting.{Awaits, AwaitsThen, Heads, WritesAll, WritesOn};
+ghost use Rattle.report.specs.Waiting.{Awaits, AwaitsThen, Heads, WritesAll, WritesOn, with_report, with_text};
 ghost use Rattle.report.specs.declared.unwritten.Unwritten.TheVariants as unwritten;
 ghost use Rattle.report.specs.declared.want.Want.{Want as Wanted};
 ghost use Rattle.report.specs.declared.want.Want.TheVariants as want;
@@ -80,23 +80,9 @@ impl<H: KeyHash<Cell>> Backlog<H> {
     /// The text waits behind all the rest.
     fn push_text(&mut self, text: &[u8]) -> Result<(), AllocError>
         ensures reports { self.new.reports ≡ self.old.reports }
-        ensures after { OnOk result (self.new.after ≡ self.old.after ++ text.now) }
+        ensures text { OnOk result (self.new ≡ with_text self.old text.now) }
     {
         self.after.extend_from_slice(text)
-    }
-
-    /// The report waits behind all the rest.
-    fn push_report(
-        &mut self,
-        answer: PromisedHandle<Result<Vec<u8>, Want>, AnswerOf<H>>,
-    ) -> Result<(), AllocError>
-        requires { length self.old.reports < under_way_limit }
-        ensures reports { OnOk result (self.new.reports ≡ self.old.reports ++ record { before = self.old.after; edition = answer.promise.edition.value; plan = answer.promise.plan.value } ∷ []) }
-        ensures after { OnOk result (self.new.after ≡ []) }
-    {
-        let before = mem::replace(&mut self.after, Vec::new(self.alloc));
-        self.reports.push_back(Pending { before, answer })?;
-        Ok(())
     }
 
     /// Waits for the oldest report, and writes what waited up to its end.
@@ -116,7 +102,7 @@ impl<H: KeyHash<Cell>> Backlog<H> {
     fn make_room<O: Out, R: Threads>(&mut self, rt: &R, out: &mut O) -> Result<(), Unwritten>
         requires { O.faults out.old + 1 < 2 ^ 64 }
         ensures room { OnOk result (length self.new.reports < under_way_limit) }
-        ensures early { length self.old.reports < under_way_limit → self.new ≡ self.old }
+        ensures early { length self.old.reports < under_way_limit → (self.new ≡ self.old) × (out.new ≡ out.old) }
         ensures goes_on { WritesOn O.taken O.faults out.old out.new self.new (Awaits self.old) result }
     {
         if self.len() < MAX_REPORTS {
@@ -134,6 +120,7 @@ impl<H: KeyHash<Cell>> Backlog<H> {
     ) -> Result<(), Unwritten>
         requires { O.faults out.old + 1 < 2 ^ 64 }
         ensures room { OnOk result (length self.new.reports < under_way_limit) }
+        ensures early { length self.old.reports < under_way_limit → (out.new ≡ out.old) × OnOk result (self.new ≡ with_text self.old heading.now) }
         ensures goes_on { WritesOn O.taken O.faults out.old out.new self.new (AwaitsThen self.old (λ more. heading.now ≡ more)) result }
     {
         self.make_room(rt, out)?;
@@ -178,7 +165,8 @@ impl<H: KeyHash<Cell>> Backlog<H> {
     }
 
     /// Starts a report in a thread of its own. The heading and then the answer are written once all that waits is.
-    /// Where [`MAX_REPORTS`] are under way, the oldest is waited for first, and written.
+    /// Where [`MAX_REPORTS`] are under way, the oldest is waited for first, and written; where fewer are, none is waited
+    /// for and nothing is written.
     ///
     /// It wants a worker where a thread can't be started, or the report that was waited for met that, and memory where a
     /// growth was refused, here or in it. A report that is waited for ends before anything is written for it.
@@ -193,11 +181,29 @@ impl<H: KeyHash<Cell>> Backlog<H> {
     where
         H: KeyHash<Tuple> + Send + Sync + 's,
         requires faults { O.faults out.old + 1 < 2 ^ 64 }
-        ensures { WritesOn O.taken O.faults out.old out.new self.new (AwaitsThen self.old (Heads heading.now snapshot plan)) result }
+        ensures goes_on { WritesOn O.taken O.faults out.old out.new self.new (AwaitsThen self.old (Heads heading.now snapshot plan)) result }
+        ensures early { length self.old.reports < under_way_limit → (out.new ≡ out.old) × OnOk result (self.new ≡ with_report (with_text self.old heading.now) snapshot plan) }
     {
         self.make_way(starter.answering.rt, out, heading)?;
+        self.push_report(starter, snapshot, plan)?;
+        Ok(())
+    }
+
+    /// Starts a report, which waits behind all the rest.
+    fn push_report<'s, 'e: 's, R: Threads + Wait + Sync, G: Gate>(
+        &mut self,
+        starter: &Starter<'_, 's, 'e, R, G>,
+        snapshot: Snapshot<H>,
+        plan: Plan,
+    ) -> Result<(), Want>
+    where
+        H: KeyHash<Tuple> + Send + Sync + 's,
+        requires { length self.old.reports < under_way_limit }
+        ensures { OnOk result (self.new ≡ with_report self.old snapshot plan) }
+    {
         let answer = starter.start(snapshot, plan)?;
-        self.push_report(answer)?;
+        let before = mem::replace(&mut self.after, Vec::new(self.alloc));
+        self.reports.push_back(Pending { before, answer })?;
         Ok(())
     }
 

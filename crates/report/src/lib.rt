@@ -5,7 +5,6 @@
 mod answering;
 mod audience;
 mod backlog;
-mod by_columns;
 mod failing;
 mod limits;
 mod out;

@@ -3,7 +3,7 @@ ghost use Rattle.std.specs.Prelude.{◌≡◌, ◌+◌, ◌++◌, ◌∷◌, [],
 ghost use mathlib.Core.List.{IsPrefix};
 ghost use Rattle.board.specs.Editions.{IsLastOf, Looks, edition, history, published};
 ghost use Rattle.report.specs.Waiting.{IsReportText};
-ghost use Rattle.report.specs.Watching.{GoUpTo, HasWatched, IsLastEdition, IsLastShot, IsOf, IsShot, up_to as up_to_last};
+ghost use Rattle.report.specs.Watching.{GoUpTo, HasWatched, IsLastEdition, IsLastShot, IsOf, IsShot, unwatched, up_to as up_to_last};
 
 use crate::answering::Answering;
 use crate::want::Want;
@@ -76,7 +76,7 @@ impl<'a, R: Threads + Wait, G: Gate> Answering<'a, R, G> {
 impl<H: KeyHash<Cell>> Watcher<H> {
     /// The viewer before its first report. It takes no memory.
     pub(crate) fn new(alloc: Global, viewer: Viewer<H>, plan: Plan) -> Watcher<H>
-        ensures { result ≡ record { viewer = viewer; plan = plan; shots = [] } }
+        ensures { result ≡ unwatched viewer plan }
     {
         Watcher {
             viewer,
@@ -94,7 +94,7 @@ impl<H: KeyHash<Cell> + KeyHash<Tuple> + Send + Sync> Watcher<H> {
         number: u64,
         count: u64,
     ) -> Result<Watcher<H>, Want>
-        ensures { IfOk result (HasWatched (record { before = self; count = count })) }
+        ensures { IfOk result (HasWatched self count) }
     {
         let mut watcher = self;
         watcher.watch(answering, number, count)?;
@@ -108,7 +108,7 @@ impl<H: KeyHash<Cell> + KeyHash<Tuple> + Send + Sync> Watcher<H> {
         number: u64,
         count: u64,
     ) -> Result<(), Want>
-        ensures { OnOk result (HasWatched (record { before = self.old; count = count }) self.new) }
+        ensures { OnOk result (HasWatched self.old count self.new) }
     {
         for _ in 0..count {
             self.watch_once(answering, number)?;
@@ -122,7 +122,7 @@ impl<H: KeyHash<Cell> + KeyHash<Tuple> + Send + Sync> Watcher<H> {
         answering: &Answering<'_, R, G>,
         number: u64,
     ) -> Result<(), Want>
-        ensures { OnOk result (HasWatched (record { before = self.old; count = 1 }) self.new) }
+        ensures { OnOk result (HasWatched self.old 1 self.new) }
     {
         let shot = look(answering, &mut self.viewer, &self.plan, number)?;
         self.shots.push(shot)?;

@@ -1,9 +1,7 @@
 -- The blocks of lines, one after another: there are some, and no others.
-use Rattle.std.proofs.Common.{◌≡◌, ◌⊎◌, ◌<◌, ◌≤◌, ℕ, true, false, Result, Ok, Err, List, [], ◌∷◌, ◌++◌, inl, inr, length, reverse, refl, sym, ap, ap₂, subst, ◌∙◌, append_assoc, arith}
-use Rattle.std.proofs.lemmas.Bool.{cases_Bool}
-use Rattle.std.proofs.lemmas.Bool.Decides.{nat_tests}
+use Rattle.std.proofs.Common.{◌≡◌, ◌⊎◌, ◌<◌, ◌≤◌, ℕ, Result, Ok, Err, List, [], ◌∷◌, ◌++◌, inl, inr, length, reverse, refl, sym, ap, ap₂, subst, ◌∙◌, append_assoc, arith}
+use Rattle.std.proofs.lemmas.Bool.{cases_lt}
 use Rattle.std.proofs.lemmas.Grind.{reverse_onto}
-use Rattle.std.specs.Prelude.{nat_lt}
 use Rattle.std.specs.Str.Lines.{lines}
 use Rattle.cells.specs.declared.cell.Cell.{Cell}
 use Rattle.cells.specs.declared.refused.Refused.TheVariants.{Limit}
@@ -17,15 +15,6 @@ use Rattle.script.proofs.SaysLemmas.{EachAnswered, OneAnswer, one_report, some_r
 
 abbrev Lines : Type 0
 Lines = List (List ℕ)
-
-above_is : (m n : ℕ) → nat_lt n m ≡ true → n < m
-above_is m n e = grind (arith, nat_tests)
-
-within_is : (m n : ℕ) → nat_lt n m ≡ false → m ≤ n
-within_is m n e = grind (arith, nat_tests)
-
-within_or_not : (m n : ℕ) → (m ≤ n) ⊎ (n < m)
-within_or_not m n = elim (cases_Bool (nat_lt n m)) [ inl above ↦ inr (above_is m n above) | inr within ↦ inl (within_is m n within) ]
 
 -- ---- each line has a block, and so each script an output
 
@@ -48,11 +37,11 @@ module _ (each : EachAnswered) (hash : Cell → ℕ) (givens : Givens) where
       (bytes ++ rest, line_first bytes rest is are)
 
   pub some_output : (script : List ℕ) → (bytes : List ℕ) × IsOutput hash givens script bytes
-  some_output script = go (within_or_not (length script) script_limit) (within_or_not (length givens.parts) part_limit) where
-    go : (length script ≤ script_limit) ⊎ (script_limit < length script) → (length givens.parts ≤ part_limit) ⊎ (part_limit < length givens.parts) → (bytes : List ℕ) × IsOutput hash givens script bytes
-    go (inr long) few = (refusal 0 (Line Limit), too_much (inl long))
-    go (inl short) (inr many) = (refusal 0 (Line Limit), too_much (inr many))
-    go (inl short) (inl few) = let (bytes, are) = some_blocks (lines script) [] in (bytes, of_lines short few are)
+  some_output script = go (cases_lt script_limit (length script)) (cases_lt part_limit (length givens.parts)) where
+    go : (script_limit < length script) ⊎ (length script ≤ script_limit) → (part_limit < length givens.parts) ⊎ (length givens.parts ≤ part_limit) → (bytes : List ℕ) × IsOutput hash givens script bytes
+    go (inl long) few = (refusal 0 (Line Limit), too_much (inl long))
+    go (inr short) (inl many) = (refusal 0 (Line Limit), too_much (inr many))
+    go (inr short) (inr few) = let (bytes, are) = some_blocks (lines script) [] in (bytes, of_lines short few are)
 
 -- ---- and no other
 

@@ -64,17 +64,6 @@ does_so givens before line desk r stands does = ap (λ t. deed t line) (declared
 
 -- ---- lines that leave the keeper
 
--- nothing is declared, updated or published
-abbrev IsQuiet : Result Deed Fault → Type 0
-IsQuiet (Ok Nothing) = Unit {0}
-IsQuiet (Ok (Declares t)) = ⊥
-IsQuiet (Ok (Loads t listing)) = ⊥
-IsQuiet (Ok (Updates more)) = ⊥
-IsQuiet (Ok Publishes) = ⊥
-IsQuiet (Ok (Reports t query)) = Unit {0}
-IsQuiet (Ok Shapes) = Unit {0}
-IsQuiet (Err fault) = Unit {0}
-
 -- the line leaves the run where it was
 record Leaves (givens : Givens) (before : Lines) (line : List ℕ) : Type 0 where
   declared : declared givens (line ∷ before) ≡ declared givens before
@@ -93,16 +82,6 @@ leaves_at givens before line r does same none quiet = record {
   editions = editions_more givens before line r does ∙ rw quiet refl;
 }
 
-leaves_quiet : (givens : Givens) (before : Lines) (line : List ℕ) (r : Result Deed Fault) → deed (declared givens before) line ≡ r → IsQuiet r → Leaves givens before line
-leaves_quiet givens before line (Ok Nothing) does quiet = leaves_at givens before line (Ok Nothing) does refl refl refl
-leaves_quiet givens before line (Ok (Declares t)) does quiet = absurd quiet
-leaves_quiet givens before line (Ok (Loads t listing)) does quiet = absurd quiet
-leaves_quiet givens before line (Ok (Updates more)) does quiet = absurd quiet
-leaves_quiet givens before line (Ok Publishes) does quiet = absurd quiet
-leaves_quiet givens before line (Ok (Reports t query)) does quiet = leaves_at givens before line (Ok (Reports t query)) does refl refl refl
-leaves_quiet givens before line (Ok Shapes) does quiet = leaves_at givens before line (Ok Shapes) does refl refl refl
-leaves_quiet givens before line (Err fault) does quiet = leaves_at givens before line (Err fault) does refl refl refl
-
 stands_left : (givens : Givens) (before : Lines) (line : List ℕ) (desk : Option Editions) → Leaves givens before line → IsBehind givens before desk → IsBehind givens (line ∷ before) desk
 stands_left givens before line None leaves stands = leaves.declared ∙ stands
 stands_left givens before line (Some k) leaves stands = record {
@@ -119,23 +98,24 @@ same_stays : (desk : Option Editions) → Stays desk desk
 same_stays None = tt
 same_stays (Some k) = record { board = refl; schema = refl }
 
-executes_quiet : (hash : Cell → ℕ) (givens : Givens) (line : List ℕ) (number : ℕ) (desk : Option Editions) (r : Result Deed Fault) (bytes : List ℕ)
-    → deed (schema_of_desk desk) line ≡ r → IsQuiet r
+-- a line that declares, adds and publishes nothing
+executes_quiet : (hash : Cell → ℕ) (givens : Givens) (line : List ℕ) (number : ℕ) (desk : Option Editions) (r : Result Deed Fault) (bytes : List ℕ) → deed (schema_of_desk desk) line ≡ r
+    → ((earlier : Option Table) → declared_by earlier r ≡ earlier) → ((us : List Update) → added givens us r ≡ []) → is_publish r ≡ false
     → ((before : Lines) → IsBehind givens before desk → number ≡ length before + 1 → IsAnswer hash givens before r bytes)
     → Executes hash givens line number desk desk bytes
-executes_quiet hash givens line number desk r bytes does quiet writes = record {
+executes_quiet hash givens line number desk r bytes does same none quiet writes = record {
   block = λ before stands n. block_by givens before line r (does_so givens before line desk r stands does) hash bytes (writes before stands n);
-  stands = λ before stands. stands_left givens before line desk (leaves_quiet givens before line r (does_so givens before line desk r stands does) quiet) stands;
+  stands = λ before stands. stands_left givens before line desk (leaves_at givens before line r (does_so givens before line desk r stands does) (same (declared givens before)) (none (updates givens before)) quiet) stands;
   stays = same_stays desk;
 }
 
 pub executes_nothing : (hash : Cell → ℕ) (givens : Givens) (line : List ℕ) (number : ℕ) (desk : Option Editions) (bytes : List ℕ) → deed (schema_of_desk desk) line ≡ Ok Nothing → bytes ≡ [] → Executes hash givens line number desk desk bytes
-executes_nothing hash givens line number desk bytes does none = executes_quiet hash givens line number desk (Ok Nothing) bytes does tt (λ before stands n. none)
+executes_nothing hash givens line number desk bytes does none = executes_quiet hash givens line number desk (Ok Nothing) bytes does (λ earlier. refl) (λ us. refl) refl (λ before stands n. none)
 
 pub executes_refused : (hash : Cell → ℕ) (givens : Givens) (line : List ℕ) (number : ℕ) (desk : Option Editions) (fault : Fault) (bytes : List ℕ)
     → deed (schema_of_desk desk) line ≡ Err fault → bytes ≡ refusal number fault → Executes hash givens line number desk desk bytes
 executes_refused hash givens line number desk fault bytes does text =
-    executes_quiet hash givens line number desk (Err fault) bytes does tt (λ before stands n. text ∙ ap (λ m. refusal m fault) n)
+    executes_quiet hash givens line number desk (Err fault) bytes does (λ earlier. refl) (λ us. refl) refl (λ before stands n. text ∙ ap (λ m. refusal m fault) n)
 
 -- some updates left the published rows
 left_published : (givens : Givens) (before : Lines) → AreLeft (published givens before)
@@ -188,7 +168,7 @@ steps_report hash givens line number k query block does answers =
                 (subst (λ e. IsReport number e (keeper.schema k) (published givens before) query told.text) stands.edition told.is));
             will = told.will;
           };
-      stands = λ before stands. stands_left givens before line (Some k) (leaves_quiet givens before line r (does_so givens before line (Some k) r stands does) tt) stands;
+      stands = λ before stands. stands_left givens before line (Some k) (leaves_at givens before line r (does_so givens before line (Some k) r stands does) refl refl refl) stands;
       stays = same_stays (Some k);
       asks = λ asked. subst HasWorkers (sym does) reports;
     }
@@ -201,7 +181,7 @@ pub executes_shape : (hash : Cell → ℕ) (givens : Givens) (line : List ℕ) (
     → deed (Some (keeper.schema k)) line ≡ Ok Shapes → HaveShapes hash
     → bytes ≡ shape_text number (keeper.edition k) (shape_of hash (keys (keeper.published k))) → Executes hash givens line number (Some k) (Some k) bytes
 executes_shape hash givens line number k bytes does law text =
-    executes_quiet hash givens line number (Some k) (Ok Shapes) bytes does tt (λ before stands n.
+    executes_quiet hash givens line number (Some k) (Ok Shapes) bytes does (λ earlier. refl) (λ us. refl) refl (λ before stands n.
     let shape : shape_of hash (keys (keeper.published k)) ≡ shape_of hash (keys_of_rows (published givens before)) =
     ap (λ (rs : Rows). shape_of hash (keys rs)) stands.published ∙ law (published givens before) (left_published givens before) in
     text ∙ rw (n, stands.edition, shape) refl)
@@ -367,33 +347,30 @@ executes_publish hash givens line number k new bytes does publishes none = recor
 
 -- ---- the line that declares the table
 
--- before there is a table a line declares one, or does nothing
-abbrev IsFirst : Result Deed Fault → Type 0
-IsFirst (Ok Nothing) = Unit {0}
-IsFirst (Ok (Declares t)) = Unit {0}
-IsFirst (Ok (Loads t listing)) = ⊥
-IsFirst (Ok (Updates more)) = ⊥
-IsFirst (Ok Publishes) = ⊥
-IsFirst (Ok (Reports t query)) = ⊥
-IsFirst (Ok Shapes) = ⊥
-IsFirst (Err fault) = Unit {0}
+-- before there is a table a line adds and publishes nothing
+record IsFirst (givens : Givens) (r : Result Deed Fault) : Type 0 where
+  adds : (us : List Update) → added givens us r ≡ []
+  quiet : is_publish r ≡ false
 
-declares_first : (o : Option Table) → IsFirst (declares o)
-declares_first None = tt
-declares_first (Some t) = tt
+refused_first : (givens : Givens) (fault : Fault) → IsFirst givens (Err fault)
+refused_first givens fault = record { adds = λ us. refl; quiet = refl }
 
-first_of : (o : Option (Command × List ℕ)) → IsFirst (deed_of None o)
-first_of None = tt
-first_of (Some (command.Table, rest)) = declares_first _
-first_of (Some (command.Load, rest)) = tt
-first_of (Some (command.Put, rest)) = tt
-first_of (Some (command.Delete, rest)) = tt
-first_of (Some (command.Publish, rest)) = tt
-first_of (Some (command.Report, rest)) = tt
-first_of (Some (command.Shape, rest)) = tt
+declares_first : (givens : Givens) (o : Option Table) → IsFirst givens (declares o)
+declares_first givens None = refused_first givens _
+declares_first givens (Some t) = record { adds = λ us. refl; quiet = refl }
 
-first_deed : (line : List ℕ) → IsFirst (deed None line)
-first_deed line = elim (cases_Bool (is_comment line)) [ inl nothing ↦ rw nothing tt | inr some ↦ rw some (first_of (command_of line)) ]
+first_of : (givens : Givens) (o : Option (Command × List ℕ)) → IsFirst givens (deed_of None o)
+first_of givens None = refused_first givens _
+first_of givens (Some (command.Table, rest)) = declares_first givens _
+first_of givens (Some (command.Load, rest)) = refused_first givens _
+first_of givens (Some (command.Put, rest)) = refused_first givens _
+first_of givens (Some (command.Delete, rest)) = refused_first givens _
+first_of givens (Some (command.Publish, rest)) = refused_first givens _
+first_of givens (Some (command.Report, rest)) = refused_first givens _
+first_of givens (Some (command.Shape, rest)) = refused_first givens _
+
+first_deed : (givens : Givens) (line : List ℕ) → IsFirst givens (deed None line)
+first_deed givens line = elim (cases_Bool (is_comment line)) [ inl nothing ↦ rw nothing (record { adds = λ us. refl; quiet = refl }) | inr some ↦ rw some (first_of givens (command_of line)) ]
 
 -- nothing was updated or published before there is a table
 record IsBlank (givens : Givens) (before : Lines) : Type 0 where
@@ -402,24 +379,13 @@ record IsBlank (givens : Givens) (before : Lines) : Type 0 where
   published : published givens before ≡ []
   editions : editions givens before ≡ [] ∷ []
 
-blank_more : (givens : Givens) (before : Lines) (line : List ℕ) (r : Result Deed Fault) → IsFirst r → deed (declared givens before) line ≡ r → IsBlank givens before → IsBlank givens (line ∷ before)
-blank_more givens before line (Ok Nothing) first does blank = blank_at (leaves_quiet givens before line (Ok Nothing) does tt) where
-  blank_at : Leaves givens before line → IsBlank givens (line ∷ before)
-  blank_at leaves = record { updates = leaves.updates ∙ blank.updates; edition = leaves.edition ∙ blank.edition; published = leaves.published ∙ blank.published; editions = leaves.editions ∙ blank.editions }
-blank_more givens before line (Ok (Declares t)) first does blank = record {
-  updates = updates_more givens before line (Ok (Declares t)) does ∙ append-nil (updates givens before) ∙ blank.updates;
-  edition = edition_more givens before line (Ok (Declares t)) does ∙ blank.edition;
-  published = published_more givens before line (Ok (Declares t)) does ∙ blank.published;
-  editions = editions_more givens before line (Ok (Declares t)) does ∙ blank.editions;
+blank_more : (givens : Givens) (before : Lines) (line : List ℕ) (r : Result Deed Fault) → IsFirst givens r → deed (declared givens before) line ≡ r → IsBlank givens before → IsBlank givens (line ∷ before)
+blank_more givens before line r first does blank = record {
+  updates = updates_more givens before line r does ∙ ap (λ us. updates givens before ++ us) (first.adds (updates givens before)) ∙ append-nil (updates givens before) ∙ blank.updates;
+  edition = edition_more givens before line r does ∙ ap (λ b. cond b (edition givens before + 1) (edition givens before)) first.quiet ∙ blank.edition;
+  published = published_more givens before line r does ∙ ap (λ b. cond b (rows (updates givens before)) (published givens before)) first.quiet ∙ blank.published;
+  editions = editions_more givens before line r does ∙ ap (λ b. cond b (editions givens before ++ rows (updates givens before) ∷ []) (editions givens before)) first.quiet ∙ blank.editions;
 }
-blank_more givens before line (Ok (Loads t listing)) first does blank = absurd first
-blank_more givens before line (Ok (Updates more)) first does blank = absurd first
-blank_more givens before line (Ok Publishes) first does blank = absurd first
-blank_more givens before line (Ok (Reports t query)) first does blank = absurd first
-blank_more givens before line (Ok Shapes) first does blank = absurd first
-blank_more givens before line (Err fault) first does blank = blank_at (leaves_quiet givens before line (Err fault) does tt) where
-  blank_at : Leaves givens before line → IsBlank givens (line ∷ before)
-  blank_at leaves = record { updates = leaves.updates ∙ blank.updates; edition = leaves.edition ∙ blank.edition; published = leaves.published ∙ blank.published; editions = leaves.editions ∙ blank.editions }
 
 -- a table, once declared, stays
 stays : (earlier : Option Table) (r : Result Deed Fault) → declared_by earlier r ≡ None → earlier ≡ None
@@ -437,7 +403,7 @@ blank : (givens : Givens) (before : Lines) → declared givens before ≡ None �
 blank givens [] e = record { updates = refl; edition = refl; published = refl; editions = refl }
 blank givens (line ∷ before) e =
     let none = stays (declared givens before) (deed (declared givens before) line) e in
-    blank_more givens before line (deed (declared givens before) line) (subst (λ t. IsFirst (deed t line)) (sym none) (first_deed line)) refl (blank givens before none)
+    blank_more givens before line (deed (declared givens before) line) (subst (λ t. IsFirst givens (deed t line)) (sym none) (first_deed givens line)) refl (blank givens before none)
 
 pub executes_declare : (hash : Cell → ℕ) (givens : Givens) (line : List ℕ) (number : ℕ) (t : Table) (k : Editions) (bytes : List ℕ)
     → deed None line ≡ Ok (Declares t) → Begins givens.limit t k → bytes ≡ [] → Executes hash givens line number None (Some k) bytes

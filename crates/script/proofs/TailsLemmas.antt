@@ -377,10 +377,10 @@ module _ {W T : Type 0} (taken : W → Option (List ℕ)) (faults : W → ℕ) (
       d)
 
 -- one viewer more was started
-pub started_more : (viewing : Viewing) (k : Editions) (watches : List Watch) (viewer : Known) (plan : PlanTree) → AllByRecursion (IsStarted viewing k) watches →
+pub started_more : (viewing : Viewing) (k : Editions) (watches : List Watch) (number : ℕ) (viewer : Known) (plan : PlanTree) → AllByRecursion (IsStarted viewing k) watches →
     viewer.board ≡ keeper.board k → viewer.schema ≡ keeper.schema k → MeansPlan (keeper.schema k) viewing.query plan →
-    AllByRecursion (IsStarted viewing k) (watches ++ watch_from viewer plan viewing.shots ∷ [])
-started_more viewing k watches viewer plan all board schema means = all_more (IsStarted viewing k) watches (watch_from viewer plan viewing.shots) all (record {
+    AllByRecursion (IsStarted viewing k) (watches ++ watch_from number viewer plan viewing.shots ∷ [])
+started_more viewing k watches number viewer plan all board schema means = all_more (IsStarted viewing k) watches (watch_from number viewer plan viewing.shots) all (record {
   board = board;
   schema = schema;
   plan = means;

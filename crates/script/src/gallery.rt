@@ -38,7 +38,7 @@ impl<H: KeyHash<Cell>> Gallery<H> {
     /// Nobody was started. It takes no memory.
     pub fn new(alloc: Global) -> Gallery<H>
         ensures stage { result.stage ≡ Stage.Expected }
-        ensures nobody { result.audience ≡ [] }
+        ensures nobody { result.audience.watches ≡ [] }
     {
         Gallery {
             stage: Stage::Expected,
@@ -63,9 +63,9 @@ impl<H: KeyHash<Cell> + KeyHash<Tuple> + Send + Sync> Gallery<H> {
     ) -> Result<(), Unstarted>
     where
         H: 's,
-        requires attend { MayAttend (asked_of setup.now.viewing) desk.old self.old.stage self.old.audience }
+        requires attend { MayAttend (asked_of setup.now.viewing) desk.old self.old.stage self.old.audience.watches }
         ensures same { desk.new ≡ desk.old }
-        ensures attended { OnOk result (HasAttended (asked_of setup.now.viewing) desk.new self.new.stage self.new.audience) }
+        ensures attended { OnOk result (HasAttended (asked_of setup.now.viewing) desk.new self.new.stage self.new.audience.watches) }
         ensures asked { IfErr result (λ _. HasViewers (asked_of setup.now.viewing)) }
     {
         let Some(viewing) = setup.viewing else {
@@ -90,9 +90,9 @@ impl<H: KeyHash<Cell> + KeyHash<Tuple> + Send + Sync> Gallery<H> {
     ) -> Result<(), Unstarted>
     where
         H: 's,
-        requires nobody { self.old.audience ≡ [] }
+        requires nobody { self.old.audience.watches ≡ [] }
         ensures same { keeper.new ≡ keeper.old }
-        ensures attend { OnOk result (Attend (viewing_of viewing.entry) (Some keeper.old) self.new.stage self.new.audience) }
+        ensures attend { OnOk result (Attend (viewing_of viewing.entry) (Some keeper.old) self.new.stage self.new.audience.watches) }
         ensures stage { OnOk result (self.new.stage ≡ Stage.Expected → ⊥) }
     {
         match plans_of(alloc, viewing, keeper.schema()) {
@@ -119,11 +119,11 @@ impl<H: KeyHash<Cell> + KeyHash<Tuple> + Send + Sync> Gallery<H> {
     ) -> Result<(), Unstarted>
     where
         H: 's,
-        requires nobody { self.old.audience ≡ [] }
+        requires nobody { self.old.audience.watches ≡ [] }
         requires plans { ArePlans (schema_of keeper.old) viewing.query.now plans.items }
         ensures same { keeper.new ≡ keeper.old }
-        ensures many { OnOk result (length self.new.audience ≡ length plans.items) }
-        ensures started { OnOk result (AllByRecursion (IsStarted (viewing_of viewing.entry) keeper.old) self.new.audience) }
+        ensures many { OnOk result (length self.new.audience.watches ≡ length plans.items) }
+        ensures started { OnOk result (AllByRecursion (IsStarted (viewing_of viewing.entry) keeper.old) self.new.audience.watches) }
     {
         for plan in plans {
             let Ok(viewer) = keeper.viewer() else {
@@ -141,7 +141,7 @@ impl<H: KeyHash<Cell> + KeyHash<Tuple> + Send + Sync> Gallery<H> {
         desk: &mut Option<Keeper<H>>,
         out: &mut O,
     ) -> Result<(), Ended>
-        requires attended { HasAttended (asked_of setup.now.viewing) desk.old self.old.stage self.old.audience }
+        requires attended { HasAttended (asked_of setup.now.viewing) desk.old self.old.stage self.old.audience.watches }
         requires faults { O.faults out.old + 1 < 2 ^ 64 }
         ensures tail { (before : List (List ℕ)) → IsBehind (givens setup.now.how.now.rows setup.now.parts.now) before desk.old →
             Delivers O.taken O.faults out.old out.new (IsTailOf (givens setup.now.how.now.rows setup.now.parts.now) (asked_of setup.now.viewing) before) result }
@@ -168,11 +168,11 @@ impl<H: KeyHash<Cell> + KeyHash<Tuple> + Send + Sync> Gallery<H> {
         keeper: &mut Keeper<H>,
         out: &mut O,
     ) -> Result<(), Ended>
-        requires started { AllByRecursion (IsStarted (viewing_of viewing) keeper.old) self.old.audience }
-        requires many { length self.old.audience ≡ viewing.viewers }
+        requires started { AllByRecursion (IsStarted (viewing_of viewing) keeper.old) self.old.audience.watches }
+        requires many { length self.old.audience.watches ≡ viewing.viewers }
         requires faults { O.faults out.old + 1 < 2 ^ 64 }
         ensures views { (givens : Givens) (before : List (List ℕ)) → Keeps givens before keeper.old →
-            Delivers O.taken O.faults out.old out.new (AreViewers (schema_of keeper.old) (editions givens before) (edition keeper.old) (viewing_of viewing.entry) 1 (length self.old.audience)) result }
+            Delivers O.taken O.faults out.old out.new (AreViewers (schema_of keeper.old) (editions givens before) (edition keeper.old) (viewing_of viewing.entry) 1 (length self.old.audience.watches)) result }
     {
         let answering = setup.answering();
         let mut number = 0u64;

@@ -254,7 +254,7 @@ fn run_beside<
     requires faults { O.faults out.old + 1 < 2 ^ 64 }
     requires short { length script.now ≤ script_limit }
     requires fresh { IsFresh desk.old × (backlog.old ≡ record { reports = []; after = [] }) }
-    requires nobody { (gallery.old.stage ≡ Stage.Expected) × (gallery.old.audience ≡ []) }
+    requires nobody { (gallery.old.stage ≡ Stage.Expected) × (gallery.old.audience.watches ≡ []) }
     ensures { EndsLines H.KeyHash-1.hash_of O.taken O.faults out.old out.new (givens setup.now.how.now.rows setup.now.parts.now) (asked_of setup.now.viewing) (lines script.now) result }
 {
     // The law by which what was written is a beginning of an output, where a line ends the run; it does

@@ -11,6 +11,10 @@ mod faults;
 #[cfg(test)]
 mod gates;
 #[cfg(test)]
+mod large;
+#[cfg(test)]
+mod laying;
+#[cfg(test)]
 mod live;
 #[cfg(test)]
 mod runs;

@@ -196,3 +196,29 @@ fn a_viewer_sees_each_edition_beside_its_keeper(rt: HostRuntime) -> Result<(), F
     assert_eq!(rt; gate.late.load(SeqCst), 0);
     Ok(())
 }
+
+/// Keeps the least and the greatest number of a viewer that it was told of.
+#[derive(Drop)]
+struct Numbers {
+    least: AtomicU64,
+    most: AtomicU64,
+}
+
+impl Gate for Numbers {
+    fn viewing(&self, viewer: u64, _edition: u64) {
+        self.least.fetch_min(viewer, SeqCst);
+        self.most.fetch_max(viewer, SeqCst);
+    }
+}
+
+#[test]
+fn the_gate_is_told_of_viewers_counted_from_1(rt: HostRuntime) -> Result<(), Fail> {
+    let gate = Numbers {
+        least: AtomicU64::new(u64::MAX),
+        most: AtomicU64::new(0),
+    };
+    let query = "SELECT COUNT(*) FROM T";
+    written(&rt, rt.alloc(), b"table T (K INT KEY)", 3, 1, query, &gate)?;
+    assert_eq!(rt; (gate.least.load(SeqCst), gate.most.load(SeqCst)), (1, 3));
+    Ok(())
+}

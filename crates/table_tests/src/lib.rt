@@ -1,5 +1,5 @@
-//! Tests of `cells`, `trie`, `aggs`, `groups` and `board` by their public items: what no clause says of them, and no script can
-//! show.
+//! Tests of `cells`, `trie`, `aggs`, `columns`, `groups` and `board` by their public items: what no clause says of them, and no
+//! script can show.
 #![tactic(auto)]
 
 #[cfg(test)]
@@ -8,6 +8,8 @@ mod of_aggs;
 mod of_board;
 #[cfg(test)]
 mod of_cells;
+#[cfg(test)]
+mod of_columns;
 #[cfg(test)]
 mod of_groups;
 #[cfg(test)]

@@ -202,7 +202,7 @@ fn is_first(snapshot: &Snapshot<Plain>) -> Result<bool, AllocError> {
         return Ok(false);
     }
     let root = snapshot.root();
-    if !root.rows().is_empty() {
+    if root.rows().len() != 0 {
         return Ok(false);
     }
     Ok(root.shape()?.is_empty())

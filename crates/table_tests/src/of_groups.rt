@@ -15,12 +15,42 @@ const TABLE: &str = "SALES (ID INT KEY, REGION TEXT)";
 
 const QUERY: &str = "SELECT REGION, COUNT(*) FROM SALES GROUP BY REGION";
 
-/// The pieces of a table of one sale, of which there is one.
-fn one_sale(alloc: Global, schema: &Schema) -> Result<Vec<Piece<Cell, Row, Plain>>, Refused> {
-    let row = Row::read(alloc, &[b"1", b"north"], schema)?;
+const TUPLES: &str = "T (K INT KEY, N INT, S TEXT)";
+
+const BY_TUPLE: &str = "SELECT N, S, COUNT(*) FROM T GROUP BY N, S";
+
+/// Tuples that differ, of an integer and a text; an empty field is NULL.
+const DIFFERENT: [[&str; 2]; 13] = [
+    ["", ""],
+    ["0", ""],
+    ["-1", ""],
+    ["-2", ""],
+    ["1", ""],
+    ["-9223372036854775808", ""],
+    ["9223372036854775807", ""],
+    ["", "a"],
+    ["", "ab"],
+    ["", "abcdefghi"],
+    ["0", "a"],
+    ["-1", "a"],
+    ["1", "ab"],
+];
+
+/// The pieces of a table of one row, of which there is one.
+fn one_row(
+    alloc: Global,
+    schema: &Schema,
+    record: &[&[u8]],
+) -> Result<Vec<Piece<Cell, Row, Plain>>, Refused> {
+    let row = Row::read(alloc, record, schema)?;
     let key = row.key().clone()?;
     let rows = Trie::empty().put(alloc, key, row, &mut Ticks::new())?;
     Ok(rows.split(alloc, &Cutting { depth: 0, small: 0 })?)
+}
+
+/// The pieces of a table of one sale, of which there is one.
+fn one_sale(alloc: Global, schema: &Schema) -> Result<Vec<Piece<Cell, Row, Plain>>, Refused> {
+    one_row(alloc, schema, &[b"1", b"north"])
 }
 
 /// Whether the piece has one row at most, so that it may be folded a thousand times.
@@ -30,35 +60,67 @@ fn is_short<H: KeyHash<Cell>>(alloc: Global, sale: &Piece<Cell, Row, H>) -> Resu
     Ok(sale.entries(alloc)?.len() <= 1)
 }
 
-/// How many groups there are when the sale was taken a thousand times; of a longer piece none is taken.
+/// How many groups there are when both pieces were taken five hundred times in turn; of longer pieces none is taken.
 fn groups_of(
     alloc: Global,
     plan: &Plan,
-    sale: &Piece<Cell, Row, Plain>,
+    first: &Piece<Cell, Row, Plain>,
+    second: &Piece<Cell, Row, Plain>,
 ) -> Result<u128, AllocError> {
     let mut folding = Folding::new(alloc, plan)?;
-    if is_short(alloc, sale)? {
-        for _i in 0..1_000u64 {
-            folding.take(alloc, sale)?;
+    if is_short(alloc, first)? {
+        if is_short(alloc, second)? {
+            for _i in 0..500u64 {
+                folding.take(alloc, first)?;
+                folding.take(alloc, second)?;
+            }
         }
     }
     Ok(folding.groups())
 }
 
-/// The plan of the query.
-fn planned(alloc: Global, schema: &Schema) -> Result<Plan, Refused> {
-    let query = read(alloc, QUERY)?;
+/// The plan of a query.
+fn planned(alloc: Global, schema: &Schema, query: &str) -> Result<Plan, Refused> {
+    let query = read(alloc, query)?;
     check(alloc, query, schema)
 }
 
-/// How many groups the query has when the sale was taken a thousand times.
+/// How many groups the query has when both pieces were taken five hundred times in turn.
 fn counted(
     alloc: Global,
     schema: &Schema,
-    sale: &Piece<Cell, Row, Plain>,
+    query: &str,
+    first: &Piece<Cell, Row, Plain>,
+    second: &Piece<Cell, Row, Plain>,
 ) -> Result<u128, Refused> {
-    let plan = planned(alloc, schema)?;
-    Ok(groups_of(alloc, &plan, sale)?)
+    let plan = planned(alloc, schema, query)?;
+    Ok(groups_of(alloc, &plan, first, second)?)
+}
+
+/// How many groups there are by tuple when rows of both tuples were taken five hundred times in turn.
+fn groups_in_turn(
+    alloc: Global,
+    schema: &Schema,
+    first: &[&str; 2],
+    second: &[&str; 2],
+) -> Result<u128, Refused> {
+    let firsts = one_row(
+        alloc,
+        schema,
+        &[b"1", first[0].as_bytes(), first[1].as_bytes()],
+    )?;
+    let seconds = one_row(
+        alloc,
+        schema,
+        &[b"2", second[0].as_bytes(), second[1].as_bytes()],
+    )?;
+    let Some(one) = firsts.first() else {
+        return Ok(0);
+    };
+    let Some(two) = seconds.first() else {
+        return Ok(0);
+    };
+    counted(alloc, schema, BY_TUPLE, one, two)
 }
 
 #[test]
@@ -67,7 +129,23 @@ fn a_thousand_rows_of_one_region_are_one_group(rt: HostRuntime) -> Result<(), Fa
     let sales = one_sale(rt.alloc(), &schema)?;
     assert_eq!(rt; sales.len(), 1);
     for sale in &sales {
-        assert_eq!(rt; counted(rt.alloc(), &schema, sale)?, 1);
+        assert_eq!(rt; counted(rt.alloc(), &schema, QUERY, sale, sale)?, 1);
+    }
+    Ok(())
+}
+
+/// A group is found again however NULL, integers and texts follow each other: else each change would make one more.
+#[test]
+fn two_tuples_in_turn_are_two_groups(rt: HostRuntime) -> Result<(), Fail> {
+    let schema = Schema::read(rt.alloc(), TUPLES)?;
+    for (i, first) in DIFFERENT.iter().enumerate() {
+        for (j, second) in DIFFERENT.iter().enumerate() {
+            let expected = if i == j { 1 } else { 2 };
+            assert_eq!(rt;
+                groups_in_turn(rt.alloc(), &schema, first, second)?,
+                expected
+            );
+        }
     }
     Ok(())
 }
@@ -146,7 +224,7 @@ fn are_two(
     schema: &Schema,
     sale: &Piece<Cell, Row, Plain>,
 ) -> Result<bool, Refused> {
-    let plan = planned(alloc, schema)?;
+    let plan = planned(alloc, schema, QUERY)?;
     let rows = report_of_two(alloc, &plan, sale)?;
     Ok(counts_two(rows.as_slice()))
 }

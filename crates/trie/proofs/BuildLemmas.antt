@@ -12,44 +12,28 @@ use Rattle.std.proofs.lemmas.Cmp.{alike_right, tied_itself}
 use Rattle.std.proofs.lemmas.List.{get_or-map, length-map}
 use Rattle.std.proofs.lemmas.List.Elements.{All-from_recursion, All-head, All-tail}
 use Rattle.std.proofs.lemmas.List.Kept.{IsNonDecreasingBy-filter}
+use Rattle.std.proofs.lemmas.List.Sums.{count_by-le-length, length-filter}
 use Rattle.trie.specs.Building.{AreBelow, AreHashed, AreMadeOf, HaveOnePrefix, HaveTheirHashes, IsMadeOf, OwnedPair, Rise, bare, hashed_pairs, is_like, pair_in, pairs_in, with_digit}
-use Rattle.trie.specs.Dense.{IsDense, places_in}
-use Rattle.trie.specs.Digits.{digit, digit_count, digit_order, digits, first_digits, first_number, place_count}
+use Rattle.trie.specs.Dense.{IsDense, slots_in}
+use Rattle.trie.specs.Digits.{digit, digit_count, digit_order, digits, first_digits, first_number, slot_count}
 use Rattle.trie.specs.Entries.{entry_at, with_pair, with_pairs}
-use Rattle.trie.specs.Holding.{ArePlaces, Holds, IsTrie, node_len, pairs_of}
+use Rattle.trie.specs.Holding.{AreSlots, Holds, IsTrie, node_len, pairs_of}
 use Rattle.trie.specs.Nodes.{Branch, Bucket, Child, Leaf, Node, values}
 use Rattle.trie.specs.Tree.{entries_in, IsNode, StartsWith}
 use Rattle.trie.specs.declared.build.Hashed.{Hashed}
-use Rattle.trie.proofs.DenseLemmas.{length-places_of}
+use Rattle.trie.proofs.DenseLemmas.{length-slots_of}
 use Rattle.trie.proofs.DigitsLemmas.{get_or-digits, length-digits, starts_with-next}
 use Rattle.trie.proofs.EntriesLemmas.{with_pair-all}
-use Rattle.trie.proofs.ListsLemmas.{all-unmap, all-weaken}
-use Rattle.trie.proofs.MapRisingLemmas.{places_rise}
+use Rattle.trie.proofs.ListsLemmas.{all-filter, all-unmap, all-weaken}
+use Rattle.trie.proofs.MapRisingLemmas.{slots_rise}
 use Rattle.trie.proofs.MapsLemmas.{digit_total, HaveHashes, is_Equal}
 use Rattle.trie.proofs.MeetLemmas.{children_each, starts_is}
 use Rattle.trie.proofs.NodesLemmas.{branch_holds, total_lens}
 use Rattle.trie.proofs.OrderLemmas.{order_agrees, with_pair-order}
 use Rattle.trie.proofs.PairsLemmas.{alike_pairs, found_kept, last_stands, same_by_entries, with_pairs-all, with_pairs-most, with_pairs-some, with_pairs-sorted}
-use Rattle.trie.proofs.PlacesLemmas.{entry_at-below, places_below}
+use Rattle.trie.proofs.SlotsLemmas.{entry_at-below, slots_below}
 use Rattle.trie.proofs.PutLemmas.{leaf_holds}
 use Rattle.trie.proofs.TreeLemmas.{entries-Bucket, IsNode-Bucket}
-
-module _ {X : Type 0} where
-  kept_more : (P : X → Type 0) (b : Bool) (x : X) (kept : List X) → P x → AllByRecursion P kept → AllByRecursion P (cond b (x ∷ kept) kept)
-  kept_more P true x kept here rest = (here, rest)
-  kept_more P false x kept here rest = rest
-
-  kept_all : (P : X → Type 0) (test : X → Bool) (xs : List X) → AllByRecursion P xs → AllByRecursion P (filter test xs)
-  kept_all P test [] all = tt
-  kept_all P test (x ∷ xs) all = kept_more P (test x) x (filter test xs) all.0 (kept_all P test xs all.1)
-
-  fewer_more : (b : Bool) (x : X) (kept xs : List X) → length kept ≤ length xs → length (cond b (x ∷ kept) kept) ≤ suc (length xs)
-  fewer_more true x kept xs fewer = omega (arith, fewer)
-  fewer_more false x kept xs fewer = omega (arith, fewer)
-
-  kept_fewer : (test : X → Bool) (xs : List X) → length (filter test xs) ≤ length xs
-  kept_fewer test [] = omega arith
-  kept_fewer test (x ∷ xs) = fewer_more (test x) x (filter test xs) xs (kept_fewer test xs)
 
 module _ {K V : Type 0} (hash : K → ℕ) where
   one_below : (prefix : List ℕ) (d : ℕ) (one : OwnedPair K V) (part : List (OwnedPair K V)) (b : Bool) → (digit one.hash (length prefix) == d) ≡ b →
@@ -80,9 +64,9 @@ module _ {K V : Type 0} (hash : K → ℕ) where
     deep = omega (arith, length-append have.prefix (d ∷ []), have.deep);
     low = omega arith;
     below = rw have.deep at (below_part have.prefix d list (rw have.deep low) have.below have.hashed);
-    hashed = kept_all (λ one. one.hash ≡ hash (pair_in one).0) (λ one. digit one.hash depth == d) list have.hashed;
+    hashed = all-filter (λ one. digit one.hash depth == d) (λ one. one.hash ≡ hash (pair_in one).0) list have.hashed;
     rise = λ n within. IsNonDecreasingBy-filter (λ one. first_number one.hash n) (λ one. digit one.hash depth == d) list (have.rise n within);
-    fits = omega (arith, kept_fewer (λ one. digit one.hash depth == d) list, have.fits);
+    fits = omega (arith, length-filter (λ one. digit one.hash depth == d) list, count_by-le-length (λ one. digit one.hash depth == d) list, have.fits);
   })
 
 both_true : (a b : Bool) → (a && b) ≡ true → (a ≡ true) × (b ≡ true)
@@ -91,78 +75,78 @@ both_true false b e = absurd (cc)
 
 module _ {K V : Type 0} (hash : K → ℕ) (cmp : K → K → Ordering) (h : HaveHashes hash cmp) where
   -- a key is found among the pairs of its digit as among all
-  found_part : (place d : ℕ) (q : K) → digit (hash q) place ≡ d → (list : List (OwnedPair K V)) → AreHashed hash list →
+  found_part : (depth d : ℕ) (q : K) → digit (hash q) depth ≡ d → (list : List (OwnedPair K V)) → AreHashed hash list →
       (es fs : List (K × V)) → entry_at (digit_order hash cmp) es q ≡ entry_at (digit_order hash cmp) fs q →
-      entry_at (digit_order hash cmp) (with_pairs (digit_order hash cmp) (pairs_in (with_digit place d list)) es) q
+      entry_at (digit_order hash cmp) (with_pairs (digit_order hash cmp) (pairs_in (with_digit depth d list)) es) q
       ≡ entry_at (digit_order hash cmp) (with_pairs (digit_order hash cmp) (pairs_in list) fs) q
-  found_part place d q here list hashed =
-      found_kept pair_in (digit_order hash cmp) (digit_total hash cmp h) (λ one. digit one.hash place == d) q (λ one. one.hash ≡ hash (pair_in one).0)
+  found_part depth d q here list hashed =
+      found_kept pair_in (digit_order hash cmp) (digit_total hash cmp h) (λ one. digit one.hash depth == d) q (λ one. one.hash ≡ hash (pair_in one).0)
       (λ one is same.
       let equal = h.same_hash q (pair_in one).0 (is_Equal _ (sym (order_agrees hash cmp h.same_hash q (pair_in one).0) ∙ same)) in
-      eq-eqb _ d (ap (λ n. digit n place) (is ∙ sym equal) ∙ here))
+      eq-eqb _ d (ap (λ n. digit n depth) (is ∙ sym equal) ∙ here))
       list (All-from_recursion (λ one. one.hash ≡ hash (pair_in one).0) list hashed)
 
-  -- a branch of which each place has the pairs with its digit
+  -- a branch of which each slot has the pairs with its digit
   module _ (depth : ℕ) (list : List (OwnedPair K V)) (hashed : AreHashed hash list) (low : depth < digit_count)
-      (places : List (Option (Node K V))) (wide : length places ≡ place_count) (each : AreMadeOf hash cmp depth list places)
+      (slots : List (Option (Node K V))) (wide : length slots ≡ slot_count) (each : AreMadeOf hash cmp depth list slots)
       (prefix : List ℕ) (deep : length prefix ≡ depth) (below : AreBelow hash prefix (pairs_in list)) where
-    child : (k : ℕ) → k < place_count →
-        Holds hash cmp (prefix ++ k ∷ []) (with_pairs (digit_order hash cmp) (pairs_in (with_digit depth k list)) []) (get_or places k None)
+    child : (k : ℕ) → k < slot_count →
+        Holds hash cmp (prefix ++ k ∷ []) (with_pairs (digit_order hash cmp) (pairs_in (with_digit depth k list)) []) (get_or slots k None)
     child k lt =
         (each k lt).at (prefix ++ k ∷ []) (omega (arith, length-append prefix (k ∷ []), deep))
         (rw deep at (below_part hash prefix k list (rw deep low) below hashed))
 
-    pub made_places : ArePlaces hash cmp prefix places
-    made_places = record {
+    pub made_slots : AreSlots hash cmp prefix slots
+    made_slots = record {
       short = omega (arith, deep, low);
       wide = wide;
-      children = children_each (IsNode hash cmp) prefix 0 places (λ k lt x x_is.
+      children = children_each (IsNode hash cmp) prefix 0 slots (λ k lt x x_is.
           let here : 0 + k ≡ k = omega arith in
           rw here (rw x_is at (child k (rw wide at lt)).placed));
     }
 
     alike : (q : K) → StartsWith prefix (digits (hash q)) →
-        entry_at (digit_order hash cmp) (flat_map entries_in places) q
+        entry_at (digit_order hash cmp) (flat_map entries_in slots) q
         ≡ entry_at (digit_order hash cmp) (with_pairs (digit_order hash cmp) (pairs_in list) []) q
     alike q starts =
         let k = digit (hash q) depth in
         let prefix_is : prefix ≡ first_digits (hash q) depth = rw (← deep) (starts_is prefix (digits (hash q)) starts) in
-        sym (entry_at-below hash cmp (hash q) depth (omega arith) places (rw prefix_is at made_places) q refl (get_or places k None) refl)
+        sym (entry_at-below hash cmp (hash q) depth (omega arith) slots (rw prefix_is at made_slots) q refl (get_or slots k None) refl)
         ∙ ap (λ es. entry_at (digit_order hash cmp) es q) (child k (omega arith)).entries_are
         ∙ found_part depth k q refl list hashed [] [] refl
 
-    pub made_whole : flat_map entries_in places ≡ with_pairs (digit_order hash cmp) (pairs_in list) []
+    pub made_whole : flat_map entries_in slots ≡ with_pairs (digit_order hash cmp) (pairs_in list) []
     made_whole =
         let total = digit_total hash cmp h in
         same_by_entries (digit_order hash cmp) total (λ k. StartsWith prefix (digits (hash k))) _ _
-        (places_rise hash cmp prefix 0 places made_places.children)
+        (slots_rise hash cmp prefix 0 slots made_slots.children)
         (with_pairs-sorted (digit_order hash cmp) total (pairs_in list) [] tt)
-        (places_below hash cmp prefix 0 places made_places.children)
+        (slots_below hash cmp prefix 0 slots made_slots.children)
         (with_pairs-all (digit_order hash cmp) (λ e. StartsWith prefix (digits (hash e.0))) (pairs_in list) [] below tt)
         alike
 
   -- the number of entries of such a branch can be held
   pub branch_fits : (depth : ℕ) (list : List (OwnedPair K V)) → HaveOnePrefix hash depth list → depth < digit_count →
       (bitmap : ℕ) (children : List (Child K V)) → IsDense bitmap (length children) →
-      AreMadeOf hash cmp depth list (places_in bitmap children) → sum_by node_len (values children) < 2 ^ 64
+      AreMadeOf hash cmp depth list (slots_in bitmap children) → sum_by node_len (values children) < 2 ^ 64
   branch_fits depth list have low bitmap children dense each =
-      let wide = length-places_of bitmap (values children) in
-      let are = made_places depth list have.hashed low (places_in bitmap children) wide each have.prefix have.deep have.below in
-      let whole = made_whole depth list have.hashed low (places_in bitmap children) wide each have.prefix have.deep have.below in
+      let wide = length-slots_of bitmap (values children) in
+      let are = made_slots depth list have.hashed low (slots_in bitmap children) wide each have.prefix have.deep have.below in
+      let whole = made_whole depth list have.hashed low (slots_in bitmap children) wide each have.prefix have.deep have.below in
       let most = with_pairs-most (digit_order hash cmp) (pairs_in list) [] in
       omega (arith, total_lens hash cmp have.prefix bitmap children dense are.children, ap length whole, most, length-map list pair_in, have.fits)
 
   pub branch_made : (depth : ℕ) (list : List (OwnedPair K V)) → AreHashed hash list → depth < digit_count →
       2 ≤ length (with_pairs (digit_order hash cmp) (pairs_in list) []) →
       (bitmap : ℕ) (children : Vec (Child K V) Global) → IsDense bitmap (length children.items) →
-      AreMadeOf hash cmp depth list (places_in bitmap children.items) → (place : Option (Node K V)) →
-      place ≡ Some (Branch (sum_by node_len (values children.items)) bitmap children) → IsMadeOf hash cmp depth (pairs_in list) place
-  branch_made depth list hashed low many bitmap children dense each place is = rw is (record {
+      AreMadeOf hash cmp depth list (slots_in bitmap children.items) → (slot : Option (Node K V)) →
+      slot ≡ Some (Branch (sum_by node_len (values children.items)) bitmap children) → IsMadeOf hash cmp depth (pairs_in list) slot
+  branch_made depth list hashed low many bitmap children dense each slot is = rw is (record {
     at = λ prefix deep below.
-        let places = places_in bitmap children.items in
-        let wide = length-places_of bitmap (values children.items) in
-        let are = made_places depth list hashed low places wide each prefix deep below in
-        let whole = made_whole depth list hashed low places wide each prefix deep below in
+        let slots = slots_in bitmap children.items in
+        let wide = length-slots_of bitmap (values children.items) in
+        let are = made_slots depth list hashed low slots wide each prefix deep below in
+        let whole = made_whole depth list hashed low slots wide each prefix deep below in
         let total = total_lens hash cmp prefix bitmap children.items dense are.children in
         rw whole at (branch_holds hash cmp prefix bitmap children dense are _ total (omega (arith, total, ap length whole, many)) _ refl);
   })
@@ -178,9 +162,9 @@ module _ {K V : Type 0} (hash : K → ℕ) (cmp : K → K → Ordering) (h : Hav
       (with_pair-all cmp p.0 p.1 (λ e. StartsWith prefix (digits (hash e.0))) below.0 es also))
 
   pub bucket_made : (depth : ℕ) → depth ≡ digit_count → (ps : List (K × V)) → 2 ≤ length (with_pairs (digit_order hash cmp) ps []) →
-      (pairs : Vec (Arc (K × V) Global) Global) → pairs_of pairs.items ≡ with_pairs cmp ps [] → (place : Option (Node K V)) →
-      place ≡ Some (Bucket pairs) → IsMadeOf hash cmp depth ps place
-  bucket_made depth whole ps many pairs are place is = rw is (record {
+      (pairs : Vec (Arc (K × V) Global) Global) → pairs_of pairs.items ≡ with_pairs cmp ps [] → (slot : Option (Node K V)) →
+      slot ≡ Some (Bucket pairs) → IsMadeOf hash cmp depth ps slot
+  bucket_made depth whole ps many pairs are slot is = rw is (record {
     at = λ prefix deep below.
         let full : length prefix ≡ digit_count = deep ∙ whole in
         let agree = whole_hash_order prefix full ps [] below tt in
@@ -239,9 +223,9 @@ module _ {K V : Type 0} (hash : K → ℕ) (cmp : K → K → Ordering) (h : Hav
   -- of pairs of one key the last makes a leaf
   pub leaf_made : (depth : ℕ) (list : List (OwnedPair K V)) (last : OwnedPair K V) → Some last ≡ slice_get list (length list - 1) →
       list_all (λ one. is_like cmp one last) list ≡ true → (pair : K × V) → pair ≡ pair_in last →
-      (place : Option (Node K V)) → place ≡ Some (Leaf pair) → IsMadeOf hash cmp depth (pairs_in list) place
-  leaf_made depth [] last is like pair pair_is place place_is = absurd (cc)
-  leaf_made depth (one ∷ list) last is like pair pair_is place place_is = rw place_is (record {
+      (slot : Option (Node K V)) → slot ≡ Some (Leaf pair) → IsMadeOf hash cmp depth (pairs_in list) slot
+  leaf_made depth [] last is like pair pair_is slot slot_is = absurd (cc)
+  leaf_made depth (one ∷ list) last is like pair pair_is slot slot_is = rw slot_is (record {
     at = λ prefix deep below.
         let have = have_key last (one ∷ list) like in
         let end : length (one ∷ list) - 1 ≡ length list = omega arith in
@@ -323,15 +307,15 @@ module _ {K V : Type 0} (hash : K → ℕ) (cmp : K → K → Ordering) where
     fits = fits;
   }
 
-  pub root_entries : (ps : List (K × V)) (place : Option (Node K V)) → IsMadeOf hash cmp 0 ps place →
-      entries_in place ≡ with_pairs (digit_order hash cmp) ps []
-  root_entries ps place made = (made.at [] refl (all_below ps)).entries_are
+  pub root_entries : (ps : List (K × V)) (slot : Option (Node K V)) → IsMadeOf hash cmp 0 ps slot →
+      entries_in slot ≡ with_pairs (digit_order hash cmp) ps []
+  root_entries ps slot made = (made.at [] refl (all_below ps)).entries_are
 
-  pub root_trie : (ps : List (K × V)) (place : Option (Node K V)) → IsMadeOf hash cmp 0 ps place → length ps < 2 ^ 64 →
-      IsTrie hash cmp place
-  root_trie ps place made fits =
+  pub root_trie : (ps : List (K × V)) (slot : Option (Node K V)) → IsMadeOf hash cmp 0 ps slot → length ps < 2 ^ 64 →
+      IsTrie hash cmp slot
+  root_trie ps slot made fits =
       let most = with_pairs-most (digit_order hash cmp) ps [] in
       record {
         placed = (made.at [] refl (all_below ps)).placed;
-        fits = omega (arith, ap length (root_entries ps place made), most, fits);
+        fits = omega (arith, ap length (root_entries ps slot made), most, fits);
       }

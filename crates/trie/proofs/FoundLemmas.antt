@@ -10,8 +10,8 @@ use Rattle.std.specs.declared.cmp.Ordering.TheVariants.{Less, Equal, Greater}
 use Rattle.std.proofs.lemmas.Option.{cond_some}
 use Rattle.trie.specs.Digits.{digit_order}
 use Rattle.trie.specs.Entries.{entry_at, value_at, with_pair}
-use Rattle.trie.specs.Merging.{blend_entries, blended, laid, laid_pair, turned}
-use Rattle.trie.proofs.MapsLemmas.{HaveHashes, is_Equal, value-with_pair}
+use Rattle.trie.specs.Merging.{blend_entries, blended}
+use Rattle.trie.proofs.MapsLemmas.{HaveHashes, value-entry}
 use Rattle.trie.proofs.OrderLemmas.{order_agrees}
 
 module _ {X : Type 0} (test : X → Bool) where
@@ -42,48 +42,12 @@ find-same s t same [] = refl
 find-same s t same (x ∷ xs) = rw (same x, find-same s t same xs) refl
 
 module _ {K V : Type 0} where
-  -- each entry beside its key
-  abbrev keyed : List (K × V) → List (K × (K × V))
-  keyed es = map (λ e. (e.0, e)) es
-
-  find-keyed : (test : K → Bool) (es : List (K × V)) → find (λ e. test e.0) es ≡ lookup test (keyed es)
-  find-keyed test [] = refl
-  find-keyed test (e ∷ es) = ap (λ r. cond (test e.0) (Some e) r) (find-keyed test es)
-
   module _ (R : K → K → Ordering) where
-    keyed-cons : (o : Ordering) (k : K) (v : V) (e : K × V) (new es : List (K × V)) (more : List (K × (K × V))) → keyed new ≡ more →
-        keyed (cond (is_lt o) ((k, v) ∷ e ∷ es) (cond (is_eq o) ((k, v) ∷ es) (e ∷ new)))
-        ≡ cond (is_lt o) ((k, (k, v)) ∷ (e.0, e) ∷ keyed es) (cond (is_eq o) ((k, (k, v)) ∷ keyed es) ((e.0, e) ∷ more))
-    keyed-cons Less k v e new es more is = refl
-    keyed-cons Equal k v e new es more is = refl
-    keyed-cons Greater k v e new es more is = ap (λ l. (e.0, e) ∷ l) is
-
-    keyed-with_pair : (k : K) (v : V) (es : List (K × V)) → keyed (with_pair R k v es) ≡ with_pair R k (k, v) (keyed es)
-    keyed-with_pair k v [] = refl
-    keyed-with_pair k v (e ∷ es) =
-        keyed-cons (R k e.0) k v e (with_pair R k v es) es (with_pair R k (k, v) (keyed es)) (keyed-with_pair k v es)
-
-    -- the entry of a key, where a pair is laid over the entries
-    pub entry-with_pair : IsTotalOrder R → (es : List (K × V)) (k : K) (v : V) (q : K) →
-        entry_at R (with_pair R k v es) q ≡ cond (eq_by_cmp R q k) (Some (k, v)) (entry_at R es q)
-    entry-with_pair o es k v q =
-        let test : K → Bool = λ x. is_eq (R q x) in
-        find-keyed test (with_pair R k v es) ∙ ap (λ l. lookup test l) (keyed-with_pair k v es)
-        ∙ value-with_pair o (keyed es) k (k, v) q
-        ∙ ap (λ r. cond (eq_by_cmp R q k) (Some (k, v)) r) (sym (find-keyed test es))
-
-    value-cons : (b : Bool) (e : K × V) (v : Option V) (o : Option (K × V)) → v ≡ option_map (λ e. e.1) o →
-        cond b (Some e.1) v ≡ option_map (λ e. e.1) (cond b (Some e) o)
-    value-cons true e v o is = refl
-    value-cons false e v o is = is
-
-    -- the value of a key is that of its entry
-    pub value-entry : (es : List (K × V)) (q : K) → value_at R es q ≡ option_map (λ e. e.1) (entry_at R es q)
-    value-entry [] q = refl
-    value-entry (e ∷ es) q = value-cons (is_eq (R q e.0)) e (value_at R es q) (entry_at R es q) (value-entry es q)
-
     pub value_of_entry : (es : List (K × V)) (q : K) (o : Option (K × V)) → o ≡ entry_at R es q → option_map (λ e. e.1) o ≡ value_at R es q
-    value_of_entry es q o is = ap (λ o. option_map (λ e. e.1) o) is ∙ sym (value-entry es q)
+    value_of_entry es q o is = ap (λ o. option_map (λ e. e.1) o) is ∙ sym (value-entry R es q)
+
+    pub value-alike : (es fs : List (K × V)) (q : K) → entry_at R es q ≡ entry_at R fs q → value_at R es q ≡ value_at R fs q
+    value-alike es fs q same = value-entry R es q ∙ value_of_entry fs q (entry_at R es q) same
 
     -- equal keys find the same entry
     pub found_alike : IsTotalOrder R → (q k : K) → R q k ≡ Equal → (es : List (K × V)) → entry_at R es q ≡ entry_at R es k
@@ -105,16 +69,3 @@ module _ {K V : Type 0} (hash : K → ℕ) (cmp : K → K → Ordering) (h : Hav
   pub entry_at-order : (key : K) (es : List (K × V)) → entry_at (digit_order hash cmp) es key ≡ entry_at cmp es key
   entry_at-order key es =
       find-same (λ e. is_eq (digit_order hash cmp key e.0)) (λ e. is_eq (cmp key e.0)) (λ e. order_agrees hash cmp h.same_hash key e.0) es
-
-  laid-step : (f : V → V → V) (pair : K × V) (is_first : Bool) (o : Option (K × V)) →
-      ((e : K × V) → o ≡ Some e → cmp pair.0 e.0 ≡ Equal) → hash pair.0 ≡ hash (laid (turned is_first (blend_entries f)) o pair).0
-  laid-step f pair is_first None same = refl
-  laid-step f pair true (Some e) same = h.same_hash pair.0 e.0 (same e refl)
-  laid-step f pair false (Some e) same = refl
-
-  -- the key that is laid over a map has the hash of its pair's
-  pub laid_hash : (f : V → V → V) (held : List (K × V)) (pair : K × V) (is_first : Bool) →
-      hash pair.0 ≡ hash (laid_pair hash cmp f held pair is_first).0
-  laid_hash f held pair is_first =
-      laid-step f pair is_first (entry_at (digit_order hash cmp) held pair.0) (λ e found.
-      is_Equal _ (sym (order_agrees hash cmp h.same_hash pair.0 e.0) ∙ found-passes (λ d. is_eq (digit_order hash cmp pair.0 d.0)) held e found))

@@ -14,8 +14,8 @@ use Rattle.trie.specs.Digits.{digit_order}
 use Rattle.trie.specs.Entries.{entry_at, IsRising, with_pair, with_pairs}
 use Rattle.trie.specs.Maps.{map_of}
 use Rattle.trie.proofs.EntriesLemmas.{with_pair-all, with_pair-most, with_pair-sorted}
-use Rattle.trie.proofs.FoundLemmas.{entry-with_pair, none_below}
-use Rattle.trie.proofs.MapsLemmas.{below_alike, HaveHashes, is_Equal, put_map}
+use Rattle.trie.proofs.FoundLemmas.{none_below}
+use Rattle.trie.proofs.MapsLemmas.{below_alike, below_more, entry-with_pair, HaveHashes, is_Equal, put_map}
 
 module _ {K V : Type 0} (R : K → K → Ordering) where
   -- at most an entry more for each pair
@@ -57,11 +57,7 @@ module _ {K V : Type 0} (R : K → K → Ordering) where
     less_nothing : (q : K) (f : K × V) (fs : List (K × V)) → R q f.0 ≡ Less → IsRising R (keys_of (f ∷ fs)) →
         entry_at R (f ∷ fs) q ≡ None
     less_nothing q f fs less rising =
-        none_below R (f ∷ fs) q (less, below_rest (keys_of fs) rising.0)
-      where
-        below_rest : (ks : List K) → AllByRecursion (λ k. R f.0 k ≡ Less) ks → AllByRecursion (λ k. R q k ≡ Less) ks
-        below_rest [] below = tt
-        below_rest (k ∷ ks) below = (total.trans q f.0 k less below.0, below_rest ks below.1)
+        none_below R (f ∷ fs) q (less, below_more total (keys_of fs) q f.0 less rising.0)
 
     -- rising entries of some keys that are found alike, at each of these keys, are the same
     module _ (P : K → Type 0) where
@@ -164,10 +160,10 @@ module _ {X K V : Type 0} (pair : X → K × V) (R : K → K → Ordering) (tota
         ≡ entry_at R (with_pairs R (map pair xs) (with_pair R (pair x).0 (pair x).1 fs)) q
     found_more x kept xs es fs true here is same rest =
         rest _ _
-        (entry-with_pair R total es (pair x).0 (pair x).1 q ∙ ap (λ o. cond (eq_by_cmp R q (pair x).0) (Some (pair x)) o) same
-        ∙ sym (entry-with_pair R total fs (pair x).0 (pair x).1 q))
+        (entry-with_pair total es (pair x).0 (pair x).1 q ∙ ap (λ o. cond (eq_by_cmp R q (pair x).0) (Some (pair x)) o) same
+        ∙ sym (entry-with_pair total fs (pair x).0 (pair x).1 q))
     found_more x kept xs es fs false here is same rest =
-        rest _ _ (same ∙ sym (entry-with_pair R total fs (pair x).0 (pair x).1 q ∙ rw (other_key x here is) refl))
+        rest _ _ (same ∙ sym (entry-with_pair total fs (pair x).0 (pair x).1 q ∙ rw (other_key x here is) refl))
 
     pub found_kept : (xs : List X) → All P xs → (es fs : List (K × V)) → entry_at R es q ≡ entry_at R fs q →
         entry_at R (with_pairs R (map pair (filter test xs)) es) q ≡ entry_at R (with_pairs R (map pair xs) fs) q

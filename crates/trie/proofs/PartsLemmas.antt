@@ -5,10 +5,9 @@ use Rattle.std.proofs.lemmas.Bool.{cases_lt}
 use Rattle.std.proofs.lemmas.Grind.{flat_map-append}
 use Rattle.std.specs.Bool.{⊤}
 
-pub flat_map-same : {X Y : Type 0} (f g : Y → List X) (ys : List Y) → AllByRecursion (λ y. f y ≡ g y) ys →
-    flat_map f ys ≡ flat_map g ys
-flat_map-same f g [] same = refl
-flat_map-same f g (y ∷ ys) same = rw (same.0, flat_map-same f g ys same.1) refl
+pub flat_map-same : {X Y : Type 0} (f g : Y → List X) → ((y : Y) → f y ≡ g y) → (ys : List Y) → flat_map f ys ≡ flat_map g ys
+flat_map-same f g same [] = refl
+flat_map-same f g same (y ∷ ys) = rw (same y, flat_map-same f g same ys) refl
 
 -- lists of lists, joined twice
 pub flat_map-twice : {X Y : Type 0} (f : Y → List (List X)) (ys : List Y) →
@@ -19,26 +18,6 @@ flat_map-twice f (y ∷ ys) =
     ∙ ap (λ l. flat_map (λ x. x) (f y) ++ l) (flat_map-twice f ys)
 
 module _ {X : Type 0} (p : X → Bool) where
-  filter_kept : (P : X → Type 0) (b : Bool) (x : X) (xs : List X) → P x → AllByRecursion P xs →
-      AllByRecursion P (cond b (x ∷ xs) xs)
-  filter_kept P true x xs here rest = (here, rest)
-  filter_kept P false x xs here rest = rest
-
-  -- what holds of each element holds of those that are kept
-  pub filter_all_of : (P : X → Type 0) (xs : List X) → AllByRecursion P xs → AllByRecursion P (filter p xs)
-  filter_all_of P [] all = tt
-  filter_all_of P (x ∷ xs) all = filter_kept P (p x) x (filter p xs) all.0 (filter_all_of P xs all.1)
-
-  passes_kept : (b : Bool) (x : X) (xs : List X) → p x ≡ b → AllByRecursion (λ x. p x ≡ true) xs →
-      AllByRecursion (λ x. p x ≡ true) (cond b (x ∷ xs) xs)
-  passes_kept true x xs here rest = (here, rest)
-  passes_kept false x xs here rest = rest
-
-  -- those that are kept pass
-  pub filter_passes : (xs : List X) → AllByRecursion (λ x. p x ≡ true) (filter p xs)
-  filter_passes [] = tt
-  filter_passes (x ∷ xs) = passes_kept (p x) x (filter p xs) refl (filter_passes xs)
-
   twice_kept : (q : X → Bool) (b : Bool) (x : X) (xs ys : List X) → (p x ≡ true → b ≡ true) →
       filter p xs ≡ ys → filter p (cond b (x ∷ xs) xs) ≡ cond (p x) (x ∷ ys) ys
   twice_kept q true x xs ys implies rest = rw rest refl

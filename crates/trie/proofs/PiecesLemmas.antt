@@ -8,41 +8,19 @@ use Rattle.std.specs.Ordering.{nat_cmp, ordering_reverse}
 use Rattle.std.specs.declared.cmp.Ordering.{Ordering}
 use Rattle.std.specs.declared.cmp.Ordering.TheVariants.{Less, Greater}
 use Rattle.std.proofs.lemmas.Bool.{cases_lt}
-use Rattle.std.proofs.lemmas.Bool.Decides.{eqb_tells}
+use Rattle.std.proofs.lemmas.List.{append-nil}
+use Rattle.std.proofs.lemmas.List.Elements.{filter_passes, recursion_from_All}
 use Rattle.std.proofs.lemmas.Cmp.{nat_list_cmp_total}
 use Rattle.trie.specs.Cuts.{cut, cut_below, is_opened, IsPart, unless_empty, with_prefix}
-use Rattle.trie.specs.Digits.{digit_count, digit_order, digits, place_count}
+use Rattle.trie.specs.Digits.{digit_count, digit_order, digits, slot_count}
 use Rattle.trie.specs.Entries.{IsRising}
 use Rattle.trie.specs.Maps.{RiseByHash}
 use Rattle.trie.specs.Tree.{StartsWith}
-use Rattle.trie.proofs.CutLemmas.{filter_all}
-use Rattle.trie.proofs.DigitsLemmas.{get_or-digits, length-digits, parts_less, starts_with-next}
+use Rattle.trie.proofs.DigitsLemmas.{begins, begins_not, begun, begun_front, get_or-digits, length-digits, parts_less, starts_with-next}
 use Rattle.trie.proofs.EntriesLemmas.{from_keys-all, keys-all}
-use Rattle.trie.proofs.ListsLemmas.{all-append, all-weaken}
-use Rattle.trie.proofs.PartsLemmas.{Climbs, Tells, filter_all_of, filter_passes, filter_twice, flat_map-same, flat_map-twice, parts_joined}
-use Rattle.trie.proofs.PlacesLemmas.{IsBelow}
-use Rattle.trie.proofs.ShapeNodesLemmas.{begins, begins_not}
-
--- what the test says of a prefix
-begun : (prefix ds : List ℕ) → starts_with nat_eq ds prefix ≡ true → StartsWith prefix ds
-begun [] ds is = tt
-begun (p ∷ prefix) [] is = absurd (cc is)
-begun (p ∷ prefix) (d ∷ ds) is = elim (eqb_tells p d) [
-  | inl same ↦ (same.1, begun prefix ds (rw same.0 at is))
-  | inr other ↦ absurd (cc (rw other.0 at is))
-]
-
-begun_front : (prefix more ds : List ℕ) → starts_with nat_eq ds (prefix ++ more) ≡ true → starts_with nat_eq ds prefix ≡ true
-begun_front prefix more ds is = begins prefix ds (front prefix ds (begun (prefix ++ more) ds is))
-  where
-    front : (prefix ds : List ℕ) → StartsWith (prefix ++ more) ds → StartsWith prefix ds
-    front [] ds s = tt
-    front (p ∷ prefix) [] s = s
-    front (p ∷ prefix) (d ∷ ds) s = (s.0, front prefix ds s.1)
-
-for_all : {X : Type 0} (P : X → Type 0) → ((x : X) → P x) → (xs : List X) → AllByRecursion P xs
-for_all P each [] = tt
-for_all P each (x ∷ xs) = (each x, for_all P each xs)
+use Rattle.trie.proofs.ListsLemmas.{all-append, all-each, all-filter, all-weaken, filter_all}
+use Rattle.trie.proofs.PartsLemmas.{Climbs, Tells, filter_twice, flat_map-same, flat_map-twice, parts_joined}
+use Rattle.trie.proofs.SlotsLemmas.{IsBelow}
 
 all_flat : {X Y : Type 0} (P : X → Type 0) (f : Y → List X) (ys : List Y) → AllByRecursion (λ y. AllByRecursion P (f y)) ys →
     AllByRecursion P (flat_map f ys)
@@ -62,7 +40,7 @@ module _ {K V : Type 0} (hash : K → ℕ) (cmp : K → K → Ordering) where
   filter_rises p (e ∷ es) rising =
       filter_rises_kept p (p e) e es (filter p es)
       (keys-all (λ k. digit_order hash cmp e.0 k ≡ Less) (filter p es)
-      (filter_all_of p (λ f. digit_order hash cmp e.0 f.0 ≡ Less) es
+      (all-filter p (λ f. digit_order hash cmp e.0 f.0 ≡ Less) es
       (from_keys-all (λ k. digit_order hash cmp e.0 k ≡ Less) es rising.0)))
       (filter_rises p es rising.1)
 
@@ -84,7 +62,7 @@ module _ {K V : Type 0} (hash : K → ℕ) (cmp : K → K → Ordering) where
       others = λ d other. begins_not prefix (dig e) d [] (digits (hash e.0)) (longer e below) other;
     }
 
-    low_digit : (e : K × V) → dig e < place_count
+    low_digit : (e : K × V) → dig e < slot_count
     low_digit e = rw (get_or-digits (hash e.0) (length prefix) short) (omega arith)
 
     -- of two keys in order, the first has no greater digit
@@ -111,32 +89,28 @@ module _ {K V : Type 0} (hash : K → ℕ) (cmp : K → K → Ordering) where
     climbs [] all rising = tt
     climbs (e ∷ es) all rising = (first_climbs e es all.0 all.1 rising.0, climbs es all.1 rising.1)
 
-    low_all : (es : List (K × V)) → AllByRecursion (λ e. dig e < place_count) es
+    low_all : (es : List (K × V)) → AllByRecursion (λ e. dig e < slot_count) es
     low_all [] = tt
     low_all (e ∷ es) = (low_digit e, low_all es)
 
     -- the entries of each digit behind the prefix, joined in order, are all entries
     digits_joined : (es : List (K × V)) → AllByRecursion (IsBelow hash cmp prefix) es →
         IsRising (digit_order hash cmp) (keys_of es) →
-        flat_map (λ d. with_prefix hash (prefix ++ d ∷ []) es) (range_with_len 0 place_count) ≡ es
+        flat_map (λ d. with_prefix hash (prefix ++ d ∷ []) es) (range_with_len 0 slot_count) ≡ es
     digits_joined es all rising =
-        parts_joined dig test place_count es (all-weaken (IsBelow hash cmp prefix) (Tells dig test) tells es all)
+        parts_joined dig test slot_count es (all-weaken (IsBelow hash cmp prefix) (Tells dig test) tells es all)
         (climbs es all rising) (low_all es)
 
   unless_joined : (es : List (K × V)) → flat_map (λ x. x) (unless_empty es) ≡ es
   unless_joined [] = refl
-  unless_joined (e ∷ es) = append_nil (e ∷ es)
-    where
-      append_nil : {X : Type 0} (xs : List X) → xs ++ [] ≡ xs
-      append_nil [] = refl
-      append_nil (x ∷ xs) = ap (λ l. x ∷ l) (append_nil xs)
+  unless_joined (e ∷ es) = append-nil (e ∷ es)
 
   -- the entries of a prefix have it
   all_below : (prefix : List ℕ) (es : List (K × V)) → AllByRecursion (IsBelow hash cmp prefix) (with_prefix hash prefix es)
   all_below prefix es =
       all-weaken (λ e. starts_with nat_eq (digits (hash e.0)) prefix ≡ true) (IsBelow hash cmp prefix)
       (λ e is. begun prefix (digits (hash e.0)) is) (with_prefix hash prefix es)
-      (filter_passes (λ e. starts_with nat_eq (digits (hash e.0)) prefix) es)
+      (recursion_from_All _ (with_prefix hash prefix es) (filter_passes (λ e. starts_with nat_eq (digits (hash e.0)) prefix) es))
 
   unless_part : (whole : List (K × V)) (prefix : List ℕ) (es : List (K × V)) → es ≡ with_prefix hash prefix whole →
       AllByRecursion (IsPart hash whole) (unless_empty es)
@@ -154,12 +128,12 @@ module _ {K V : Type 0} (hash : K → ℕ) (cmp : K → K → Ordering) where
         let short : length prefix < digit_count = omega (arith, full) in
         by_test (is_opened most small (length prefix) (length es)) _
         (flat_map-twice (λ d. cut_below hash most small n (prefix ++ d ∷ []) (with_prefix hash (prefix ++ d ∷ []) es))
-        (range_with_len 0 place_count)
+        (range_with_len 0 slot_count)
         ∙ flat_map-same (λ d. flat_map (λ x. x) (cut_below hash most small n (prefix ++ d ∷ []) (with_prefix hash (prefix ++ d ∷ []) es)))
-        (λ d. with_prefix hash (prefix ++ d ∷ []) es) (range_with_len 0 place_count)
-        (for_all _ (λ d. joined_below n (prefix ++ d ∷ []) (omega (arith, full, length-append prefix (d ∷ [])))
+        (λ d. with_prefix hash (prefix ++ d ∷ []) es)
+        (λ d. joined_below n (prefix ++ d ∷ []) (omega (arith, full, length-append prefix (d ∷ [])))
         (with_prefix hash (prefix ++ d ∷ []) es) (all_below (prefix ++ d ∷ []) es)
-        (filter_rises (λ e. starts_with nat_eq (digits (hash e.0)) (prefix ++ d ∷ [])) es rising)) (range_with_len 0 place_count))
+        (filter_rises (λ e. starts_with nat_eq (digits (hash e.0)) (prefix ++ d ∷ [])) es rising)) (range_with_len 0 slot_count)
         ∙ digits_joined prefix short es all rising)
       where
         by_test : (b : Bool) (pieces : List (List (K × V))) → flat_map (λ x. x) pieces ≡ es →
@@ -175,11 +149,11 @@ module _ {K V : Type 0} (hash : K → ℕ) (cmp : K → K → Ordering) where
     parts_below whole (suc n) prefix es is =
         by_test (is_opened most small (length prefix) (length es)) _
         (all_flat (IsPart hash whole)
-        (λ d. cut_below hash most small n (prefix ++ d ∷ []) (with_prefix hash (prefix ++ d ∷ []) es)) (range_with_len 0 place_count)
-        (for_all _ (λ d. parts_below whole n (prefix ++ d ∷ []) (with_prefix hash (prefix ++ d ∷ []) es)
+        (λ d. cut_below hash most small n (prefix ++ d ∷ []) (with_prefix hash (prefix ++ d ∷ []) es)) (range_with_len 0 slot_count)
+        (all-each _ (λ d. parts_below whole n (prefix ++ d ∷ []) (with_prefix hash (prefix ++ d ∷ []) es)
         (rw is (filter_twice (λ e. starts_with nat_eq (digits (hash e.0)) (prefix ++ d ∷ []))
         (λ e. starts_with nat_eq (digits (hash e.0)) prefix)
-        (λ e long. begun_front prefix (d ∷ []) (digits (hash e.0)) long) whole))) (range_with_len 0 place_count)))
+        (λ e long. begun_front prefix (d ∷ []) (digits (hash e.0)) long) whole))) (range_with_len 0 slot_count)))
       where
         by_test : (b : Bool) (pieces : List (List (K × V))) → AllByRecursion (IsPart hash whole) pieces →
             AllByRecursion (IsPart hash whole) (cond b pieces (unless_empty es))
@@ -190,10 +164,10 @@ module _ {K V : Type 0} (hash : K → ℕ) (cmp : K → K → Ordering) where
   pub pieces_joined : (es : List (K × V)) (depth small : ℕ) → RiseByHash hash cmp (keys_of es) →
       flat_map (λ piece. piece) (cut hash depth small es) ≡ es
   pieces_joined es depth small rising =
-      joined_below depth small digit_count [] refl es (for_all (IsBelow hash cmp []) (λ e. tt) es) rising
+      joined_below depth small digit_count [] refl es (all-each (IsBelow hash cmp []) (λ e. tt) es) rising
 
   -- each piece is a part of the entries
   pub pieces_parts : (es : List (K × V)) (depth small : ℕ) → AllByRecursion (IsPart hash es) (cut hash depth small es)
   pieces_parts es depth small =
       parts_below depth small es digit_count [] es
-      (sym (filter_all (λ e. starts_with nat_eq (digits (hash e.0)) []) es (for_all _ (λ e. refl) es)))
+      (sym (filter_all (λ e. starts_with nat_eq (digits (hash e.0)) []) es (all-each _ (λ e. refl) es)))

@@ -6,13 +6,14 @@ use Rattle.trie.specs.Digits.{digit_order}
 use Rattle.trie.specs.Entries.{entry_at}
 use Rattle.trie.specs.Merging.{CanBlend, IsMerged, Meet, Merges}
 use Rattle.trie.specs.Nodes.{Node}
-use Rattle.trie.specs.Tree.{entries_in, IsPlace}
-use Rattle.trie.proofs.FoundLemmas.{value_blended, value-entry}
+use Rattle.trie.specs.Tree.{entries_in, IsSlot}
+use Rattle.trie.proofs.FoundLemmas.{value_blended}
+use Rattle.trie.proofs.MapsLemmas.{value-entry}
 
 module _ {K V : Type 0} (hash : K → ℕ) (cmp : K → K → Ordering) where
   -- they may be merged
   pub roots_meet : (Asks : V → V → Type 0) (first second : Option (Node K V)) (es fs : List (K × V)) →
-      entries_in first ≡ es → entries_in second ≡ fs → IsPlace hash cmp first [] → IsPlace hash cmp second [] →
+      entries_in first ≡ es → entries_in second ≡ fs → IsSlot hash cmp first [] → IsSlot hash cmp second [] →
       length es + length fs < 2 ^ 64 → CanBlend (digit_order hash cmp) Asks es fs →
       Meet hash cmp Asks 0 first second
   roots_meet Asks first second es fs is also placed other room can = record {
@@ -25,7 +26,7 @@ module _ {K V : Type 0} (hash : K → ℕ) (cmp : K → K → Ordering) where
   }
 
   pub roots_merged : (blend : V → V → V) (first second third : Option (Node K V)) (es fs : List (K × V)) →
-      entries_in first ≡ es → entries_in second ≡ fs → IsPlace hash cmp first [] → IsPlace hash cmp second [] →
+      entries_in first ≡ es → entries_in second ≡ fs → IsSlot hash cmp first [] → IsSlot hash cmp second [] →
       Merges hash cmp blend 0 first second third → IsMerged (digit_order hash cmp) blend es fs (entries_in third)
   roots_merged blend first second third es fs is also placed other merges =
       let merged = merges.at [] refl placed other in

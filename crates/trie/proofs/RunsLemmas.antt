@@ -1,4 +1,4 @@
--- Runs of pairs that have one digit in a place, and the children that are made of them.
+-- Runs of pairs that have one digit at a depth, and the children that are made of them.
 use Rattle.std.proofs.Common.{◌≡◌, ◌==◌, ℕ, ◌+◌, ◌*◌, ◌^◌, ◌<◌, ◌≤◌, Bool, true, false, Option, Some, None, List, [], ◌∷◌, ◌++◌, length, map, take, drop, get_or, set, refl, sym, ap, ◌∙◌, subst, append_assoc, arith, inl, inr, length-append, length-drop}
 use Rattle.std.specs.Prelude.{slice_get}
 use Rattle.std.specs.List.{All, AllByRecursion, filter, fold}
@@ -6,75 +6,55 @@ use Rattle.std.specs.List.Sorted.{IsNonDecreasingBy, IsPartitionPoint}
 use Rattle.std.specs.declared.cmp.Ordering.{Ordering}
 use Rattle.std.proofs.Math.Nat.{pow-le-pow_right}
 use Rattle.std.proofs.Math.Seq.{drop-append_seam}
-use Rattle.std.proofs.lemmas.Bool.{cases_Bool, cases_lt, eq-eqb, eqb-true}
-use Rattle.std.proofs.lemmas.List.{append-nil, get_or-drop, get_or-replicate, get_or-take, length-take, take-append-drop}
-use Rattle.std.proofs.lemmas.List.Elements.{All-cons, All-drop, All-head, All-nil, All-tail, All-weaker, filter-append}
+use Rattle.std.proofs.lemmas.Bool.{cases_lt, eq-eqb, eqb-true}
+use Rattle.std.proofs.lemmas.List.{append-nil, get_or-drop, get_or-replicate, get_or-set_other, get_or-set_same, get_or-take, length-take, take-append-drop}
+use Rattle.std.proofs.lemmas.List.Elements.{All-cons, All-drop, All-head, All-nil, All-weaker, filter-append, recursion_from_All}
 use Rattle.std.proofs.lemmas.List.Sorted.{IsNonDecreasingBy-drop}
 use Rattle.std.proofs.lemmas.Nat.{pow_pos}
 use Rattle.trie.specs.Building.{AreBelow, AreHashed, AreMadeOf, HaveOnePrefix, IsBegun, IsMadeOf, IsRun, OwnedPair, pair_in, pairs_in, with_digit}
-use Rattle.trie.specs.Dense.{places_in, places_of}
-use Rattle.trie.specs.Digits.{digit, digit_count, digits, first_digits, first_number, place_count}
+use Rattle.trie.specs.Dense.{slots_in, slots_of}
+use Rattle.trie.specs.Digits.{digit, digit_count, digits, first_digits, first_number, slot_count}
 use Rattle.trie.specs.Nodes.{Node}
 use Rattle.trie.specs.Tree.{StartsWith}
 use Rattle.trie.specs.declared.build.Hashed.{Hashed}
 use Rattle.trie.proofs.BuildLemmas.{none_made}
-use Rattle.trie.proofs.DenseLemmas.{places_of-none}
-use Rattle.trie.proofs.MeetLemmas.{read_other, read_written, starts_is}
+use Rattle.trie.proofs.DenseLemmas.{slots_of-none}
+use Rattle.trie.proofs.MeetLemmas.{starts_is}
+use Rattle.trie.proofs.DigitsLemmas.{unlike}
+use Rattle.trie.proofs.ListsLemmas.{all-map, all-unmap, filter_all, filter_none}
 use Rattle.trie.proofs.SortLemmas.{number_more}
 
 module _ {X : Type 0} where
-  kept_all : (test : X → Bool) (xs : List X) → All (λ x. test x ≡ true) xs → filter test xs ≡ xs
-  kept_all test [] all = refl
-  kept_all test (x ∷ xs) all =
-      let here = All-head (λ x. test x ≡ true) x xs all in
-      rw here (ap (λ l. x ∷ l) (kept_all test xs (All-tail (λ x. test x ≡ true) x xs all)))
-
-  kept_none : (test : X → Bool) (xs : List X) → All (λ x. test x ≡ false) xs → filter test xs ≡ []
-  kept_none test [] all = refl
-  kept_none test (x ∷ xs) all =
-      let here = All-head (λ x. test x ≡ false) x xs all in
-      rw here (kept_none test xs (All-tail (λ x. test x ≡ false) x xs all))
-
   all_behind : (P : X → Type 0) (xs ys : List X) → All P (xs ++ ys) → All P ys
   all_behind P xs ys all = subst (All P) (drop-append_seam xs ys) (All-drop P (length xs) (xs ++ ys) all)
-
-  behind : {Y : Type 0} (P : Y → Type 0) (f : X → Y) (xs ys : List X) → AllByRecursion P (map f (xs ++ ys)) → AllByRecursion P (map f ys)
-  behind P f [] ys all = all
-  behind P f (x ∷ xs) ys all = behind P f xs ys all.1
 
   each_behind : (P : X → Type 0) (xs ys : List X) → AllByRecursion P (xs ++ ys) → AllByRecursion P ys
   each_behind P [] ys all = all
   each_behind P (x ∷ xs) ys all = each_behind P xs ys all.1
 
-unlike : (a b : ℕ) → (a ≡ b → ⊥) → (a == b) ≡ false
-unlike a b other = elim (cases_Bool (a == b)) [
-  | inl same ↦ absurd (other (eqb-true a b same))
-  | inr different ↦ different
-]
-
-module _ {P : Type 0} (place : ℕ) where
-  alike_kept : (d : ℕ) (run : List (Hashed P)) → All (λ one. digit one.hash place ≡ d) run → with_digit place d run ≡ run
+module _ {P : Type 0} (depth : ℕ) where
+  alike_kept : (d : ℕ) (run : List (Hashed P)) → All (λ one. digit one.hash depth ≡ d) run → with_digit depth d run ≡ run
   alike_kept d run alike =
-      kept_all (λ one. digit one.hash place == d) run
-      (All-weaker (λ one. digit one.hash place ≡ d) (λ one. (digit one.hash place == d) ≡ true) (λ one same. eq-eqb _ _ same) run alike)
+      filter_all (λ one. digit one.hash depth == d) run (recursion_from_All _ run
+      (All-weaker (λ one. digit one.hash depth ≡ d) (λ one. (digit one.hash depth == d) ≡ true) (λ one same. eq-eqb _ _ same) run alike))
 
-  other_kept : (d : ℕ) (list : List (Hashed P)) → All (λ one. digit one.hash place ≡ d → ⊥) list → with_digit place d list ≡ []
+  other_kept : (d : ℕ) (list : List (Hashed P)) → All (λ one. digit one.hash depth ≡ d → ⊥) list → with_digit depth d list ≡ []
   other_kept d list other =
-      kept_none (λ one. digit one.hash place == d) list
-      (All-weaker (λ one. digit one.hash place ≡ d → ⊥) (λ one. (digit one.hash place == d) ≡ false) (λ one apart. unlike _ _ apart) list other)
+      filter_none (λ one. digit one.hash depth == d) list (recursion_from_All _ list
+      (All-weaker (λ one. digit one.hash depth ≡ d → ⊥) (λ one. (digit one.hash depth == d) ≡ false) (λ one apart. unlike _ _ apart) list other))
 
   -- what is so of the digit of each of a run and of those after it is so of the run's digit
-  at_run : (d : ℕ) (run rest : List (Hashed P)) → 0 < length run → All (λ one. digit one.hash place ≡ d) run → (T : ℕ → Type 0) →
-      All (λ one. T (digit one.hash place)) (run ++ rest) → T d
+  at_run : (d : ℕ) (run rest : List (Hashed P)) → 0 < length run → All (λ one. digit one.hash depth ≡ d) run → (T : ℕ → Type 0) →
+      All (λ one. T (digit one.hash depth)) (run ++ rest) → T d
   at_run d [] rest some alike T all = absurd (omega arith)
   at_run d (one ∷ run) rest some alike T all =
-      subst T (All-head (λ one. digit one.hash place ≡ d) one run alike) (All-head (λ one. T (digit one.hash place)) one (run ++ rest) all)
+      subst T (All-head (λ one. digit one.hash depth ≡ d) one run alike) (All-head (λ one. T (digit one.hash depth)) one (run ++ rest) all)
 
-  module _ (list : List (Hashed P)) (d : ℕ) (run rest : List (Hashed P)) (is : IsRun place list d run rest) where
+  module _ (list : List (Hashed P)) (d : ℕ) (run rest : List (Hashed P)) (is : IsRun depth list d run rest) where
     -- a run has those of its digit
-    pub run_kept : run ≡ with_digit place d list
+    pub run_kept : run ≡ with_digit depth d list
     run_kept =
-        let none = other_kept d rest (All-weaker (λ one. d < digit one.hash place) (λ one. digit one.hash place ≡ d → ⊥)
+        let none = other_kept d rest (All-weaker (λ one. d < digit one.hash depth) (λ one. digit one.hash depth ≡ d → ⊥)
         (λ one more e. absurd (omega (arith, more, e))) rest is.above) in
         rw (is.joined, filter-append, none, alike_kept d run is.alike) (sym (append-nil run))
 
@@ -83,12 +63,12 @@ module _ {P : Type 0} (place : ℕ) where
     fewer_left = omega (arith, ap length is.joined, length-append run rest, is.some)
 
 -- where digits do not fall, those up to the first one's are a run
-pub run_made : {P : Type 0} (place : ℕ) (list : List (Hashed P)) → IsNonDecreasingBy (λ one. digit one.hash place) list → (first : Hashed P) →
-    Some first ≡ slice_get list 0 → (d : ℕ) → d ≡ digit first.hash place → d < place_count → (end : ℕ) → end ≤ length list →
-    IsPartitionPoint (λ one. digit one.hash place ≤ d) (λ one. d < digit one.hash place) list end →
-    IsRun place list d (take end list) (drop end list)
-run_made place [] up first is d d_is low end within parted = absurd (cc)
-run_made {P} place (one ∷ list) up first is d d_is low end within parted = record {
+pub run_made : {P : Type 0} (depth : ℕ) (list : List (Hashed P)) → IsNonDecreasingBy (λ one. digit one.hash depth) list → (first : Hashed P) →
+    Some first ≡ slice_get list 0 → (d : ℕ) → d ≡ digit first.hash depth → d < slot_count → (end : ℕ) → end ≤ length list →
+    IsPartitionPoint (λ one. digit one.hash depth ≤ d) (λ one. d < digit one.hash depth) list end →
+    IsRun depth list d (take end list) (drop end list)
+run_made depth [] up first is d d_is low end within parted = absurd (cc)
+run_made {P} depth (one ∷ list) up first is d d_is low end within parted = record {
   low = low;
   joined = sym (take-append-drop end whole);
   some = omega (arith, long, some);
@@ -96,7 +76,7 @@ run_made {P} place (one ∷ list) up first is d d_is low end within parted = rec
       let read = get_or-take end whole k other (omega (arith, long, lt)) in
       let least = up 0 k other (omega arith) (omega (arith, long, lt)) in
       let most = parted.0 k other (omega arith) (omega (arith, long, lt)) in
-      omega (arith, ap (λ x. digit x.hash place) read, least, most, here);
+      omega (arith, ap (λ x. digit x.hash depth) read, least, most, here);
   above = λ k other lt.
       let left = length-drop end whole in
       rw (get_or-drop end whole k other) (parted.1 (end + k) other (omega arith) (omega (arith, left, lt)));
@@ -105,8 +85,8 @@ run_made {P} place (one ∷ list) up first is d d_is low end within parted = rec
     whole : List (Hashed P)
     whole = one ∷ list
 
-    here : d ≡ digit one.hash place
-    here = let same : first ≡ one = cc in d_is ∙ ap (λ x. digit x.hash place) same
+    here : d ≡ digit one.hash depth
+    here = let same : first ≡ one = cc in d_is ∙ ap (λ x. digit x.hash depth) same
 
     long : length (take end whole) ≡ end
     long = omega (arith, length-take end whole, within)
@@ -135,7 +115,7 @@ module _ {K V : Type 0} (hash : K → ℕ) where
       let are = digits_are have.prefix list have.below have.hashed in
       let one = get_or list i other in
       let next = get_or list j other in
-      let number : List ℕ → ℕ = λ ds. fold (λ n d. n * place_count + d) 0 ds in
+      let number : List ℕ → ℕ = λ ds. fold (λ n d. n * slot_count + d) 0 ds in
       let first : first_number one.hash depth ≡ number have.prefix = ap number (rw have.deep at (are i other (omega (arith, le, lt)))) in
       let second : first_number next.hash depth ≡ number have.prefix = ap number (rw have.deep at (are j other lt)) in
       let rise = have.rise (depth + 1) (omega (arith, low)) i j other le lt in
@@ -146,11 +126,12 @@ module _ {K V : Type 0} (hash : K → ℕ) where
   rest_below depth list run rest have is =
       let below = rw is at have.below in
       let hashed = rw is at have.hashed in
+      let P : K × V → Type 0 = λ p. StartsWith have.prefix (digits (hash p.0)) in
       record {
         prefix = have.prefix;
         deep = have.deep;
         low = have.low;
-        below = behind (λ p. StartsWith have.prefix (digits (hash p.0))) pair_in run rest below;
+        below = all-map pair_in P rest (each_behind (λ one. P (pair_in one)) run rest (all-unmap pair_in P (run ++ rest) below));
         hashed = each_behind (λ one. one.hash ≡ hash (pair_in one).0) run rest hashed;
         rise = λ n within.
             subst (IsNonDecreasingBy (λ one. first_number one.hash n)) (ap (drop (length run)) is ∙ drop-append_seam run rest)
@@ -159,11 +140,11 @@ module _ {K V : Type 0} (hash : K → ℕ) where
       }
 
 module _ {K V : Type 0} (hash : K → ℕ) (cmp : K → K → Ordering) (depth : ℕ) (list : List (OwnedPair K V)) where
-  nothing_at : (X : Type 0) (k : ℕ) → k < place_count → get_or (places_of {X = X} 0 []) k None ≡ None
-  nothing_at X k lt = rw (places_of-none X) (get_or-replicate place_count k None None lt)
+  nothing_at : (X : Type 0) (k : ℕ) → k < slot_count → get_or (slots_of {X = X} 0 []) k None ≡ None
+  nothing_at X k lt = rw (slots_of-none X) (get_or-replicate slot_count k None None lt)
 
   -- no child yet
-  pub begun_none : IsBegun hash cmp depth list list 0 (places_in 0 [])
+  pub begun_none : IsBegun hash cmp depth list list 0 (slots_in 0 [])
   begun_none = record {
     front = [];
     joined = refl;
@@ -172,12 +153,12 @@ module _ {K V : Type 0} (hash : K → ℕ) (cmp : K → K → Ordering) (depth :
     none = λ k other lt. refl;
   }
 
-  module _ (left : List (OwnedPair K V)) (bitmap : ℕ) (places : List (Option (Node K V))) (begun : IsBegun hash cmp depth list left bitmap places) where
+  module _ (left : List (OwnedPair K V)) (bitmap : ℕ) (slots : List (Option (Node K V))) (begun : IsBegun hash cmp depth list left bitmap slots) where
     -- all children
-    pub begun_all : left ≡ [] → AreMadeOf hash cmp depth list places
+    pub begun_all : left ≡ [] → AreMadeOf hash cmp depth list slots
     begun_all none =
         let all : list ≡ begun.front = begun.joined ∙ (ap (λ l. begun.front ++ l) none ∙ append-nil begun.front) in
-        subst (λ l. AreMadeOf hash cmp depth l places) (sym all) begun.made
+        subst (λ l. AreMadeOf hash cmp depth l slots) (sym all) begun.made
 
     module _ (d : ℕ) (run rest : List (OwnedPair K V)) (is : IsRun depth left d run rest) where
       -- the bits so far are below the next one's
@@ -187,30 +168,30 @@ module _ {K V : Type 0} (hash : K → ℕ) (cmp : K → K → Ordering) (depth :
       none_before : with_digit depth d begun.front ≡ []
       none_before = at_run depth d run rest is.some is.alike (λ n. with_digit depth n begun.front ≡ []) (rw is.joined at begun.none)
 
-      made_at : (place : Option (Node K V)) → length places ≡ place_count → IsMadeOf hash cmp (depth + 1) (pairs_in run) place →
-          (k : ℕ) → k < place_count → (b : Bool) → (k == d) ≡ b →
-          IsMadeOf hash cmp (depth + 1) (pairs_in (with_digit depth k (begun.front ++ run))) (get_or (set places d place) k None)
-      made_at place wide child k lt true same =
+      made_at : (slot : Option (Node K V)) → length slots ≡ slot_count → IsMadeOf hash cmp (depth + 1) (pairs_in run) slot →
+          (k : ℕ) → k < slot_count → (b : Bool) → (k == d) ≡ b →
+          IsMadeOf hash cmp (depth + 1) (pairs_in (with_digit depth k (begun.front ++ run))) (get_or (set slots d slot) k None)
+      made_at slot wide child k lt true same =
           let here : k ≡ d = eqb-true k d same in
-          rw (here, filter-append, none_before, alike_kept depth d run is.alike, read_written places d place None (omega (arith, wide, is.low))) child
-      made_at place wide child k lt false other =
+          rw (here, filter-append, none_before, alike_kept depth d run is.alike, get_or-set_same slots d slot None (omega (arith, wide, is.low))) child
+      made_at slot wide child k lt false other =
           let apart : d ≡ k → ⊥ = λ (e : d ≡ k). let never = sym other ∙ eq-eqb k d (sym e) in cc in
           let none = other_kept depth k run (apart_from k apart) in
-          rw (filter-append, none, append-nil, read_other places d k place None (λ e. apart (sym e))) (begun.made k lt)
+          rw (filter-append, none, append-nil, get_or-set_other slots d k slot None (λ e. apart (sym e))) (begun.made k lt)
         where
           apart_from : (k : ℕ) → (d ≡ k → ⊥) → All (λ one. digit one.hash depth ≡ k → ⊥) run
           apart_from k other =
               All-weaker (λ one. digit one.hash depth ≡ d) (λ one. digit one.hash depth ≡ k → ⊥) (λ one same e. other (sym same ∙ e)) run is.alike
 
       -- one child more
-      pub begun_more : (more : ℕ) (place : Option (Node K V)) → length places ≡ place_count → IsMadeOf hash cmp (depth + 1) (pairs_in run) place →
-          more < 2 ^ (d + 1) → IsBegun hash cmp depth list rest more (set places d place)
-      begun_more more place wide child small =
+      pub begun_more : (more : ℕ) (slot : Option (Node K V)) → length slots ≡ slot_count → IsMadeOf hash cmp (depth + 1) (pairs_in run) slot →
+          more < 2 ^ (d + 1) → IsBegun hash cmp depth list rest more (set slots d slot)
+      begun_more more slot wide child small =
           let behind = all_behind (λ one. with_digit depth (digit one.hash depth) begun.front ≡ []) run rest (rw is.joined at begun.none) in
           record {
             front = begun.front ++ run;
             joined = begun.joined ∙ (ap (λ l. begun.front ++ l) is.joined ∙ sym (append_assoc begun.front run rest));
-            made = λ k lt. made_at place wide child k lt (k == d) refl;
+            made = λ k lt. made_at slot wide child k lt (k == d) refl;
             before = λ k other lt.
                 let above = is.above k other lt in
                 let power = pow-le-pow_right {n = 2} (omega arith) {i = d + 1} {j = digit (get_or rest k other).hash depth} (omega (arith, above)) in

@@ -10,30 +10,31 @@ use Rattle.std.proofs.lemmas.Cmp.{nat_cmp_total, tied_itself}
 use Rattle.std.proofs.lemmas.List.Sorted.{IsNonDecreasingBy-from_sort}
 use Rattle.std.proofs.lemmas.List.Sums.{fold-append}
 use Rattle.trie.specs.Building.{AreSmall, HaveTheirHashes, Rise, hashed_pairs}
-use Rattle.trie.specs.Digits.{digit, digit_count, digit_order, digits, digits_number, first_number, last, last_count, place_count}
+use Rattle.trie.specs.Digits.{digit, digit_count, digit_order, digits, digits_number, first_number, last, last_count, slot_count}
 use Rattle.trie.specs.Entries.{entry_at, with_pairs}
 use Rattle.trie.specs.declared.build.Hashed.{Hashed}
 use Rattle.trie.proofs.DigitsLemmas.{take-digits}
+use Rattle.trie.proofs.ListsLemmas.{all-each}
 use Rattle.trie.proofs.MapsLemmas.{digit_total, HaveHashes, is_Equal}
 use Rattle.trie.proofs.OrderLemmas.{order_agrees}
 use Rattle.trie.proofs.PairsLemmas.{found_kept, same_by_entries, with_pairs-sorted}
 
 -- the digits so far as a number, with one digit more
-pub number_more : (hash place number : ℕ) → place < digit_count → number ≡ first_number hash place →
-    number * place_count + digit hash place ≡ first_number hash (place + 1)
-number_more hash place number low is =
-    rw (take-digits hash place low, fold-append (λ n d. n * place_count + d) 0 (take place (digits hash)) (digit hash place ∷ []), ← is) refl
+pub number_more : (hash depth number : ℕ) → depth < digit_count → number ≡ first_number hash depth →
+    number * slot_count + digit hash depth ≡ first_number hash (depth + 1)
+number_more hash depth number low is =
+    rw (take-digits hash depth low, fold-append (λ n d. n * slot_count + d) 0 (take depth (digits hash)) (digit hash depth ∷ []), ← is) refl
 
--- so many digits have room in as many places
-pub number_fits : (number d place : ℕ) → number < place_count ^ place → d < place_count → number * place_count + d < place_count ^ (place + 1)
-number_fits number d place small low =
-    let step : place_count ^ (place + 1) ≡ place_count ^ place * place_count = rw (add-one, pow-suc place_count place) refl in
+-- one digit more has room in one power more
+pub number_fits : (number d depth : ℕ) → number < slot_count ^ depth → d < slot_count → number * slot_count + d < slot_count ^ (depth + 1)
+number_fits number d depth small low =
+    let step : slot_count ^ (depth + 1) ≡ slot_count ^ depth * slot_count = rw (add-one, pow-suc slot_count depth) refl in
     omega (arith, step, small, low)
 
-pub number_bound : (number d place : ℕ) → number < place_count ^ place → d < place_count → place < last → number * place_count + d < 2 ^ 64
-number_bound number d place small low within =
-    let fits = number_fits number d place small low in
-    let most : place_count ^ (place + 1) ≤ place_count ^ last = pow-le-pow_right {n = place_count} (omega arith) {i = place + 1} {j = last} (omega (arith, within)) in
+pub number_bound : (number d depth : ℕ) → number < slot_count ^ depth → d < slot_count → depth < last → number * slot_count + d < 2 ^ 64
+number_bound number d depth small low within =
+    let fits = number_fits number d depth small low in
+    let most : slot_count ^ (depth + 1) ≤ slot_count ^ last = pow-le-pow_right {n = slot_count} (omega arith) {i = depth + 1} {j = last} (omega (arith, within)) in
     omega (arith, fits, most)
 
 -- ---- hashes in the order of their digits
@@ -42,8 +43,8 @@ number_bound number d place small low within =
 last_low : (hash : ℕ) → hash < 2 ^ 64 → digit hash last < last_count
 last_low hash small = omega arith
 
-digit_low : (hash place : ℕ) → digit hash place < place_count
-digit_low hash place = omega arith
+digit_low : (hash depth : ℕ) → digit hash depth < slot_count
+digit_low hash depth = omega arith
 
 module _ (h g : ℕ) (h_small : h < 2 ^ 64) (g_small : g < 2 ^ 64) (le : digits_number h ≤ digits_number g) where
   numbers_rise : (more depth : ℕ) → depth + more ≡ digit_count → first_number h depth ≤ first_number g depth
@@ -64,10 +65,6 @@ sorted_rise list small sorted depth low i j d le lt =
     numbers_rise (get_or list i d).hash (get_or list j d).hash (small i d (omega (arith, le, lt))) (small j d lt) up (digit_count - depth) depth (omega (arith, low))
 
 -- ---- pairs in that order make the same map
-
-all_true : {X : Type 0} (xs : List X) → AllByRecursion (λ x. ⊤) xs
-all_true [] = tt
-all_true (x ∷ xs) = (tt, all_true xs)
 
 module _ {K V : Type 0} (hash : K → ℕ) (cmp : K → K → Ordering) (h : HaveHashes hash cmp) where
   -- those that tie with a pair of a key have its digits
@@ -103,5 +100,5 @@ module _ {K V : Type 0} (hash : K → ℕ) (cmp : K → K → Ordering) (h : Hav
       let total = digit_total hash cmp h in
       let v = o.pair.1 in
       same_by_entries order total (λ k. ⊤) _ _ (with_pairs-sorted order total (hashed_pairs new) [] tt)
-      (with_pairs-sorted order total (hashed_pairs (o ∷ old)) [] tt) (all_true _) (all_true _)
+      (with_pairs-sorted order total (hashed_pairs (o ∷ old)) [] tt) (all-each (λ _. ⊤) (λ _. tt) _) (all-each (λ _. ⊤) (λ _. tt) _)
       (λ q _. sym (found v q new also) ∙ ap (λ list. entry_at order (with_pairs order (hashed_pairs list) []) q) (stable (like v q)) ∙ found v q (o ∷ old) hashed)

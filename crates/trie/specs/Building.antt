@@ -6,7 +6,7 @@ use Rattle.std.specs.Ordering.{is_eq}
 use Rattle.std.specs.declared.alloc.Global.{Global}
 use Rattle.std.specs.declared.cmp.Ordering.{Ordering}
 use Rattle.std.specs.declared.sync.Arc.{Arc}
-use Rattle.trie.specs.Digits.{digit, digit_count, digit_order, digits, first_number, place_count}
+use Rattle.trie.specs.Digits.{digit, digit_count, digit_order, digits, first_number, slot_count}
 use Rattle.trie.specs.Entries.{with_pairs}
 use Rattle.trie.specs.Holding.{Holds}
 use Rattle.trie.specs.Nodes.{Node}
@@ -18,25 +18,25 @@ module _ {P : Type 0} where
   abbrev pub AreSmall : List (Hashed P) → Type 0
   AreSmall list = All (λ one. one.hash < 2 ^ 64) list
 
-  -- those whose hash has this digit in this place
+  -- those whose hash has this digit at this depth
   abbrev pub with_digit : ℕ → ℕ → List (Hashed P) → List (Hashed P)
-  with_digit place d list = filter (λ one. digit one.hash place == d) list
+  with_digit depth d list = filter (λ one. digit one.hash depth == d) list
 
-  -- a bit for each digit that hashes have in this place
+  -- a bit for each digit that hashes have at this depth
   abbrev pub digits_of : ℕ → List (Hashed P) → ℕ
-  digits_of place list = fold (λ bits one. bit_or bits (2 ^ digit one.hash place)) 0 list
+  digits_of depth list = fold (λ bits one. bit_or bits (2 ^ digit one.hash depth)) 0 list
 
   -- however many digits are compared, they do not fall
   abbrev pub Rise : List (Hashed P) → Type 0
   Rise list = (depth : ℕ) → depth ≤ digit_count → IsNonDecreasingBy (λ one. first_number one.hash depth) list
 
-  -- the list begins with those that have one digit in this place, and the rest have greater ones
-  pub record IsRun (place : ℕ) (list : List (Hashed P)) (d : ℕ) (run rest : List (Hashed P)) : Type 0 where
-    pub low : d < place_count
+  -- the list begins with those that have one digit at this depth, and the rest have greater ones
+  pub record IsRun (depth : ℕ) (list : List (Hashed P)) (d : ℕ) (run rest : List (Hashed P)) : Type 0 where
+    pub low : d < slot_count
     pub joined : list ≡ run ++ rest
     pub some : 0 < length run
-    pub alike : All (λ one. digit one.hash place ≡ d) run
-    pub above : All (λ one. d < digit one.hash place) rest
+    pub alike : All (λ one. digit one.hash depth ≡ d) run
+    pub above : All (λ one. d < digit one.hash depth) rest
 
 -- the pairs themselves
 abbrev pub hashed_pairs : {K V : Type 0} → List (Hashed (K × V)) → List (K × V)
@@ -85,20 +85,20 @@ module _ {K V : Type 0} (hash : K → ℕ) where
     pub rise : Rise list
     pub fits : length list < 2 ^ 64
 
-  -- the place has these pairs, each laid over those before it, whatever prefix of so many digits they have
-  pub record IsMadeOf (cmp : K → K → Ordering) (depth : ℕ) (pairs : List (K × V)) (place : Option (Node K V)) : Type 0 where
+  -- the slot has these pairs, each laid over those before it, whatever prefix of so many digits they have
+  pub record IsMadeOf (cmp : K → K → Ordering) (depth : ℕ) (pairs : List (K × V)) (slot : Option (Node K V)) : Type 0 where
     pub at : (prefix : List ℕ) → length prefix ≡ depth → AreBelow prefix pairs →
-        Holds hash cmp prefix (with_pairs (digit_order hash cmp) pairs []) place
+        Holds hash cmp prefix (with_pairs (digit_order hash cmp) pairs []) slot
 
-  -- each place has the pairs with its digit
+  -- each slot has the pairs with its digit
   abbrev pub AreMadeOf : (K → K → Ordering) → ℕ → List (OwnedPair K V) → List (Option (Node K V)) → Type 0
-  AreMadeOf cmp depth list places =
-      (k : ℕ) → k < place_count → IsMadeOf cmp (depth + 1) (pairs_in (with_digit depth k list)) (get_or places k None)
+  AreMadeOf cmp depth list slots =
+      (k : ℕ) → k < slot_count → IsMadeOf cmp (depth + 1) (pairs_in (with_digit depth k list)) (get_or slots k None)
 
-  -- the places of a branch have the front of a list: those that are left have digits of which none is in it, nor in the bitmap
-  pub record IsBegun (cmp : K → K → Ordering) (depth : ℕ) (list left : List (OwnedPair K V)) (bitmap : ℕ) (places : List (Option (Node K V))) : Type 0 where
+  -- the slots of a branch have the front of a list: those that are left have digits of which none is in it, nor in the bitmap
+  pub record IsBegun (cmp : K → K → Ordering) (depth : ℕ) (list left : List (OwnedPair K V)) (bitmap : ℕ) (slots : List (Option (Node K V))) : Type 0 where
     pub front : List (OwnedPair K V)
     pub joined : list ≡ front ++ left
-    pub made : AreMadeOf cmp depth front places
+    pub made : AreMadeOf cmp depth front slots
     pub before : All (λ one. bitmap < 2 ^ digit one.hash depth) left
     pub none : All (λ one. with_digit depth (digit one.hash depth) front ≡ []) left

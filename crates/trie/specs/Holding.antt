@@ -5,12 +5,12 @@ use Rattle.std.specs.declared.alloc.Global.{Global}
 use Rattle.std.specs.declared.cmp.Ordering.{Ordering}
 use Rattle.std.specs.declared.sync.Arc.{Arc}
 use Rattle.std.specs.Borrow.{Bor}
-use Rattle.trie.specs.Digits.{digit, digit_count, digit_order, first_digits, place_count}
+use Rattle.trie.specs.Digits.{digit, digit_count, digit_order, first_digits, slot_count}
 use Rattle.trie.specs.Entries.{with_pair, without_key}
-use Rattle.trie.specs.Dense.{IsDense, places_in}
+use Rattle.trie.specs.Dense.{IsDense, slots_in}
 use Rattle.trie.specs.Nodes as nodes
 use Rattle.trie.specs.Nodes.{Child, Node, node_of, One, Owned, owned, Several}
-use Rattle.trie.specs.Tree.{AreChildren, entries_in, IsNode, IsPlace}
+use Rattle.trie.specs.Tree.{AreChildren, entries_in, IsNode, IsSlot}
 use Rattle.trie.specs.declared.node.Children.{Children}
 use Rattle.trie.specs.declared.digits.HashPrefix.{HashPrefix}
 use Rattle.trie.specs.declared.node.Inner.{out-Inner}
@@ -42,24 +42,24 @@ IsWithout order key held (Some left) = (pairs_of left.items ≡ without_key orde
 abbrev pub prefix_of : HashPrefix → List ℕ
 prefix_of at = first_digits at.hash at.depth
 
--- the entries in a place, whoever owns its node
+-- the entries in a slot, whoever owns its node
 abbrev pub held_in : {K V : Type 0} → Option (Child K V) → List (K × V)
-held_in place = entries_in (node_of place)
+held_in slot = entries_in (node_of slot)
 
 -- a pair that is found, whoever owns it
 abbrev pub found_in : {X : Type 0} → Option (Bor (Arc X Global)) → Option X
 found_in None = None
 found_in (Some pair) = Some pair.now.value
 
--- the node in a place that is looked at, and the entries in it
+-- the node in a slot that is looked at, and the entries in it
 abbrev pub seen_in : {P I : Type 0} → Option (Bor (Owner P I)) → Option (Owned P I)
 seen_in None = None
 seen_in (Some node) = Some (owned node.now)
 
 abbrev pub held_at : {K V : Type 0} → Option (Bor (Child K V)) → List (K × V)
-held_at place = entries_in (seen_in place)
+held_at slot = entries_in (seen_in slot)
 
--- what a view of a place shows
+-- what a view of a slot shows
 abbrev pub shown : {K V : Type 0} → View K V → Option (Node K V)
 shown view.Empty = None
 shown (view.Leaf pair) = Some (One pair.now.value)
@@ -71,14 +71,14 @@ abbrev pub made_of : {K V : Type 0} → Unmade K V → Node K V
 made_of (unmade.Leaf pair) = One pair.value
 made_of (unmade.Inner inner) = Several inner
 
--- the entries in the places with this one in the place after the prefix
+-- the entries in the slots with this one in the slot after the prefix
 abbrev pub held_with : {K V : Type 0} → HashPrefix → List (Option (Node K V)) → Option (Child K V) → List (K × V)
-held_with at places place = flat_map entries_in (set places (digit at.hash at.depth) (node_of place))
+held_with at slots slot = flat_map entries_in (set slots (digit at.hash at.depth) (node_of slot))
 
--- the children stand for these places
-pub record IsWritten {K V : Type 0} (places : List (Option (Node K V))) (children : Children K V) : Type 0 where
+-- the children stand for these slots
+pub record IsWritten {K V : Type 0} (slots : List (Option (Node K V))) (children : Children K V) : Type 0 where
   pub dense : IsDense children.bitmap (length children.children.items)
-  pub places_are : places_in children.bitmap children.children.items ≡ places
+  pub slots_are : slots_in children.bitmap children.children.items ≡ slots
 
 -- what references lend
 abbrev pub lent : {K V : Type 0} → List (Bor K × Bor V) → List (K × V)
@@ -93,7 +93,7 @@ abbrev pub node_len : {K V : Type 0} → Node K V → ℕ
 node_len (One pair) = 1
 node_len {K} {V} (Several inner) = layer_len (out-Inner K V inner)
 
--- the same of a place
+-- the same of a slot
 abbrev pub len_in : {K V : Type 0} → Option (Node K V) → ℕ
 len_in None = 0
 len_in (Some node) = node_len node
@@ -110,48 +110,56 @@ sole_node len children = if len == 1 then first_node children else None
 -- no key was found, and no node made
 abbrev pub Misses : {K V E : Type 0} → ℕ → ℕ → Result (Removed K V) E → Type 0
 Misses old new (Ok Missing) = new ≡ old
-Misses old new (Ok (Left place)) = ⊥
+Misses old new (Ok (Left slot)) = ⊥
 Misses old new (Err e) = new ≡ old
 
 module _ {K V : Type 0} (hash : K → ℕ) (cmp : K → K → Ordering) where
-  -- these are the places of a branch of the prefix
-  pub record ArePlaces (prefix : List ℕ) (places : List (Option (Node K V))) : Type 0 where
+  -- these are the slots of a branch of the prefix
+  pub record AreSlots (prefix : List ℕ) (slots : List (Option (Node K V))) : Type 0 where
     pub short : length prefix < digit_count
-    pub wide : length places ≡ place_count
-    pub children : AreChildren (IsNode hash cmp) prefix 0 places
+    pub wide : length slots ≡ slot_count
+    pub children : AreChildren (IsNode hash cmp) prefix 0 slots
 
-  -- the place is of the prefix, and these are its entries
-  pub record Holds (prefix : List ℕ) (held : List (K × V)) (place : Option (Node K V)) : Type 0 where
-    pub placed : IsPlace hash cmp place prefix
-    pub entries_are : entries_in place ≡ held
+  -- these children with this one in the slot after the prefix have entries, which can be counted
+  pub record CanHold (at : HashPrefix) (bitmap : ℕ) (children : List (Child K V)) (slot : Option (Child K V)) : Type 0 where
+    pub slots : AreSlots (prefix_of at) (slots_in bitmap children)
+    pub dense : IsDense bitmap (length children)
+    pub placed : IsSlot hash cmp (node_of slot) (first_digits at.hash (at.depth + 1))
+    pub some : 0 < length (held_with at (slots_in bitmap children) slot)
+    pub fits : length (held_with at (slots_in bitmap children) slot) < 2 ^ 64
 
-  -- the place is canonical below the prefix
-  abbrev pub IsPlaced : HashPrefix → Option (Node K V) → Type 0
-  IsPlaced at place = IsPlace hash cmp place (prefix_of at)
+  -- the slot is of the prefix, and these are its entries
+  pub record Holds (prefix : List ℕ) (held : List (K × V)) (slot : Option (Node K V)) : Type 0 where
+    pub placed : IsSlot hash cmp slot prefix
+    pub entries_are : entries_in slot ≡ held
+
+  -- the slot is canonical below the prefix
+  abbrev pub IsSlotAt : HashPrefix → Option (Node K V) → Type 0
+  IsSlotAt at slot = IsSlot hash cmp slot (prefix_of at)
 
   -- a trie's root is canonical, and its entries can be counted
   pub record IsTrie (root : Option (Node K V)) : Type 0 where
-    pub placed : IsPlace hash cmp root []
+    pub placed : IsSlot hash cmp root []
     pub fits : length (entries_in root) < 2 ^ 64
 
-  -- the node has what the place had, and the pair
+  -- the node has what the slot had, and the pair
   abbrev pub HasPair : HashPrefix → K × V → Option (Node K V) → Node K V → Type 0
-  HasPair at pair place node = Holds (prefix_of at) (with_pair (digit_order hash cmp) pair.0 pair.1 (entries_in place)) (Some node)
+  HasPair at pair slot node = Holds (prefix_of at) (with_pair (digit_order hash cmp) pair.0 pair.1 (entries_in slot)) (Some node)
 
-  -- a put ends with what makes a node that has the pair too, or the places have what the place had
+  -- a put ends with what makes a node that has the pair too, or the slots have what the slot had
   abbrev pub IsReached : HashPrefix → K × V → Option (Node K V) → Reach K V → Type 0
-  IsReached at pair place (Here node) = HasPair at pair place (made_of node)
-  IsReached at pair place (Below bitmap children) =
-      ArePlaces (prefix_of at) (places_in bitmap children.items)
-      × (flat_map entries_in (places_in bitmap children.items) ≡ entries_in place)
+  IsReached at pair slot (Here node) = HasPair at pair slot (made_of node)
+  IsReached at pair slot (Below bitmap children) =
+      AreSlots (prefix_of at) (slots_in bitmap children.items)
+      × (flat_map entries_in (slots_in bitmap children.items) ≡ entries_in slot)
       × IsDense bitmap (length children.items)
 
   -- these entries are left
   abbrev pub IsLeft : HashPrefix → List (K × V) → Removed K V → Type 0
   IsLeft at held Missing = ⊥
-  IsLeft at held (Left place) = Holds (prefix_of at) held (node_of place)
+  IsLeft at held (Left slot) = Holds (prefix_of at) held (node_of slot)
 
   -- the key is not there, or this is what is left without it
   abbrev pub IsRemoved : HashPrefix → K → List (K × V) → Removed K V → Type 0
   IsRemoved at key held Missing = without_key (digit_order hash cmp) key held ≡ held
-  IsRemoved at key held (Left place) = Holds (prefix_of at) (without_key (digit_order hash cmp) key held) (node_of place)
+  IsRemoved at key held (Left slot) = Holds (prefix_of at) (without_key (digit_order hash cmp) key held) (node_of slot)

@@ -32,7 +32,7 @@ Bucket pairs = Several (inner.Bucket pairs)
 abbrev pub Branch : {K V : Type 0} → ℕ → ℕ → Vec (Child K V) Global → Node K V
 Branch len bitmap children = Several (inner.Branch len bitmap children)
 
--- what stands in a place
+-- what stands in a slot
 abbrev pub node_of : {P I : Type 0} → Option (Owner P I) → Option (Owned P I)
 node_of None = None
 node_of (Some node) = Some (owned node)

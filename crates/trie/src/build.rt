@@ -12,7 +12,7 @@ ghost use Rattle.trie.specs.Nodes.{node_of};
 
 use crate::bucket::placed;
 use crate::digits::{Bitmap, DIGITS, digit_at, digits_number};
-use crate::node::{Inner, Place, Unmade, branch_of, grown, make, room_for};
+use crate::node::{Inner, Slot, Unmade, branch_of, grown, make, room_for};
 use crate::ticks::Ticks;
 use cells::KeyHash;
 use std::alloc::{AllocError, Global};
@@ -95,19 +95,19 @@ fn bucket_of<K: Ord + Drop, V: Drop>(
     Ok(rising)
 }
 
-/// A bit for each digit that pairs have in this place.
-fn digits_of<P>(pairs: &[Hashed<P>], place: u32) -> Bitmap
-    requires { place < digit_count }
-    ensures { result ≡ digits_of place pairs.now }
+/// A bit for each digit that pairs have at this depth.
+fn digits_of<P>(pairs: &[Hashed<P>], depth: u32) -> Bitmap
+    requires { depth < digit_count }
+    ensures { result ≡ digits_of depth pairs.now }
 {
     let mut bits = 0;
     for one in pairs {
-        bits |= 1 << digit_at(one.hash, place);
+        bits |= 1 << digit_at(one.hash, depth);
     }
     bits
 }
 
-/// Pairs that have one digit in a place, and those after them.
+/// Pairs that have one digit at a depth, and those after them.
 #[derive(Drop)]
 struct Run<'a, P> {
     digit: usize,
@@ -115,44 +115,44 @@ struct Run<'a, P> {
     rest: &'a [Hashed<P>],
 }
 
-/// How many pairs in front have no greater digit than this one in a place where digits do not fall.
-fn end_of<P>(pairs: &[Hashed<P>], place: u32, most: usize) -> usize
-    requires place { place < digit_count }
-    requires rise { IsNonDecreasingBy (λ one. digit one.hash place) pairs.now }
+/// How many pairs in front have no greater digit than this one at a depth where digits do not fall.
+fn end_of<P>(pairs: &[Hashed<P>], depth: u32, most: usize) -> usize
+    requires depth { depth < digit_count }
+    requires rise { IsNonDecreasingBy (λ one. digit one.hash depth) pairs.now }
     ensures bound { result ≤ length pairs.now }
-    ensures parted { IsPartitionPoint (λ one. digit one.hash place ≤ most) (λ one. most < digit one.hash place) pairs.now result }
+    ensures parted { IsPartitionPoint (λ one. digit one.hash depth ≤ most) (λ one. most < digit one.hash depth) pairs.now result }
 {
-    pairs.partition_point(|one| digit_at(one.hash, place) <= most)
+    pairs.partition_point(|one| digit_at(one.hash, depth) <= most)
 }
 
-/// The pairs that have the digit of the first one in a place where digits do not fall, and the rest; None where there is
+/// The pairs that have the digit of the first one at a depth where digits do not fall, and the rest; None where there is
 /// no pair.
-fn next_run<P>(pairs: &[Hashed<P>], place: u32) -> Option<Run<'_, P>>
-    requires place { place < digit_count }
-    requires rise { IsNonDecreasingBy (λ one. digit one.hash place) pairs.now }
-    ensures { MatchOption result (pairs.now ≡ []) (λ run. IsRun place pairs.now run.digit run.pairs.now run.rest.now) }
+fn next_run<P>(pairs: &[Hashed<P>], depth: u32) -> Option<Run<'_, P>>
+    requires depth { depth < digit_count }
+    requires rise { IsNonDecreasingBy (λ one. digit one.hash depth) pairs.now }
+    ensures { MatchOption result (pairs.now ≡ []) (λ run. IsRun depth pairs.now run.digit run.pairs.now run.rest.now) }
 {
     let first = pairs.first()?;
-    let digit = digit_at(first.hash, place);
-    let (pairs, rest) = pairs.split_at(end_of(pairs, place, digit));
+    let digit = digit_at(first.hash, depth);
+    let (pairs, rest) = pairs.split_at(end_of(pairs, depth, digit));
     Some(Run { digit, pairs, rest })
 }
 
 /// A node of its own, which nobody counts.
-fn uncounted<K: Drop, V: Drop>(alloc: Global, node: Unmade<K, V>) -> Result<Place<K, V>, AllocError>
-    ensures { IfOk result (λ place. node_of place ≡ Some (made_of node)) }
+fn uncounted<K: Drop, V: Drop>(alloc: Global, node: Unmade<K, V>) -> Result<Slot<K, V>, AllocError>
+    ensures { IfOk result (λ slot. node_of slot ≡ Some (made_of node)) }
 {
     Ok(Some(make(alloc, node, &mut Ticks::new())?))
 }
 
-/// The place of a prefix of this depth with these pairs, which stand in the order of their digits: of pairs of one key
+/// The slot of a prefix of this depth with these pairs, which stand in the order of their digits: of pairs of one key
 /// the last. Each node is made once: none for no pair, a leaf for one key, a bucket where no digit is left, and else a
 /// branch, with a child for each run of pairs that have one next digit.
-pub fn place_of<K: Ord + Drop, V: Drop, H: KeyHash<K>>(
+pub fn slot_of<K: Ord + Drop, V: Drop, H: KeyHash<K>>(
     alloc: Global,
     pairs: &[Hashed<Arc<(K, V)>>],
     depth: u32,
-) -> Result<Place<K, V>, AllocError>
+) -> Result<Slot<K, V>, AllocError>
     requires { HaveOnePrefix H.hash_of depth pairs.now }
     ensures { IfOk result (λ p. IsMadeOf H.hash_of K.cmp depth (pairs_in pairs.now) (node_of p)) }
 {
@@ -171,7 +171,7 @@ pub fn place_of<K: Ord + Drop, V: Drop, H: KeyHash<K>>(
     let mut made = room_for(alloc, digits_of(pairs, depth))?;
     let mut left = pairs;
     while let Some(Run { digit, pairs, rest }) = next_run(left, depth) {
-        let child = place_of::<K, V, H>(alloc, pairs, depth + 1)?;
+        let child = slot_of::<K, V, H>(alloc, pairs, depth + 1)?;
         made = grown(made, digit, child)?;
         left = rest;
     }

@@ -1,6 +1,6 @@
 //! The digits of a hash. No other room knows how many they are, nor how many bits each has.
 ghost use Rattle.std.specs.Prelude.{◌≡◌, ◌+◌, ◌<◌, ◌≤◌, ◌↔◌, IsTrue};
-ghost use Rattle.trie.specs.Digits.{digit, digit_count, digits_number, place_count};
+ghost use Rattle.trie.specs.Digits.{digit, digit_count, digits_number, slot_count};
 ghost use Rattle.trie.specs.Shapes.{digit_text};
 
 /// How many bits a digit has, but the last one, which has those that are left.
@@ -9,16 +9,16 @@ const BITS: u32 = 5;
 /// How many digits a hash has: enough for its 64 bits.
 pub const DIGITS: u32 = 13;
 
-/// How many places a branch has: one for each digit.
-pub const PLACES: usize = 1 << BITS;
+/// How many slots a branch has: one for each digit.
+pub const SLOTS: usize = 1 << BITS;
 
-/// The place of the last digit.
+/// The depth of the last digit.
 const LAST: u32 = DIGITS - 1;
 
 /// How many values the last digit may have.
 const LAST_VALUES: u64 = 1 << (u64::BITS - BITS * LAST);
 
-/// A bit for each place of a branch.
+/// A bit for each slot of a branch.
 pub type Bitmap = u32;
 
 /// The first digits of a hash, the low digit first.
@@ -58,16 +58,16 @@ impl HashPrefix {
     pub fn next(self) -> usize
         requires { self.depth < digit_count }
         ensures value { result ≡ digit self.hash self.depth }
-        ensures bound { result < place_count }
+        ensures bound { result < slot_count }
     {
         digit_at(self.hash, self.depth)
     }
 
-    /// The digit of another hash in the place after the prefix.
+    /// The digit of another hash after as many as the prefix has.
     pub fn next_of(self, hash: u64) -> usize
         requires { self.depth < digit_count }
         ensures value { result ≡ digit hash self.depth }
-        ensures bound { result < place_count }
+        ensures bound { result < slot_count }
     {
         digit_at(hash, self.depth)
     }
@@ -85,13 +85,13 @@ impl HashPrefix {
     }
 }
 
-/// The digit of the hash in this place.
-pub fn digit_at(hash: u64, place: u32) -> usize
-    requires { place < digit_count }
-    ensures value { result ≡ digit hash place }
-    ensures bound { result < place_count }
+/// The digit of the hash at this depth: after so many others.
+pub fn digit_at(hash: u64, depth: u32) -> usize
+    requires { depth < digit_count }
+    ensures value { result ≡ digit hash depth }
+    ensures bound { result < slot_count }
 {
-    (hash >> (BITS * place)) as usize % PLACES
+    (hash >> (BITS * depth)) as usize % SLOTS
 }
 
 /// All digits as one number, the first of them in front: such numbers rise as digits do. The last digit has no
@@ -100,18 +100,18 @@ pub fn digits_number(hash: u64) -> u64
     ensures { result ≡ digits_number hash }
 {
     let mut number = 0;
-    for place in 0..LAST {
-        number = number * PLACES as u64 + digit_at(hash, place) as u64;
+    for depth in 0..LAST {
+        number = number * SLOTS as u64 + digit_at(hash, depth) as u64;
     }
     number * LAST_VALUES + digit_at(hash, LAST) as u64
 }
 
 /// A digit as a character: `0` to `9`, then `a` to `v`.
 pub fn digit_text(digit: u8) -> char
-    requires { digit < place_count }
+    requires { digit < slot_count }
     ensures { result ≡ digit_text digit }
 {
-    let Some(text) = char::from_digit(u32::from(digit), PLACES as u32) else {
+    let Some(text) = char::from_digit(u32::from(digit), SLOTS as u32) else {
         unreachable!()
     };
     text

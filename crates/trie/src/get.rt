@@ -2,7 +2,7 @@
 ghost use Rattle.std.specs.Prelude.{◌≡◌};
 ghost use Rattle.trie.specs.Digits.{digit_order};
 ghost use Rattle.trie.specs.Entries.{entry_at};
-ghost use Rattle.trie.specs.Holding.{found_in, held_at, IsPlaced, seen_in};
+ghost use Rattle.trie.specs.Holding.{found_in, held_at, IsSlotAt, seen_in};
 
 use crate::bucket::find;
 use crate::digits::HashPrefix;
@@ -13,15 +13,15 @@ use std::sync::Arc;
 /// The entry of the key below the prefix, lent with its owner, so that it can be shared. It takes no
 /// memory.
 pub fn get_at<'a, K: Ord, V, H: KeyHash<K>>(
-    place: Seen<'a, K, V>,
+    slot: Seen<'a, K, V>,
     key: &K,
     at: HashPrefix,
 ) -> Option<&'a Arc<(K, V)>>
     requires hashed { at.hash ≡ H.hash_of key.now }
-    requires placed { IsPlaced H.hash_of K.cmp at (seen_in place) }
-    ensures { found_in result ≡ entry_at (digit_order H.hash_of K.cmp) (held_at place.entry) key.now }
+    requires placed { IsSlotAt H.hash_of K.cmp at (seen_in slot) }
+    ensures { found_in result ≡ entry_at (digit_order H.hash_of K.cmp) (held_at slot.entry) key.now }
 {
-    match view_of(place) {
+    match view_of(slot) {
         View::Empty => None,
         View::Leaf(pair) => {
             if key.cmp(&pair.0).is_eq() {

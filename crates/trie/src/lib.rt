@@ -8,6 +8,7 @@
 #![tactic(auto)]
 
 mod blend;
+mod both;
 mod bucket;
 mod build;
 mod cutting;
@@ -15,7 +16,6 @@ mod digits;
 mod entries;
 mod get;
 mod laws;
-mod lay;
 mod meeting;
 mod merge;
 mod node;
@@ -30,8 +30,8 @@ mod walk;
 pub use blend::{Blend, Later};
 pub use cutting::{Cutting, MAX_DEPTH};
 pub use laws::{
-    a_map_has_the_shape_of_its_keys, entries_are_a_map, entries_still_rise, keys_decide_the_shape,
-    pieces_are_parts, values_decide_the_entries, worked_cuts, worked_shapes,
+    a_map_has_its_entries, a_map_has_the_shape_of_its_keys, entries_are_a_map, entries_still_rise,
+    keys_decide_the_shape, pieces_are_parts, values_decide_the_entries, worked_cuts, worked_shapes,
 };
 pub use shape::{Prefix, Shape};
 pub use split::Piece;

@@ -1,4 +1,4 @@
-//! How two places of one prefix meet, apart from what they become.
+//! How two slots of one prefix meet, apart from what they become.
 ghost use Rattle.std.specs.Prelude.{Some};
 ghost use Rattle.trie.specs.Holding.{seen_in};
 ghost use Rattle.trie.specs.Merging.{Meet, MeetsAs};
@@ -10,15 +10,11 @@ use crate::node::{Inner, Node, Seen};
 use cells::KeyHash;
 use std::sync::Arc;
 
-/// How two places of one prefix meet: one is empty, or one is a leaf whose pair is laid over the
-/// other, or both are buckets, or both are branches.
+/// How two slots of one prefix meet: one is empty, or one is a leaf, or both are buckets, or both are branches.
 pub enum Meeting<'a, K, V> {
     Alone(Seen<'a, K, V>),
-    Laid {
-        place: Seen<'a, K, V>,
-        pair: &'a Arc<(K, V)>,
-        is_first: bool,
-    },
+    /// A leaf's pair, and the other slot.
+    Leaf(&'a Arc<(K, V)>, Seen<'a, K, V>),
     Buckets(&'a Vec<Arc<(K, V)>>, &'a Vec<Arc<(K, V)>>),
     Branches {
         first: Bitmap,
@@ -28,7 +24,7 @@ pub enum Meeting<'a, K, V> {
     },
 }
 
-/// How the two places meet, for a blend.
+/// How the two slots meet, for a blend.
 pub fn how_they_meet<'a, K: Ord, V, H: KeyHash<K>, B: Blend<V>>(
     first: Seen<'a, K, V>,
     second: Seen<'a, K, V>,
@@ -45,17 +41,9 @@ pub fn how_they_meet<'a, K: Ord, V, H: KeyHash<K>, B: Blend<V>>(
         return Meeting::Alone(first);
     };
     match one {
-        Node::Leaf(pair) => Meeting::Laid {
-            place: second,
-            pair,
-            is_first: true,
-        },
+        Node::Leaf(pair) => Meeting::Leaf(pair, second),
         Node::Inner(one) => match other {
-            Node::Leaf(pair) => Meeting::Laid {
-                place: first,
-                pair,
-                is_first: false,
-            },
+            Node::Leaf(pair) => Meeting::Leaf(pair, first),
             Node::Inner(other) => inner_nodes_meet::<K, V, H, B>(one, other, blend, depth),
         },
     }

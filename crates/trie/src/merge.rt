@@ -3,19 +3,20 @@ ghost use Rattle.std.specs.Prelude.{◌+◌, ◌<◌, ◌≤◌, IfOk, None, get
 ghost use Rattle.std.specs.Map.{keys_of};
 ghost use Rattle.trie.specs.Entries.{IsRising};
 ghost use Rattle.trie.specs.Holding.{held_at, pairs_of, seen_in};
-ghost use Rattle.trie.specs.Merging.{AreBoth, CanBlend, CanLayBelow, ClonesEqual, CountsBoth, HasBucketOfBoth, IsBucketOfBoth, IsLaidBelow, IsNextOrEnd, Meet, Merges};
-ghost use Rattle.trie.specs.Dense.{IsDense, places_in};
-ghost use Rattle.trie.specs.Digits.{digit_count, place_count};
+ghost use Rattle.trie.specs.Merging.{AreBoth, CanBlend, ClonesEqual, CountsBoth, HasBucketOfBoth, IsBucketOfBoth, IsNextOrEnd, LeafMeets, Meet, Merges};
+ghost use Rattle.trie.specs.Dense.{IsDense, slots_in};
+ghost use Rattle.trie.specs.Digits.{slot_count};
 ghost use Rattle.trie.specs.Nodes.{node_of};
 
 use crate::blend::Blend;
-use crate::digits::{Bitmap, HashPrefix, PLACES};
-use crate::lay::{blended_pair, lay_at};
+use crate::both::{blended_pair, pair_of_both};
+use crate::digits::{Bitmap, HashPrefix, SLOTS};
+use crate::get::get_at;
 use crate::meeting::{Meeting, how_they_meet};
 use crate::node::{
-    Inner, Node, Place, Seen, Unmade, branch_of, child_at, either_has, grown, make, room_for,
-    shared,
+    Inner, Node, Seen, Slot, Unmade, branch_of, child_at, either_has, grown, make, room_for, shared,
 };
+use crate::put::put_at;
 use crate::ticks::Ticks;
 use cells::KeyHash;
 use std::alloc::{AllocError, Global};
@@ -97,7 +98,7 @@ fn bucket_of_both<K: Ord + Clone + Drop, V: Drop, H: KeyHash<K>, B: Blend<V>>(
     second: &Vec<Arc<(K, V)>>,
     blend: &B,
     ticks: &mut Ticks,
-) -> Result<Place<K, V>, AllocError>
+) -> Result<Slot<K, V>, AllocError>
     requires clones { ClonesEqual K.is_clone }
     requires first_rises { IsRising K.cmp (keys_of (pairs_of first.now.items)) }
     requires second_rises { IsRising K.cmp (keys_of (pairs_of second.now.items)) }
@@ -111,25 +112,28 @@ fn bucket_of_both<K: Ord + Clone + Drop, V: Drop, H: KeyHash<K>, B: Blend<V>>(
     Ok(Some(make(alloc, Unmade::Inner(Inner::Bucket(pairs)), ticks)?))
 }
 
-/// A leaf's pair laid over another place of its prefix of this depth.
+/// Two slots of one prefix of this depth, of which one is a leaf: the other with the entry of the leaf's key in both.
 fn leaf_over<K: Ord + Clone + Drop, V: Drop, H: KeyHash<K>, B: Blend<V>>(
     alloc: Global,
-    place: Seen<'_, K, V>,
-    pair: &Arc<(K, V)>,
-    is_first: bool,
+    first: Seen<'_, K, V>,
+    second: Seen<'_, K, V>,
+    leaf: &Arc<(K, V)>,
+    other: Seen<'_, K, V>,
     blend: &B,
     depth: u32,
     ticks: &mut Ticks,
-) -> Result<Place<K, V>, AllocError>
+) -> Result<Slot<K, V>, AllocError>
     requires clones { ClonesEqual K.is_clone }
-    requires low { depth ≤ digit_count }
-    requires can { CanLayBelow H.hash_of K.cmp (B.asks blend.now) depth (seen_in place) pair.now.value is_first }
-    ensures map { IfOk result (λ p. IsLaidBelow H.hash_of K.cmp (B.blend_of blend.now) depth (seen_in place.entry) pair.now.value is_first (node_of p)) }
-    ensures counted { ticks.new + depth ≤ ticks.old + (digit_count + 1) }
-    ensures grows { ticks.old ≤ ticks.new }
+    requires meets { LeafMeets H.hash_of K.cmp (B.asks blend.now) (B.blend_of blend.now) depth (seen_in first) (seen_in second) leaf.now.value (seen_in other) }
+    ensures map { IfOk result (λ p. Merges H.hash_of K.cmp (B.blend_of blend.now) depth (seen_in first.entry) (seen_in second.entry) (node_of p)) }
+    ensures counted { CountsBoth depth (length (held_at first.entry)) (length (held_at second.entry)) ticks.old ticks.new }
 {
-    let at = HashPrefix::at(H::hash(&pair.0), depth);
-    let node = lay_at::<K, V, H, B>(alloc, place, pair, is_first, blend, at, ticks)?;
+    let key = &leaf.0;
+    let at = HashPrefix::at(H::hash(key), depth);
+    let old = get_at::<K, V, H>(first, key, at);
+    let new = get_at::<K, V, H>(second, key, at);
+    let pair = pair_of_both(alloc, blend, old, new)?;
+    let node = put_at::<K, V, H>(alloc, other, &pair, at, ticks)?;
     Ok(Some(node))
 }
 
@@ -141,10 +145,10 @@ fn children_of_both<'a, K, V>(
     more: &'a Vec<Node<K, V>>,
     digit: usize,
 ) -> Option<(Seen<'a, K, V>, Seen<'a, K, V>)>
-    requires digit { digit < place_count }
+    requires digit { digit < slot_count }
     requires first_dense { IsDense first (length old.now.items) }
     requires second_dense { IsDense second (length more.now.items) }
-    ensures { AreBoth (get_or (places_in first old.now.items) digit None) (get_or (places_in second more.now.items) digit None) result }
+    ensures { AreBoth (get_or (slots_in first old.now.items) digit None) (get_or (slots_in second more.now.items) digit None) result }
 {
     if !either_has(first, second, digit) {
         return None;
@@ -152,7 +156,7 @@ fn children_of_both<'a, K, V>(
     Some((child_at(first, old, digit), child_at(second, more, digit)))
 }
 
-/// Two places of one prefix together. What only one of them has is shared, not made anew.
+/// Two slots of one prefix together. What only one of them has is shared, not made anew.
 pub fn merge_at<K: Ord + Clone + Drop, V: Drop, H: KeyHash<K>, B: Blend<V>>(
     alloc: Global,
     first: Seen<'_, K, V>,
@@ -160,7 +164,7 @@ pub fn merge_at<K: Ord + Clone + Drop, V: Drop, H: KeyHash<K>, B: Blend<V>>(
     blend: &B,
     depth: u32,
     ticks: &mut Ticks,
-) -> Result<Place<K, V>, AllocError>
+) -> Result<Slot<K, V>, AllocError>
     requires clones { ClonesEqual K.is_clone }
     requires meet { Meet H.hash_of K.cmp (B.asks blend.now) depth (seen_in first) (seen_in second) }
     ensures map { IfOk result (λ p. Merges H.hash_of K.cmp (B.blend_of blend.now) depth (seen_in first.entry) (seen_in second.entry) (node_of p)) }
@@ -169,12 +173,10 @@ pub fn merge_at<K: Ord + Clone + Drop, V: Drop, H: KeyHash<K>, B: Blend<V>>(
     ensures counted { CountsBoth depth (length (held_at first.entry)) (length (held_at second.entry)) ticks.old ticks.new }
 {
     match how_they_meet::<K, V, H, B>(first, second, blend, depth) {
-        Meeting::Alone(place) => shared(place),
-        Meeting::Laid {
-            place,
-            pair,
-            is_first,
-        } => { leaf_over::<K, V, H, B>(alloc, place, pair, is_first, blend, depth, ticks) }
+        Meeting::Alone(slot) => shared(slot),
+        Meeting::Leaf(leaf, other) => {
+            leaf_over::<K, V, H, B>(alloc, first, second, leaf, other, blend, depth, ticks)
+        }
         Meeting::Buckets(pairs, more) => {
             bucket_of_both::<K, V, H, B>(alloc, pairs, more, blend, ticks)
         }
@@ -185,7 +187,7 @@ pub fn merge_at<K: Ord + Clone + Drop, V: Drop, H: KeyHash<K>, B: Blend<V>>(
             more,
         } => {
             let mut made = room_for(alloc, first | second)?;
-            for digit in 0..PLACES {
+            for digit in 0..SLOTS {
                 let Some((one, other)) = children_of_both(first, old, second, more, digit) else {
                     continue;
                 };

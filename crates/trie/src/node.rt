@@ -3,12 +3,12 @@ ghost use Rattle.std.specs.Prelude.{◌≡◌, ◌+◌, ◌-◌, ◌<◌, ◌≤
 ghost use Rattle.std.specs.Prelude.{◌⊎◌, count_ones, get_or, slice_index_or, sum_by, vec_capacity};
 ghost use Rattle.std.specs.List.{flat_map};
 ghost use Rattle.trie.specs.Counts.{next_count};
-ghost use Rattle.trie.specs.Dense.{below_bit, bit_at, IsDense, places_in};
-ghost use Rattle.trie.specs.Digits.{digit, first_digits, place_count};
-ghost use Rattle.trie.specs.Holding.{ArePlaces, held_at, held_with, Holds, IsPlaced, IsWritten, len_in, node_len};
+ghost use Rattle.trie.specs.Dense.{below_bit, bit_at, IsDense, slots_in};
+ghost use Rattle.trie.specs.Digits.{digit, slot_count};
+ghost use Rattle.trie.specs.Holding.{AreSlots, CanHold, held_at, held_with, Holds, IsSlotAt, IsWritten, len_in, node_len};
 ghost use Rattle.trie.specs.Holding.{made_of, prefix_of, seen_in, shown, sole_node};
 ghost use Rattle.trie.specs.Nodes.{Branch, node_of, owned, values};
-ghost use Rattle.trie.specs.Tree.{entries_in, IsPlace};
+ghost use Rattle.trie.specs.Tree.{entries_in};
 
 use crate::digits::{Bitmap, HashPrefix};
 use crate::ticks::Ticks;
@@ -16,16 +16,16 @@ use cells::KeyHash;
 use std::alloc::{AllocError, Global};
 use std::sync::Arc;
 
-/// A place of a branch, or the root's: empty, or with the node of its prefix.
-pub type Place<K, V> = Option<Node<K, V>>;
+/// A slot of a branch, or the root's: empty, or with the node of its prefix.
+pub type Slot<K, V> = Option<Node<K, V>>;
 
-/// A place that is looked at.
+/// A slot that is looked at.
 pub type Seen<'a, K, V> = Option<&'a Node<K, V>>;
 
 /// A node, which never changes once it is made, with one owner of what it has. The hashes of its keys share a prefix.
 pub type Node<K, V> = Owner<(K, V), Inner<K, V>>;
 
-/// An owner of a leaf's pair or of an inner node. A leaf has nothing beside its pair, so whoever comes to its place has
+/// An owner of a leaf's pair or of an inner node. A leaf has nothing beside its pair, so whoever comes to its slot has
 /// come to its pair's owner. (An inner node is a parameter, so that of the two types one alone contains itself.)
 #[derive(Drop)]
 pub enum Owner<P, I> {
@@ -75,7 +75,7 @@ impl<P: Drop, I: Drop> Owner<P, I> {
     }
 }
 
-/// What stands in a place.
+/// What stands in a slot.
 pub enum View<'a, K, V> {
     Empty,
     /// The only pair of its prefix.
@@ -100,11 +100,11 @@ impl<K, V> Clone for View<'_, K, V> {
 
 impl<K, V> Copy for View<'_, K, V> {}
 
-/// What stands in a place, through its owners.
-pub fn view_of<K, V>(place: Seen<'_, K, V>) -> View<'_, K, V>
-    ensures { seen_in place.entry ≡ shown result }
+/// What stands in a slot, through its owners.
+pub fn view_of<K, V>(slot: Seen<'_, K, V>) -> View<'_, K, V>
+    ensures { seen_in slot.entry ≡ shown result }
 {
-    let Some(node) = place else {
+    let Some(node) = slot else {
         return View::Empty;
     };
     match node {
@@ -137,21 +137,21 @@ pub fn node_len<K, V>(node: &Node<K, V>) -> u64
     }
 }
 
-/// How many entries there are in a place.
-pub fn len<K, V>(place: &Place<K, V>) -> u64
-    ensures { result ≡ len_in (node_of place.now) }
+/// How many entries there are in a slot.
+pub fn len<K, V>(slot: &Slot<K, V>) -> u64
+    ensures { result ≡ len_in (node_of slot.now) }
 {
-    match place {
+    match slot {
         None => 0,
         Some(node) => node_len(node),
     }
 }
 
-/// The same place, to be looked at.
-pub fn seen<K, V>(place: &Place<K, V>) -> Seen<'_, K, V>
-    ensures { seen_in result ≡ node_of place.now }
+/// The same slot, to be looked at.
+pub fn seen<K, V>(slot: &Slot<K, V>) -> Seen<'_, K, V>
+    ensures { seen_in result ≡ node_of slot.now }
 {
-    match place {
+    match slot {
         None => None,
         Some(node) => Some(node),
     }
@@ -177,11 +177,11 @@ pub fn make<K: Drop, V: Drop>(
     Ok(made)
 }
 
-/// The same place, its node with one owner more.
-pub fn shared<K: Drop, V: Drop>(place: Seen<'_, K, V>) -> Result<Place<K, V>, AllocError>
-    ensures { IfOk result (λ copy. node_of copy ≡ seen_in place.entry) }
+/// The same slot, its node with one owner more.
+pub fn shared<K: Drop, V: Drop>(slot: Seen<'_, K, V>) -> Result<Slot<K, V>, AllocError>
+    ensures { IfOk result (λ copy. node_of copy ≡ seen_in slot.entry) }
 {
-    match place {
+    match slot {
         None => Ok(None),
         Some(node) => Ok(Some(node.share()?)),
     }
@@ -203,15 +203,15 @@ pub fn shared_children<K: Drop, V: Drop>(
 
 /// The bit of a digit.
 fn bit(digit: usize) -> Bitmap
-    requires { digit < place_count }
+    requires { digit < slot_count }
     ensures { result ≡ 2 ^ digit }
 {
     1 << digit
 }
 
-/// Whether the place of a digit has a child.
+/// Whether the slot of a digit has a child.
 pub fn has(bitmap: Bitmap, digit: usize) -> bool
-    requires { digit < place_count }
+    requires { digit < slot_count }
     ensures yes { IsTrue result → bit_at bitmap digit ≡ 1 }
     ensures no { result ≡ false → bit_at bitmap digit ≡ 0 }
 {
@@ -220,21 +220,21 @@ pub fn has(bitmap: Bitmap, digit: usize) -> bool
 
 /// The position of the child of a digit: how many bits are set below its bit.
 fn position(bitmap: Bitmap, digit: usize) -> usize
-    requires { digit < place_count }
+    requires { digit < slot_count }
     ensures { result ≡ below_bit bitmap digit }
 {
     (bitmap % (1 << digit)).count_ones() as usize
 }
 
-/// The place of a digit.
+/// The slot of a digit.
 pub fn child_at<'a, K, V>(
     bitmap: Bitmap,
     children: &'a Vec<Node<K, V>>,
     digit: usize,
 ) -> Seen<'a, K, V>
-    requires digit { digit < place_count }
+    requires digit { digit < slot_count }
     requires dense { IsDense bitmap (length children.now.items) }
-    ensures { seen_in result ≡ get_or (places_in bitmap children.now.items) digit None }
+    ensures { seen_in result ≡ get_or (slots_in bitmap children.now.items) digit None }
 {
     if !has(bitmap, digit) {
         return None;
@@ -242,36 +242,36 @@ pub fn child_at<'a, K, V>(
     Some(&children[position(bitmap, digit)])
 }
 
-/// One step down: the place of the digit after the prefix, and the prefix with that digit.
+/// One step down: the slot of the digit after the prefix, and the prefix with that digit.
 pub fn step<'a, K: Ord, V, H: KeyHash<K>>(
     bitmap: Bitmap,
     children: &'a Vec<Node<K, V>>,
     at: HashPrefix,
 ) -> (Seen<'a, K, V>, HashPrefix)
-    requires places { ArePlaces H.hash_of K.cmp (prefix_of at) (places_in bitmap children.now.items) }
+    requires slots { AreSlots H.hash_of K.cmp (prefix_of at) (slots_in bitmap children.now.items) }
     requires dense { IsDense bitmap (length children.now.items) }
     ensures hash { result.1.hash ≡ at.hash }
     ensures depth { result.1.depth ≡ at.depth + 1 }
-    ensures place { seen_in result.0 ≡ slice_index_or (places_in bitmap children.now.items) (digit at.hash at.depth) None }
-    ensures placed { IsPlaced H.hash_of K.cmp result.1 (seen_in result.0) }
-    ensures fewer { length (held_at result.0) ≤ length (flat_map entries_in (places_in bitmap children.now.items)) }
+    ensures slot { seen_in result.0 ≡ slice_index_or (slots_in bitmap children.now.items) (digit at.hash at.depth) None }
+    ensures placed { IsSlotAt H.hash_of K.cmp result.1 (seen_in result.0) }
+    ensures fewer { length (held_at result.0) ≤ length (flat_map entries_in (slots_in bitmap children.now.items)) }
 {
     (child_at(bitmap, children, at.next()), at.longer())
 }
 
-/// These children with this place in the place of a digit.
+/// These children with this one in the slot of a digit.
 pub fn written<K: Drop, V: Drop>(
     bitmap: Bitmap,
     mut children: Vec<Node<K, V>>,
     digit: usize,
-    place: Place<K, V>,
+    slot: Slot<K, V>,
 ) -> Result<Children<K, V>, AllocError>
-    requires digit { digit < place_count }
+    requires digit { digit < slot_count }
     requires dense { IsDense bitmap (length children.items) }
-    ensures { IfOk result (IsWritten (set (places_in bitmap children.items) digit (node_of place))) }
+    ensures { IfOk result (IsWritten (set (slots_in bitmap children.items) digit (node_of slot))) }
 {
     let position = position(bitmap, digit);
-    let Some(child) = place else {
+    let Some(child) = slot else {
         if !has(bitmap, digit) {
             return Ok(Children { bitmap, children });
         }
@@ -303,28 +303,28 @@ pub fn room_for<K: Drop, V: Drop>(
     })
 }
 
-/// Whether the place of a digit has a child in one of two branches.
+/// Whether the slot of a digit has a child in one of two branches.
 pub fn either_has(first: Bitmap, second: Bitmap, digit: usize) -> bool
-    requires { digit < place_count }
+    requires { digit < slot_count }
     ensures yes { IsTrue result → (bit_at first digit ≡ 1) ⊎ (bit_at second digit ≡ 1) }
     ensures no { result ≡ false → (bit_at first digit ≡ 0) × (bit_at second digit ≡ 0) }
 {
     has(first, digit) || has(second, digit)
 }
 
-/// These children, all of them in places before that of the digit, with this one in its place.
+/// These children, all of them in slots before that of the digit, with this one in its slot.
 pub fn grown<K: Drop, V: Drop>(
     made: Children<K, V>,
     digit: usize,
-    place: Place<K, V>,
+    slot: Slot<K, V>,
 ) -> Result<Children<K, V>, AllocError>
-    requires digit { digit < place_count }
+    requires digit { digit < slot_count }
     requires dense { IsDense made.bitmap (length made.children.items) }
     requires before { made.bitmap < 2 ^ digit }
-    ensures written { IfOk result (IsWritten (set (places_in made.bitmap made.children.items) digit (node_of place))) }
+    ensures written { IfOk result (IsWritten (set (slots_in made.bitmap made.children.items) digit (node_of slot))) }
     ensures before { IfOk result (λ more. more.bitmap < 2 ^ (digit + 1)) }
 {
-    let Some(child) = place else {
+    let Some(child) = slot else {
         return Ok(made);
     };
     let mut children = made.children;
@@ -335,27 +335,23 @@ pub fn grown<K: Drop, V: Drop>(
     })
 }
 
-/// The node of these children with this place in the place after the prefix. Where one entry is
+/// The node of these children with this one in the slot after the prefix. Where one entry is
 /// left, it is its leaf, shared and not made anew.
-pub fn with_place<K: Ord + Drop, V: Drop, H: KeyHash<K>>(
+pub fn with_slot<K: Ord + Drop, V: Drop, H: KeyHash<K>>(
     alloc: Global,
     bitmap: Bitmap,
     children: Vec<Node<K, V>>,
-    place: Place<K, V>,
+    slot: Slot<K, V>,
     at: HashPrefix,
     ticks: &mut Ticks,
 ) -> Result<Node<K, V>, AllocError>
-    requires places { ArePlaces H.hash_of K.cmp (prefix_of at) (places_in bitmap children.items) }
-    requires dense { IsDense bitmap (length children.items) }
-    requires placed { IsPlace H.hash_of K.cmp (node_of place) (first_digits at.hash (at.depth + 1)) }
-    requires some { 0 < length (held_with at (places_in bitmap children.items) place) }
-    requires fits { length (held_with at (places_in bitmap children.items) place) < 2 ^ 64 }
+    requires { CanHold H.hash_of K.cmp at bitmap children.items slot }
     ensures held { IfOk result (λ n.
-        Holds H.hash_of K.cmp (prefix_of at) (held_with at (places_in bitmap children.items) place) (Some (owned n))) }
+        Holds H.hash_of K.cmp (prefix_of at) (held_with at (slots_in bitmap children.items) slot) (Some (owned n))) }
     ensures counted { ticks.new ≤ ticks.old + 1 }
     ensures grows { ticks.old ≤ ticks.new }
 {
-    let new = written(bitmap, children, at.next(), place)?;
+    let new = written(bitmap, children, at.next(), slot)?;
     let len = total(&new.children);
     if let Some(only) = sole(&new.children, len)? {
         return Ok(only);
@@ -373,22 +369,18 @@ pub fn copied_with<K: Ord + Drop, V: Drop, H: KeyHash<K>>(
     alloc: Global,
     bitmap: Bitmap,
     children: &Vec<Node<K, V>>,
-    place: Place<K, V>,
+    slot: Slot<K, V>,
     at: HashPrefix,
     ticks: &mut Ticks,
 ) -> Result<Node<K, V>, AllocError>
-    requires places { ArePlaces H.hash_of K.cmp (prefix_of at) (places_in bitmap children.now.items) }
-    requires dense { IsDense bitmap (length children.now.items) }
-    requires placed { IsPlace H.hash_of K.cmp (node_of place) (first_digits at.hash (at.depth + 1)) }
-    requires some { 0 < length (held_with at (places_in bitmap children.now.items) place) }
-    requires fits { length (held_with at (places_in bitmap children.now.items) place) < 2 ^ 64 }
+    requires { CanHold H.hash_of K.cmp at bitmap children.now.items slot }
     ensures held { IfOk result (λ n.
-        Holds H.hash_of K.cmp (prefix_of at) (held_with at (places_in bitmap children.now.items) place) (Some (owned n))) }
+        Holds H.hash_of K.cmp (prefix_of at) (held_with at (slots_in bitmap children.now.items) slot) (Some (owned n))) }
     ensures counted { ticks.new ≤ ticks.old + 1 }
     ensures grows { ticks.old ≤ ticks.new }
 {
     let children = shared_children(alloc, children)?;
-    with_place::<K, V, H>(alloc, bitmap, children, place, at, ticks)
+    with_slot::<K, V, H>(alloc, bitmap, children, slot, at, ticks)
 }
 
 /// How many entries there are below the children.
@@ -404,7 +396,7 @@ pub fn branch_of<K: Drop, V: Drop>(
     alloc: Global,
     made: Children<K, V>,
     ticks: &mut Ticks,
-) -> Result<Place<K, V>, AllocError>
+) -> Result<Slot<K, V>, AllocError>
     requires fits { sum_by node_len (values made.children.items) < 2 ^ 64 }
     ensures made { IfOk result (λ p. node_of p ≡ Some (Branch (sum_by node_len (values made.children.items)) made.bitmap made.children)) }
     ensures one { OnOk result (ticks.new ≡ next_count ticks.old) }
@@ -420,7 +412,7 @@ pub fn branch_of<K: Drop, V: Drop>(
 }
 
 /// The only node, where there is one entry.
-fn sole<K: Drop, V: Drop>(children: &Vec<Node<K, V>>, len: u64) -> Result<Place<K, V>, AllocError>
+fn sole<K: Drop, V: Drop>(children: &Vec<Node<K, V>>, len: u64) -> Result<Slot<K, V>, AllocError>
     ensures { IfOk result (λ only. node_of only ≡ sole_node len (values children.now.items)) }
 {
     if len != 1 {

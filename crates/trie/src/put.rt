@@ -2,13 +2,13 @@
 ghost use Rattle.std.specs.Prelude.{◌≡◌, ◌+◌, ◌<◌, ◌≤◌, ◌^◌, IfOk, OnOk, Some, length};
 ghost use Rattle.trie.specs.Counts.{next_count};
 ghost use Rattle.trie.specs.Digits.{digit_count};
-ghost use Rattle.trie.specs.Holding.{HasPair, held_at, IsPlaced, IsReached, seen_in};
+ghost use Rattle.trie.specs.Holding.{HasPair, held_at, IsSlotAt, IsReached, seen_in};
 ghost use Rattle.trie.specs.Nodes.{Leaf, owned};
 
 use crate::bucket::{with_entry, with_one};
 use crate::digits::{Bitmap, HashPrefix};
 use crate::node::{
-    Inner, Node, Seen, Unmade, View, make, shared_children, step, view_of, with_place, written,
+    Inner, Node, Seen, Unmade, View, make, shared_children, step, view_of, with_slot, written,
 };
 use crate::ticks::Ticks;
 use cells::KeyHash;
@@ -16,7 +16,7 @@ use std::alloc::{AllocError, Global};
 use std::sync::Arc;
 
 /// How far a put goes down: it ends here, with a node of this in place of the old one, or it goes on
-/// below these places.
+/// below these slots.
 #[derive(Drop)]
 pub enum Reach<K, V> {
     Here(Unmade<K, V>),
@@ -29,43 +29,43 @@ pub enum Reach<K, V> {
 /// The node below the prefix with the pair.
 pub fn put_at<K: Ord + Drop, V: Drop, H: KeyHash<K>>(
     alloc: Global,
-    place: Seen<'_, K, V>,
+    slot: Seen<'_, K, V>,
     pair: &Arc<(K, V)>,
     at: HashPrefix,
     ticks: &mut Ticks,
 ) -> Result<Node<K, V>, AllocError>
     requires hashed { at.hash ≡ H.hash_of pair.now.value.0 }
-    requires placed { IsPlaced H.hash_of K.cmp at (seen_in place) }
-    requires room { length (held_at place) + 1 < 2 ^ 64 }
-    ensures map { IfOk result (λ n. HasPair H.hash_of K.cmp at pair.now.value (seen_in place.entry) (owned n)) }
+    requires placed { IsSlotAt H.hash_of K.cmp at (seen_in slot) }
+    requires room { length (held_at slot) + 1 < 2 ^ 64 }
+    ensures map { IfOk result (λ n. HasPair H.hash_of K.cmp at pair.now.value (seen_in slot.entry) (owned n)) }
 
     // A node for each digit that is left, and one more; one at least.
     ensures counted { ticks.new + at.depth ≤ ticks.old + (digit_count + 1) }
     ensures some { OnOk result (next_count ticks.old ≤ ticks.new) }
     ensures grows { ticks.old ≤ ticks.new }
 {
-    match how_far::<K, V, H>(alloc, place, pair, at)? {
+    match how_far::<K, V, H>(alloc, slot, pair, at)? {
         Reach::Here(node) => make(alloc, node, ticks),
         Reach::Below { bitmap, children } => {
             let (child, below) = step::<K, V, H>(bitmap, &children, at);
             let child = put_at::<K, V, H>(alloc, child, pair, below, ticks)?;
-            with_place::<K, V, H>(alloc, bitmap, children, Some(child), at, ticks)
+            with_slot::<K, V, H>(alloc, bitmap, children, Some(child), at, ticks)
         }
     }
 }
 
-/// How far a put goes down from a place.
+/// How far a put goes down from a slot.
 fn how_far<K: Ord + Drop, V: Drop, H: KeyHash<K>>(
     alloc: Global,
-    place: Seen<'_, K, V>,
+    slot: Seen<'_, K, V>,
     pair: &Arc<(K, V)>,
     at: HashPrefix,
 ) -> Result<Reach<K, V>, AllocError>
     requires hashed { at.hash ≡ H.hash_of pair.now.value.0 }
-    requires placed { IsPlaced H.hash_of K.cmp at (seen_in place) }
-    ensures { IfOk result (IsReached H.hash_of K.cmp at pair.now.value (seen_in place.entry)) }
+    requires placed { IsSlotAt H.hash_of K.cmp at (seen_in slot) }
+    ensures { IfOk result (IsReached H.hash_of K.cmp at pair.now.value (seen_in slot.entry)) }
 {
-    match view_of(place) {
+    match view_of(slot) {
         View::Empty => Ok(Reach::Here(Unmade::Leaf(Arc::try_clone(pair)?))),
         View::Leaf(old) => from_leaf::<K, V, H>(alloc, old, pair, at),
         View::Bucket(pairs) => {
@@ -91,7 +91,7 @@ fn from_leaf<K: Ord + Drop, V: Drop, H: KeyHash<K>>(
     at: HashPrefix,
 ) -> Result<Reach<K, V>, AllocError>
     requires hashed { at.hash ≡ H.hash_of pair.now.value.0 }
-    requires placed { IsPlaced H.hash_of K.cmp at (Some (Leaf old.now.value)) }
+    requires placed { IsSlotAt H.hash_of K.cmp at (Some (Leaf old.now.value)) }
     ensures { IfOk result (IsReached H.hash_of K.cmp at pair.now.value (Some (Leaf old.now.value))) }
 {
     if pair.0.cmp(&old.0).is_eq() {

@@ -1,15 +1,15 @@
 //! Taking a key out of a map.
 ghost use Rattle.std.specs.Prelude.{◌≡◌, ◌+◌, ◌<◌, ◌≤◌, ◌^◌, IfOk, None, Some, length};
-ghost use Rattle.trie.specs.Dense.{IsDense, places_in};
-ghost use Rattle.trie.specs.Digits.{digit_count, digit_order, first_digits};
+ghost use Rattle.trie.specs.Dense.{slots_in};
+ghost use Rattle.trie.specs.Digits.{digit_count, digit_order};
 ghost use Rattle.trie.specs.Entries.{value_at};
-ghost use Rattle.trie.specs.Holding.{ArePlaces, held_at, held_with, IsLeft, IsPlaced, IsRemoved, Misses, pairs_of, prefix_of, seen_in};
-ghost use Rattle.trie.specs.Nodes.{Bucket, node_of};
-ghost use Rattle.trie.specs.Tree.{IsPlace};
+ghost use Rattle.trie.specs.Holding.{CanHold, held_at, held_with, IsLeft, IsSlotAt, IsRemoved, Misses, pairs_of, prefix_of, seen_in};
+ghost use Rattle.trie.specs.Nodes.{Bucket};
+ghost use Rattle.trie.specs.Tree.{IsSlot};
 
 use crate::bucket::without;
 use crate::digits::{Bitmap, HashPrefix};
-use crate::node::{Inner, Node, Place, Seen, Unmade, View, copied_with, make, step, view_of};
+use crate::node::{Inner, Node, Seen, Slot, Unmade, View, copied_with, make, step, view_of};
 use crate::ticks::Ticks;
 use cells::KeyHash;
 use std::alloc::{AllocError, Global};
@@ -19,29 +19,29 @@ use std::sync::Arc;
 #[derive(Drop)]
 pub enum Removed<K, V> {
     Missing,
-    Left(Place<K, V>),
+    Left(Slot<K, V>),
 }
 
-/// The place below the prefix without the key.
+/// The slot below the prefix without the key.
 pub fn remove_at<K: Ord + Drop, V: Drop, H: KeyHash<K>>(
     alloc: Global,
-    place: Seen<'_, K, V>,
+    slot: Seen<'_, K, V>,
     key: &K,
     at: HashPrefix,
     ticks: &mut Ticks,
 ) -> Result<Removed<K, V>, AllocError>
     requires hashed { at.hash ≡ H.hash_of key.now }
-    requires placed { IsPlaced H.hash_of K.cmp at (seen_in place) }
-    requires fits { length (held_at place) < 2 ^ 64 }
-    ensures map { IfOk result (IsRemoved H.hash_of K.cmp at key.now (held_at place.entry)) }
-    ensures missed { value_at (digit_order H.hash_of K.cmp) (held_at place.entry) key.now ≡ None
+    requires placed { IsSlotAt H.hash_of K.cmp at (seen_in slot) }
+    requires fits { length (held_at slot) < 2 ^ 64 }
+    ensures map { IfOk result (IsRemoved H.hash_of K.cmp at key.now (held_at slot.entry)) }
+    ensures missed { value_at (digit_order H.hash_of K.cmp) (held_at slot.entry) key.now ≡ None
         → Misses ticks.old ticks.new result }
 
     // A node for each digit that is left, and one more.
     ensures counted { ticks.new + at.depth ≤ ticks.old + (digit_count + 1) }
     ensures grows { ticks.old ≤ ticks.new }
 {
-    match view_of(place) {
+    match view_of(slot) {
         View::Empty => Ok(Removed::Missing),
         View::Leaf(pair) => {
             if key.cmp(&pair.0).is_eq() {
@@ -65,21 +65,17 @@ pub fn remove_at<K: Ord + Drop, V: Drop, H: KeyHash<K>>(
     }
 }
 
-/// What is left of a branch: these children, with this place in the place after the prefix.
+/// What is left of a branch: these children, with this one in the slot after the prefix.
 fn left_with<K: Ord + Drop, V: Drop, H: KeyHash<K>>(
     alloc: Global,
     bitmap: Bitmap,
     children: &Vec<Node<K, V>>,
-    rest: Place<K, V>,
+    rest: Slot<K, V>,
     at: HashPrefix,
     ticks: &mut Ticks,
 ) -> Result<Removed<K, V>, AllocError>
-    requires places { ArePlaces H.hash_of K.cmp (prefix_of at) (places_in bitmap children.now.items) }
-    requires dense { IsDense bitmap (length children.now.items) }
-    requires placed { IsPlace H.hash_of K.cmp (node_of rest) (first_digits at.hash (at.depth + 1)) }
-    requires some { 0 < length (held_with at (places_in bitmap children.now.items) rest) }
-    requires fits { length (held_with at (places_in bitmap children.now.items) rest) < 2 ^ 64 }
-    ensures left { IfOk result (IsLeft H.hash_of K.cmp at (held_with at (places_in bitmap children.now.items) rest)) }
+    requires { CanHold H.hash_of K.cmp at bitmap children.now.items rest }
+    ensures left { IfOk result (IsLeft H.hash_of K.cmp at (held_with at (slots_in bitmap children.now.items) rest)) }
     ensures counted { ticks.new ≤ ticks.old + 1 }
     ensures grows { ticks.old ≤ ticks.new }
 {
@@ -96,7 +92,7 @@ fn remove_from_bucket<K: Ord + Drop, V: Drop, H: KeyHash<K>>(
     ticks: &mut Ticks,
 ) -> Result<Removed<K, V>, AllocError>
     requires hashed { at.hash ≡ H.hash_of key.now }
-    requires placed { IsPlace H.hash_of K.cmp (Some (Bucket pairs.now)) (prefix_of at) }
+    requires placed { IsSlot H.hash_of K.cmp (Some (Bucket pairs.now)) (prefix_of at) }
     ensures map { IfOk result (IsRemoved H.hash_of K.cmp at key.now (pairs_of pairs.now.items)) }
     ensures missed { value_at (digit_order H.hash_of K.cmp) (pairs_of pairs.now.items) key.now ≡ None
         → Misses ticks.old ticks.new result }

@@ -4,13 +4,13 @@ ghost use Rattle.std.specs.Cmp;
 ghost use Rattle.std.specs.Cmp.Lexicographic.{nat_list_eq_equiv, pointwise};
 ghost use Rattle.std.specs.List.{flat_map};
 ghost use Rattle.std.specs.Map.{keys_of};
-ghost use Rattle.trie.specs.Digits.{digit_count, place_count};
-ghost use Rattle.trie.specs.Dense.{IsDense, places_in};
-ghost use Rattle.trie.specs.Holding.{ArePlaces, held_at, seen_in};
+ghost use Rattle.trie.specs.Digits.{digit_count, slot_count};
+ghost use Rattle.trie.specs.Dense.{IsDense, slots_in};
+ghost use Rattle.trie.specs.Holding.{AreSlots, held_at, seen_in};
 ghost use Rattle.trie.specs.Shapes.{prefix_text, shape_below, shape_of};
-ghost use Rattle.trie.specs.Tree.{entries_in, IsPlace};
+ghost use Rattle.trie.specs.Tree.{entries_in, IsSlot};
 
-use crate::digits::{Bitmap, PLACES, digit_text};
+use crate::digits::{Bitmap, SLOTS, digit_text};
 use crate::node::{Node, Seen, View, child_at, view_of};
 use cells::KeyHash;
 use std::alloc::{AllocError, Global};
@@ -67,7 +67,7 @@ impl Prefix {
 
     /// The prefix with one more digit.
     fn longer(&self, alloc: Global, digit: u8) -> Result<Prefix, AllocError>
-        requires { digit < place_count }
+        requires { digit < slot_count }
         ensures { IfOk result (λ p. p ≡ self.now ++ digit ∷ []) }
     {
         let mut longer = self.copied(alloc)?;
@@ -110,7 +110,7 @@ pub fn shape_in<K: Ord, V, H: KeyHash<K>>(
     alloc: Global,
     root: Seen<'_, K, V>,
 ) -> Result<Shape, AllocError>
-    requires placed { IsPlace H.hash_of K.cmp (seen_in root) [] }
+    requires placed { IsSlot H.hash_of K.cmp (seen_in root) [] }
     ensures { IfOk result (λ v. v.items ≡ shape_of H.hash_of (keys_of (held_at root.entry))) }
 {
     let list = Vec::new(alloc);
@@ -123,13 +123,13 @@ fn with_shape<K: Ord, V, H: KeyHash<K>>(
     alloc: Global,
     list: Shape,
     prefix: &Prefix,
-    place: Seen<'_, K, V>,
+    slot: Seen<'_, K, V>,
 ) -> Result<Shape, AllocError>
-    requires placed { IsPlace H.hash_of K.cmp (seen_in place) prefix.now }
+    requires placed { IsSlot H.hash_of K.cmp (seen_in slot) prefix.now }
     ensures { IfOk result (λ v. v.items
-        ≡ list.items ++ shape_below H.hash_of (keys_of (held_at place.entry)) prefix.now) }
+        ≡ list.items ++ shape_below H.hash_of (keys_of (held_at slot.entry)) prefix.now) }
 {
-    match view_of(place) {
+    match view_of(slot) {
         View::Empty => Ok(list),
         View::Leaf(_) => Ok(list),
         View::Bucket(pairs) => with_number(alloc, list, prefix, pairs.len() as u64),
@@ -139,24 +139,24 @@ fn with_shape<K: Ord, V, H: KeyHash<K>>(
             children,
         } => {
             let mut shape = with_number(alloc, list, prefix, len)?;
-            for digit in 0..PLACES {
+            for digit in 0..SLOTS {
                 if !is_shared(bitmap, children, digit) {
                     continue;
                 }
-                let (place, longer) = step::<K, V, H>(alloc, bitmap, children, prefix, digit)?;
-                shape = with_shape::<K, V, H>(alloc, shape, &longer, place)?;
+                let (slot, longer) = step::<K, V, H>(alloc, bitmap, children, prefix, digit)?;
+                shape = with_shape::<K, V, H>(alloc, shape, &longer, slot)?;
             }
             Ok(shape)
         }
     }
 }
 
-/// Whether two keys or more share the prefix that ends in this digit. Below an empty place there is none and below a leaf
+/// Whether two keys or more share the prefix that ends in this digit. Below an empty slot there is none and below a leaf
 /// one, so no prefix is made for them.
 fn is_shared<K, V>(bitmap: Bitmap, children: &Vec<Node<K, V>>, digit: usize) -> bool
-    requires digit { digit < place_count }
+    requires digit { digit < slot_count }
     requires dense { IsDense bitmap (length children.now.items) }
-    ensures { result ≡ false → length (entries_in (get_or (places_in bitmap children.now.items) digit None)) < 2 }
+    ensures { result ≡ false → length (entries_in (get_or (slots_in bitmap children.now.items) digit None)) < 2 }
 {
     let Some(node) = child_at(bitmap, children, digit) else {
         return false;
@@ -178,7 +178,7 @@ fn with_number(
     Ok(list)
 }
 
-/// One step down: the place of a digit behind the prefix, and the prefix with that digit.
+/// One step down: the slot of a digit behind the prefix, and the prefix with that digit.
 fn step<'a, K: Ord, V, H: KeyHash<K>>(
     alloc: Global,
     bitmap: Bitmap,
@@ -186,13 +186,13 @@ fn step<'a, K: Ord, V, H: KeyHash<K>>(
     prefix: &Prefix,
     digit: usize,
 ) -> Result<(Seen<'a, K, V>, Prefix), AllocError>
-    requires places { ArePlaces H.hash_of K.cmp prefix.now (places_in bitmap children.now.items) }
+    requires slots { AreSlots H.hash_of K.cmp prefix.now (slots_in bitmap children.now.items) }
     requires dense { IsDense bitmap (length children.now.items) }
-    requires digit { digit < place_count }
+    requires digit { digit < slot_count }
     ensures prefix { IfOk result (λ r. r.1 ≡ prefix.now ++ digit ∷ []) }
-    ensures placed { IfOk result (λ r. IsPlace H.hash_of K.cmp (seen_in r.0) r.1) }
+    ensures placed { IfOk result (λ r. IsSlot H.hash_of K.cmp (seen_in r.0) r.1) }
     ensures fewer_left { IfOk result (λ r. digit_count - length r.1 < digit_count - length prefix.now) }
-    ensures shape { IfOk result (λ r. shape_below H.hash_of (keys_of (flat_map entries_in (places_in bitmap children.now.items))) r.1
+    ensures shape { IfOk result (λ r. shape_below H.hash_of (keys_of (flat_map entries_in (slots_in bitmap children.now.items))) r.1
         ≡ shape_below H.hash_of (keys_of (held_at r.0)) r.1) }
 {
     let longer = prefix.longer(alloc, digit as u8)?;

@@ -10,7 +10,7 @@ ghost use Rattle.trie.specs.Tree.{entries};
 ghost use Rattle.trie.specs.Splitting.{IsCut, IsCuttable};
 
 use crate::cutting::Cutting;
-use crate::digits::PLACES;
+use crate::digits::SLOTS;
 use crate::entries::with_entries;
 use crate::node::{Inner, Node, Seen, child_at};
 use crate::walk::{Visitor, walk_node};
@@ -63,17 +63,17 @@ impl<K: Ord, V, H: KeyHash<K>> Piece<K, V, H> {
     }
 }
 
-/// The list with the pieces of the place behind it.
+/// The list with the pieces of the slot behind it.
 pub fn with_pieces<K: Ord + Drop, V: Drop, H: KeyHash<K>>(
     mut list: Vec<Piece<K, V, H>>,
-    place: Seen<'_, K, V>,
+    slot: Seen<'_, K, V>,
     cutting: &Cutting,
     depth: u32,
 ) -> Result<Vec<Piece<K, V, H>>, AllocError>
-    requires { IsCuttable H.hash_of K.cmp depth (seen_in place) }
-    ensures { IfOk result (λ v. IsCut H.hash_of K.cmp cutting.now.depth cutting.now.small depth (seen_in place.entry) list.items v.items) }
+    requires { IsCuttable H.hash_of K.cmp depth (seen_in slot) }
+    ensures { IfOk result (λ v. IsCut H.hash_of K.cmp cutting.now.depth cutting.now.small depth (seen_in slot.entry) list.items v.items) }
 {
-    let Some(node) = place else {
+    let Some(node) = slot else {
         return Ok(list);
     };
     match node {
@@ -88,7 +88,7 @@ pub fn with_pieces<K: Ord + Drop, V: Drop, H: KeyHash<K>>(
                 if !is_opened(*len, cutting, depth) {
                     return with_piece(list, node);
                 }
-                for digit in 0..PLACES {
+                for digit in 0..SLOTS {
                     let child = child_at(*bitmap, children, digit);
                     list = with_pieces::<K, V, H>(list, child, cutting, depth + 1)?;
                 }

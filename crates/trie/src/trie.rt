@@ -1,5 +1,5 @@
 //! The trie.
-ghost use Rattle.std.specs.Prelude.{◌≡◌, ◌+◌, ◌-◌, ◌*◌, ◌<◌, ◌≤◌, ◌^◌, ◌↔◌, [], IfOk, IsTrue, None, OnOk, length, min};
+ghost use Rattle.std.specs.Prelude.{◌≡◌, ◌+◌, ◌*◌, ◌<◌, ◌≤◌, ◌^◌, [], IfOk, None, OnOk, length, min};
 ghost use Rattle.std.specs.Map.{keys_of};
 ghost use Rattle.std.specs.Option.{option_copied};
 ghost use Rattle.trie.specs.Counts.{next_count};
@@ -10,22 +10,20 @@ ghost use Rattle.trie.specs.Holding.{lent};
 ghost use Rattle.trie.specs.Maps.{RiseByHash};
 ghost use Rattle.trie.specs.Merging.{CanBlend, ClonesEqual, IsMerged};
 ghost use Rattle.trie.specs.Shapes.{shape_of};
-ghost use Rattle.trie.specs.Walks.{MayTakeAll, TakesAll};
 
 use crate::blend::Blend;
-use crate::build::{in_digit_order, place_of, with_hashes, with_owners};
+use crate::build::{in_digit_order, slot_of, with_hashes, with_owners};
 use crate::cutting::Cutting;
 use crate::digits::HashPrefix;
 use crate::entries::with_entries;
 use crate::get::get_at;
 use crate::merge::merge_at;
-use crate::node::{Place, len, seen, shared};
+use crate::node::{Slot, len, seen, shared};
 use crate::put::put_at;
 use crate::remove::{Removed, remove_at};
 use crate::shape::{Shape, shape_in};
 use crate::split::{Piece, with_pieces};
 use crate::ticks::Ticks;
-use crate::walk::{Visitor, walk_node};
 use cells::KeyHash;
 use std::alloc::{AllocError, Global};
 use std::marker::{Model, PhantomData};
@@ -35,7 +33,7 @@ use std::sync::Arc;
 /// another map, which shares what stays.
 #[derive(Drop)]
 pub struct Trie<K: Ord, V, H: KeyHash<K>> {
-    root: Place<K, V>,
+    root: Slot<K, V>,
     hash: PhantomData<H>,
 }
 
@@ -81,24 +79,6 @@ impl<K: Ord, V, H: KeyHash<K>> Trie<K, V, H> {
         len(&self.root)
     }
 
-    /// Whether there is no entry. It takes no memory.
-    pub fn is_empty(&self) -> bool
-        ensures { IsTrue result ↔ (self.now ≡ []) }
-    {
-        self.len() == 0
-    }
-
-    /// Lends all entries, in digit order, each as the visitor asks for it. It takes no memory of its own.
-    pub fn walk<W: Visitor<K, V>>(&self, visitor: &mut W) -> Result<(), AllocError>
-        requires { MayTakeAll W.asks W.takes visitor.old self.now }
-        ensures { OnOk result (TakesAll W.takes visitor.old self.now visitor.new) }
-    {
-        let Some(node) = &self.root else {
-            return Ok(());
-        };
-        walk_node(node, visitor)
-    }
-
     /// All entries, in digit order.
     pub fn entries(&self, alloc: Global) -> Result<Vec<(&K, &V)>, AllocError>
         ensures { IfOk result (λ v. lent v.items ≡ self.now) }
@@ -107,7 +87,7 @@ impl<K: Ord, V, H: KeyHash<K>> Trie<K, V, H> {
     }
 
     /// What is known of each map: its keys rise in digit order. It does nothing.
-    #[tactic(auto, using(crate::proofs::MapRisingLemmas::place_rises))]
+    #[tactic(auto, using(crate::proofs::MapRisingLemmas::slot_rises))]
     pub fn keys_rise(&self)
         ensures { RiseByHash H.hash_of K.cmp (keys_of self.now) }
     {
@@ -142,7 +122,7 @@ impl<K: Ord + Drop, V: Drop, H: KeyHash<K>> Trie<K, V, H> {
     {
         let sorted = in_digit_order(with_hashes::<K, V, H>(alloc, pairs)?)?;
         let owned = with_owners(alloc, sorted)?;
-        let root = place_of::<K, V, H>(alloc, owned.as_slice(), 0)?;
+        let root = slot_of::<K, V, H>(alloc, owned.as_slice(), 0)?;
         Ok(Trie {
             root,
             hash: PhantomData,

@@ -1,4 +1,5 @@
-//! Answers by workers, the text of a report, and writers: short writes and faults.
+//! Answers by workers, what they gather, the text of a report, and writers: short writes and faults.
 
 mod answers;
+mod gathered;
 mod writers;

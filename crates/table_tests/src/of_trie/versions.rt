@@ -109,7 +109,7 @@ fn ends_in(alloc: Global, map: &Map, digits: &[u8]) -> Result<(usize, bool), All
 fn shapes_have_prefixes(rt: HostRuntime) -> Result<(), Fail> {
     let two = filled::<Plain>(&rt, rt.alloc(), &[(331, 0), (1_355, 0)])?;
     two.keys_rise();
-    assert!(rt; !two.is_empty());
+    assert_eq!(rt; two.len(), 2);
     assert_eq!(rt; ends_in(rt.alloc(), &two, &[11, 10])?, (3, true));
     Ok(())
 }

@@ -13,17 +13,26 @@ use std::test::Fail;
 use std::thread::{self, Threads};
 
 /// More turns than any thread of these tests needs.
-const TURNS: u64 = 10_000_000;
+pub(super) const TURNS: u64 = 10_000_000;
 
 /// What two threads tell each other.
 #[derive(Drop)]
-struct Flags {
-    seen: AtomicU64,
-    published: AtomicU64,
+pub(super) struct Flags {
+    pub(super) seen: AtomicU64,
+    pub(super) published: AtomicU64,
+}
+
+impl Flags {
+    pub(super) fn unset() -> Flags {
+        Flags {
+            seen: AtomicU64::new(0),
+            published: AtomicU64::new(0),
+        }
+    }
 }
 
 /// Whether the flag was set in time.
-fn is_set(flag: &AtomicU64) -> bool {
+pub(super) fn is_set(flag: &AtomicU64) -> bool {
     for _ in 0..TURNS {
         if flag.load(SeqCst) == 1 {
             return true;
@@ -61,7 +70,7 @@ fn first_seen(viewer: &mut Viewer<Plain>, flags: &Flags) -> Option<u64>
 }
 
 /// Publishes an edition once the viewer has its first snapshot, and ends the keeper.
-fn publish_once_seen<R: Wait>(
+pub(super) fn publish_once_seen<R: Wait>(
     rt: &R,
     alloc: Global,
     mut keeper: Keeper<Plain>,
@@ -91,10 +100,7 @@ fn publish_beside<R: Threads + Wait>(
 {
     // The law by which a viewer may be moved to another thread; it does nothing.
     viewers_cross_threads::<Plain>();
-    let flags = Flags {
-        seen: AtomicU64::new(0),
-        published: AtomicU64::new(0),
-    };
+    let flags = Flags::unset();
     let flags = &flags;
     let ((viewer, first), told) = thread::join(
         rt,

@@ -23,7 +23,7 @@ fn put_all(alloc: Global, keeper: &mut Keeper<Plain>, keys: &[&[u8]]) -> Result<
 }
 
 /// The first edition with these keys. By the plain hash 1 and 33 have their first digit in common.
-fn edition_of(
+pub(super) fn edition_of(
     rt: &(impl Abort + Wait),
     alloc: Global,
     keys: &[&[u8]],

@@ -1,5 +1,6 @@
 use Rattle.std.proofs.Common.{◌≡◌, ℕ, ◌+◌, ◌-◌, ◌<◌, length, All}
-use Rattle.board.specs.Ends.{GoesOn, IsEnd}
+use Rattle.board.specs.Ends.{GoesOn}
+use Rattle.board.specs.Law.{IsEnd}
 use Rattle.board.proofs.boxes.fill_all.Given as goal
 
 abbrev pub invariant-loop-copy : goal.invariant-loop-copy

@@ -1,6 +1,8 @@
 use Rattle.std.specs.Vec.Iter.{into_iter_items}
-use Rattle.crew.proofs.LayingLemmas.{Laid}
+use Rattle.std.specs.Prelude.{◌∷◌}
+use Rattle.columns.specs.Columns.{Hold}
+use Rattle.crew.specs.Gathering.{AreMadeOf, rows_in}
 use Rattle.crew.proofs.laying.appended.Given as goal
 
 abbrev pub invariant-loop-part : goal.invariant-loop-part
-invariant-loop-part g l = Laid l.laying.pieces.now (into_iter_items l.part-iterator) l.all
+invariant-loop-part g l = AreMadeOf Hold (rows_in l.laying.pieces.now) (l.all ∷ into_iter_items l.part-iterator)

@@ -1,20 +1,36 @@
-use Rattle.std.proofs.Common.{[], ◌∷◌, ◌∙◌, ap, sym}
-use Rattle.std.proofs.lemmas.List.{append-nil}
-use Rattle.groups.specs.Finishing.{row_by}
+use Rattle.std.proofs.Common.{◌≡◌, [], ◌∷◌, ◌++◌, ◌∙◌, ap, arith, sym}
+use Rattle.std.specs.Vec.Iter.{into_iter_items}
+use Rattle.std.proofs.lemmas.List.{append-nil, nil_from_length}
+use Rattle.groups.specs.Finishing.{row_by, rows_by}
 use Rattle.groups.proofs.FinishLemmas.{rows_next}
 use Rattle.groups.proofs.finishing.add_rows.Goals as goal
+use Rattle.trie.specs.Holding.{lent}
+
+pub loop-group-init : goal.loop-group-init
+loop-group-init g c =
+    ap (λ it. c.args.rows.now.items ++ rows_by c.args.set.now c.args.plan.now (lent (into_iter_items it))) c.into_iter-group-iterator.ensures.into_iter_gives
 
 -- where HAVING drops the group, the rows stay
 pub loop-group-preserved-in_default : goal.loop-group-preserved-in_default
 loop-group-preserved-in_default g c =
-    rows_next c.args.set.now c.args.plan.now c.args.groups.now c.loop-group.group-index c.group-item.result c.loop-group-test.true c.group-item.is
-    c.args.rows.now.items c.loop-group.rows.items c.loop-group.rows.items [] c.in_ok-row.row c.loop-group.invariant
-    (c.in_ok-row.ensures ∙ ap (λ items. row_by c.args.set.now c.group-item.result.0.now items c.group-item.result.1.now) c.items.ensures.items)
+    let left = into_iter_items c.next.new.self in
+    let all = c.args.rows.now.items ++ rows_by c.args.set.now c.args.plan.now (lent (into_iter_items c.args.groups)) in
+    let now = sym (ap (λ it. c.loop-group.rows.items ++ rows_by c.args.set.now c.args.plan.now (lent it)) c.in-Some.ensures.steps.0) ∙ c.loop-group.invariant in
+    rows_next c.args.set.now c.args.plan.now c.in-Some.group left c.loop-group.rows.items [] c.loop-group.rows.items all c.in_ok-row.row now
+    (c.in_ok-row.ensures ∙ ap (λ items. row_by c.args.set.now c.in-Some.group.0.now items c.in-Some.group.1.now) c.items.ensures.items)
     c.in_default.ensures (sym (append-nil c.loop-group.rows.items))
 
 pub loop-group-preserved : goal.loop-group-preserved
 loop-group-preserved g c =
-    rows_next c.args.set.now c.args.plan.now c.args.groups.now c.loop-group.group-index c.group-item.result c.loop-group-test.true c.group-item.is
-    c.args.rows.now.items c.loop-group.rows.items c.push.new.self.items (c.in-Some.row ∷ []) c.in_ok-row.row c.loop-group.invariant
-    (c.in_ok-row.ensures ∙ ap (λ items. row_by c.args.set.now c.group-item.result.0.now items c.group-item.result.1.now) c.items.ensures.items)
-    c.in-Some.ensures c.in_ok-push.ensures.items
+    let left = into_iter_items c.next.new.self in
+    let all = c.args.rows.now.items ++ rows_by c.args.set.now c.args.plan.now (lent (into_iter_items c.args.groups)) in
+    let now = sym (ap (λ it. c.loop-group.rows.items ++ rows_by c.args.set.now c.args.plan.now (lent it)) c.in-Some.ensures.steps.0) ∙ c.loop-group.invariant in
+    rows_next c.args.set.now c.args.plan.now c.in-Some.group left c.loop-group.rows.items (c.in-Some-shown.row ∷ []) c.push.new.self.items all c.in_ok-row.row now
+    (c.in_ok-row.ensures ∙ ap (λ items. row_by c.args.set.now c.in-Some.group.0.now items c.in-Some.group.1.now) c.items.ensures.items)
+    c.in-Some-shown.ensures c.in_ok-push.ensures.items
+
+pub returns : goal.returns
+returns g c =
+    let iterator = c.loop-group.group-iterator in
+    let none : into_iter_items iterator ≡ [] = nil_from_length (into_iter_items iterator) (omega (arith, iterator.rest.ok, c.in-None.ensures.steps.0)) in
+    sym (append-nil c.loop-group.rows.items) ∙ sym (ap (λ it. c.loop-group.rows.items ++ rows_by c.args.set.now c.args.plan.now (lent it)) none) ∙ c.loop-group.invariant

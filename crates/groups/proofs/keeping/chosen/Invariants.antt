@@ -3,4 +3,4 @@ use Rattle.groups.specs.Keeping.{chosen}
 use Rattle.groups.proofs.keeping.chosen.Given as goal
 
 abbrev pub invariant-loop-at : goal.invariant-loop-at
-invariant-loop-at l = l.kept.items ≡ chosen l.marks (take l.at l.numbers) (take l.at l.places)
+invariant-loop-at l = l.kept.items ≡ chosen l.marks (take l.at l.numbers) (take l.at l.indexes)

@@ -15,8 +15,8 @@ trie_by-requires-clause-finer g c =
 
 pub loop-set-preserved : goal.loop-set-preserved
 loop-set-preserved g c =
-    stands_for_next g.H.KeyHash-2.hash_of c.args.aggregations.now c.in_ok-pool.pool.items c.args.sets.now c.args.sets.now c.loop-set.set-index c.set-item.result
-    c.as_slice.result.now c.loop-set.tries.items c.push.new.self.items c.in_ok-trie.trie refl c.loop-set-test.true c.set-item.is
+    stands_for_next g.H.KeyHash-2.hash_of c.args.aggregations.now c.in_ok-pool.pool.items c.args.sets.now c.loop-set.set-index c.set-item.result
+    c.as_slice.result.now c.loop-set.tries.items c.push.new.self.items c.in_ok-trie.trie c.loop-set-test.true c.set-item.is
     (c.as_slice.ensures.value ∙ c.set.view_is) c.loop-set.invariant (λ rows pooled. c.in_ok-trie.ensures rows (rw c.as_slice-in-loop-set.ensures.value pooled))
     c.in_ok-push.ensures.items
 

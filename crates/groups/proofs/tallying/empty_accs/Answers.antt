@@ -1,12 +1,8 @@
-use Rattle.std.proofs.Common.{[], subst, sym, ◌+◌}
-use Rattle.groups.specs.Tallying.{AreTallied}
-use Rattle.groups.proofs.TallyingLemmas.{tallied_none, tallied_wider}
+use Rattle.std.proofs.lemmas.Result.{IfOk-weaker}
+use Rattle.groups.proofs.TallyingLemmas.{tallied_none}
 use Rattle.groups.proofs.tallying.empty_accs.Goals as goal
 
-pub loop-number-init : goal.loop-number-init
-loop-number-init g c = subst (AreTallied c.args.kind 0 [] []) (sym c.in_ok-accs.ensures.items) (tallied_none c.args.kind)
-
-pub loop-number-preserved : goal.loop-number-preserved
-loop-number-preserved g c =
-    subst (AreTallied c.args.kind (c.loop-number._number + 1) [] []) (sym c.in_ok-push.ensures.items)
-    (tallied_wider c.args.kind c.loop-number._number c.loop-number.accs.items c.empty.result c.loop-number.invariant c.empty.ensures)
+pub returns : goal.returns
+returns g c =
+    IfOk-weaker c.from_elem.result _ _ (λ v made. tallied_none c.args.kind c.args.count v.items c.empty.result (made (λ y same. same)) c.empty.ensures)
+    c.from_elem.ensures.items_if_clones_equal

@@ -7,24 +7,24 @@ use Rattle.olap.specs.Programs.{IsOutputOfJob}
 use Rattle.olap.proofs.ProgramLemmas.{begins_as, output_of_job, writes_as}
 use Rattle.olap.proofs.program.run_job.Goals as goal
 
-pub returns-in-Ok-clause-written : goal.returns-in-Ok-clause-written
-returns-in-Ok-clause-written g c = λ ok.
+pub returns-in-Ok-read_input-clause-written : goal.returns-in-Ok-read_input-clause-written
+returns-in-Ok-read_input-clause-written g c = λ ok.
     let file : List ℕ → Option (List ℕ) = g.F.Folder.file c.args.folder.now in
-    let script : List ℕ = c.in-Ok.input.script.items in
-    let parts : List (List ℕ) = map (λ p. p.items) c.in-Ok.input.parts.items in
+    let script : List ℕ = c.in-Ok-read_input.input.script.items in
+    let parts : List (List ℕ) = map (λ p. p.items) c.in-Ok-read_input.input.parts.items in
     let run : Givens = record { limit = c.args.job.now.how.rows; parts = parts } in
     writes_as (IsWritten (hash_of_choice c.args.job.now.hash) run c.args.job.now.live script) (IsOutputOfJob file c.args.job.now)
     (writer_contents g.W.Write.contents c.args.out) (writer_contents g.W.Write.contents c.run_input.result.1)
-    (output_of_job file c.args.job.now script parts c.in-Ok.ensures.script c.in-Ok.ensures.parts)
+    (output_of_job file c.args.job.now script parts c.in-Ok-read_input.ensures.script c.in-Ok-read_input.ensures.parts)
     (rw (← c.viewing.ensures) (c.run_input.ensures.written ok))
 
-pub returns-in-Ok-clause-beginning : goal.returns-in-Ok-clause-beginning
-returns-in-Ok-clause-beginning g c = λ early.
+pub returns-in-Ok-read_input-clause-beginning : goal.returns-in-Ok-read_input-clause-beginning
+returns-in-Ok-read_input-clause-beginning g c = λ early.
     let file : List ℕ → Option (List ℕ) = g.F.Folder.file c.args.folder.now in
-    let script : List ℕ = c.in-Ok.input.script.items in
-    let parts : List (List ℕ) = map (λ p. p.items) c.in-Ok.input.parts.items in
+    let script : List ℕ = c.in-Ok-read_input.input.script.items in
+    let parts : List (List ℕ) = map (λ p. p.items) c.in-Ok-read_input.input.parts.items in
     let run : Givens = record { limit = c.args.job.now.how.rows; parts = parts } in
     begins_as (IsWritten (hash_of_choice c.args.job.now.hash) run c.args.job.now.live script) (IsOutputOfJob file c.args.job.now)
     (writer_contents g.W.Write.contents c.args.out) (writer_contents g.W.Write.contents c.run_input.result.1)
-    (output_of_job file c.args.job.now script parts c.in-Ok.ensures.script c.in-Ok.ensures.parts)
+    (output_of_job file c.args.job.now script parts c.in-Ok-read_input.ensures.script c.in-Ok-read_input.ensures.parts)
     (rw (← c.viewing.ensures) c.run_input.ensures.beginning)

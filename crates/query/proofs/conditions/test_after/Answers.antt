@@ -1,9 +1,16 @@
-use Rattle.query.proofs.Lists.{turn_reads}
-use Rattle.query.proofs.TestsLemmas.{test_is, test_range}
+use Rattle.std.proofs.lemmas.Result.{err_from_is_err_and}
+use Rattle.query.proofs.Lists.{turn_err, turn_found, turn_reads}
+use Rattle.query.proofs.TestsLemmas.{test_compare, test_is, test_range}
 use Rattle.query.proofs.conditions.test_after.Goals as goal
 
+pub returns-in_err-right-clause-reads : goal.returns-in_err-right-clause-reads
+returns-in_err-right-clause-reads g c =
+    let p = err_from_is_err_and c.from_residual.result c.from_residual.ensures.1 in
+    rw (p.1, p.2) (turn_err (test_compare c.args.left c.args.tokens.now c.in-Some.comparison c.in-Some.more.now c.in-Some.ensures.exact) c.in_err-right.ensures.reads)
+
 pub returns-in-Some-clause-reads : goal.returns-in-Some-clause-reads
-returns-in-Some-clause-reads g c = c.compare_test.ensures.reads c.args.tokens.now c.in-Some.ensures.exact
+returns-in-Some-clause-reads g c =
+    turn_found (test_compare c.args.left c.args.tokens.now c.in-Some.comparison c.in-Some.more.now c.in-Some.ensures.exact) c.in_ok-right.ensures.reads
 
 pub returns-in-Some-after_word-clause-reads : goal.returns-in-Some-after_word-clause-reads
 returns-in-Some-after_word-clause-reads g c =

@@ -1,6 +1,7 @@
-use Rattle.std.proofs.Common.{◌≡◌, ◌+◌, cond, rules, sym, take}
-use Rattle.query.specs.Depth.{is_close, is_open}
-use Rattle.query.proofs.DepthLemmas.{counted, deep_at, deep_here, deep_nowhere, shallow_at, shallow_more}
+use Rattle.std.proofs.Common.{◌≡◌, ◌+◌, ◌∙◌, ap, cond, length, rules, sym, take}
+use Rattle.std.specs.List.{list_any}
+use Rattle.query.specs.Depth.{beginnings, is_close, is_deep, is_open}
+use Rattle.query.proofs.DepthLemmas.{counted, deep_at, deep_here, shallow_at, shallow_more}
 use Rattle.query.proofs.depth.is_too_deep.Goals as goal
 
 pub returns-then-closed-opened : goal.returns-then-closed-opened
@@ -21,9 +22,11 @@ loop-token-preserved c =
       opened = opened;
       closed = closed;
       shallow =
-          shallow_more c.args.tokens.now c.loop-token.token-index c.token-item.result c.loop-token-test.true c.token-item.is c.loop-token.invariant.shallow
+          shallow_more c.args.tokens.now c.loop-token.token-index c.loop-token.invariant.shallow
           (shallow_at (take (c.loop-token.token-index + 1) c.args.tokens.now) _ _ opened closed c.if-closed-opened.false);
     }
 
 pub returns : goal.returns
-returns c = sym (deep_nowhere c.args.tokens.now c.loop-token.token-index (search rules) c.loop-token.invariant.shallow)
+returns c =
+    let all : length c.args.tokens.now ≡ c.loop-token.token-index = search rules in
+    sym (ap (λ n. list_any is_deep (beginnings n c.args.tokens.now)) all ∙ c.loop-token.invariant.shallow)

@@ -7,5 +7,5 @@ abbrev pub invariant-loop-token : goal.invariant-loop-token
 invariant-loop-token l = record {
   opened : l.opened ≡ count_by is_open (take l.token-index l.tokens);
   closed : l.closed ≡ count_by is_close (take l.token-index l.tokens);
-  shallow : list_any is_deep (beginnings (take l.token-index l.tokens)) ≡ false;
+  shallow : list_any is_deep (beginnings l.token-index l.tokens) ≡ false;
 }

@@ -2,7 +2,7 @@ use Rattle.std.proofs.Common.{ap, arith, length, inr, refl}
 use Rattle.std.proofs.lemmas.Result.{err_from_is_err_and}
 use Rattle.query.specs.Grammar.{SpellsElement, comma, rparen}
 use Rattle.query.specs.Reading.{Any}
-use Rattle.query.proofs.Elements.{element_empty, sets_behind}
+use Rattle.query.proofs.Elements.{element_cube, element_empty, element_rollup, sets_behind}
 use Rattle.query.proofs.Lists.{closed, err_closed, kept_end, kept_next, not_closed, turn_err, turn_found, turn_nothing}
 use Rattle.query.proofs.grouping.+reader.Goals as goal
 
@@ -25,11 +25,23 @@ elements-loop-found-preserved t c =
 pub element-returns-in-Some-clause-reads : goal.element-returns-in-Some-clause-reads
 element-returns-in-Some-clause-reads t c = rw c.empty.ensures (element_empty c.args.tokens.now c.in-Some.rest.now c.in-Some.ensures)
 
+pub element-returns-in_err-units-clause-reads : goal.element-returns-in_err-units-clause-reads
+element-returns-in_err-units-clause-reads t c =
+    let p = err_from_is_err_and c.from_residual.result c.from_residual.ensures.1 in
+    rw (p.1, p.2) (turn_err (element_rollup c.args.tokens.now c.in-Some-after_call.more.now c.in-Some-after_call.ensures) c.in_err-units.ensures.reads)
+
 pub element-returns-in-Some-after_call-clause-reads : goal.element-returns-in-Some-after_call-clause-reads
-element-returns-in-Some-after_call-clause-reads t c = rw c.in-Some-after_call.ensures c.rollup_element.ensures.reads
+element-returns-in-Some-after_call-clause-reads t c =
+    rw c.rollup.ensures (turn_found (element_rollup c.args.tokens.now c.in-Some-after_call.more.now c.in-Some-after_call.ensures) c.in_ok-units.ensures.reads)
+
+pub element-returns-in_err-units-2-clause-reads : goal.element-returns-in_err-units-2-clause-reads
+element-returns-in_err-units-2-clause-reads t c =
+    let p = err_from_is_err_and c.from_residual-in_err-units-2.result c.from_residual-in_err-units-2.ensures.1 in
+    rw (p.1, p.2) (turn_err (element_cube c.args.tokens.now c.in-Some-after_call-2.more.now c.in-Some-after_call-2.ensures) c.in_err-units-2.ensures.reads)
 
 pub element-returns-in-Some-after_call-2-clause-reads : goal.element-returns-in-Some-after_call-2-clause-reads
-element-returns-in-Some-after_call-2-clause-reads t c = rw c.in-Some-after_call-2.ensures c.cube_element.ensures.reads
+element-returns-in-Some-after_call-2-clause-reads t c =
+    rw c.cube.ensures (turn_found (element_cube c.args.tokens.now c.in-Some-after_call-2.more.now c.in-Some-after_call-2.ensures) c.in_ok-units-2.ensures.reads)
 
 pub element-returns-in-Some-after_sets-clause-reads : goal.element-returns-in-Some-after_sets-clause-reads
 element-returns-in-Some-after_sets-clause-reads t c = rw c.in-Some-after_sets.ensures c.sets_element.ensures.reads

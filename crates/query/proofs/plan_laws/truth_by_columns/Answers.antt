@@ -1,4 +1,4 @@
-use Rattle.query.proofs.NamingLemmas.{decided_by_columns}
+use Rattle.query.proofs.TruthLemmas.{decided_by_columns}
 use Rattle.query.proofs.plan_laws.truth_by_columns.Goals as goal
 
 pub returns : goal.returns

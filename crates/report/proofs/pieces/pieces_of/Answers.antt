@@ -2,7 +2,7 @@ use Rattle.std.proofs.Common.{ap, ◌∙◌, sym, subst}
 use Rattle.std.proofs.lemmas.Result.{IfOk-weaker}
 use Rattle.std.specs.List.{AllByRecursion, flat_map}
 use Rattle.trie.specs.Cuts.{IsPart}
-use Rattle.report.proofs.PiecesLemmas.{hold_rows}
+use Rattle.report.proofs.PiecesLemmas.{are_pieces}
 use Rattle.report.proofs.pieces.pieces_of.Goals as goal
 
 pub returns-clause-rows : goal.returns-clause-rows
@@ -12,7 +12,7 @@ returns-clause-rows g c =
     let once = c.entries_are_a_map.ensures.len es c.rows.ensures.rise in
     let joined = c.pieces_are_parts.ensures.joined es c.args.cutting.now.depth c.args.cutting.now.small c.rows.ensures.rise in
     let parts = c.pieces_are_parts.ensures.parts es c.args.cutting.now.depth c.args.cutting.now.small in
-    IfOk-weaker c.split.result _ _ (λ pieces e. hold_rows c.args.root.now es c.rows.ensures.map once hash pieces.items
+    IfOk-weaker c.split.result _ _ (λ pieces e. are_pieces c.a_map_has_its_entries.ensures c.args.root.now es c.rows.ensures.map once hash pieces.items
     (subst (AllByRecursion (IsPart hash es)) (sym e) parts) (ap (flat_map (λ piece. piece)) e ∙ joined)) c.split.ensures
 
 pub returns-clause-cut : goal.returns-clause-cut

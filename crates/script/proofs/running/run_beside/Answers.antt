@@ -15,7 +15,7 @@ loop-bytes-init g c =
     record {
       reached = rw (all, c.requires.fresh.0, c.requires.fresh.1)
           (reached_start _ _ _ _ (omega (arith, length-lines c.args.script.now, c.requires.short)) (narrow_lines c.args.script.now script_limit c.requires.short));
-      attended = first_attended (asked_of c.args.setup.now.viewing) c.args.desk.now c.args.gallery.now.stage c.args.gallery.now.audience c.requires.fresh.0 c.requires.nobody.0 c.requires.nobody.1;
+      attended = first_attended (asked_of c.args.setup.now.viewing) c.args.desk.now c.args.gallery.now.stage c.args.gallery.now.audience.watches c.requires.fresh.0 c.requires.nobody.0 c.requires.nobody.1;
       sound = refl;
     }
 
@@ -42,7 +42,7 @@ returns-in_err-block g c =
 
 pub attend-requires-clause-attend : goal.attend-requires-clause-attend
 attend-requires-clause-attend g c = λ κs outlives.
-    may_attend (asked_of c.args.setup.now.viewing) c.loop-bytes.desk c.execute.new.desk c.loop-bytes.gallery.stage c.loop-bytes.gallery.audience c.in_ok-block.ensures.step.stays c.loop-bytes.invariant.attended
+    may_attend (asked_of c.args.setup.now.viewing) c.loop-bytes.desk c.execute.new.desk c.loop-bytes.gallery.stage c.loop-bytes.gallery.audience.watches c.in_ok-block.ensures.step.stays c.loop-bytes.invariant.attended
 
 pub returns-in_err-attend : goal.returns-in_err-attend
 returns-in_err-attend g c =

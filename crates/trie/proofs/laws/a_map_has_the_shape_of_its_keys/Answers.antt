@@ -1,4 +1,4 @@
-use Rattle.trie.proofs.MapCountsLemmas.{shape_keys}
+use Rattle.trie.proofs.MapEntriesLemmas.{shape_keys}
 use Rattle.trie.proofs.laws.a_map_has_the_shape_of_its_keys.Goals as goal
 
 pub returns : goal.returns

@@ -2,7 +2,7 @@ use Rattle.std.proofs.Common.{ap, Some}
 use Rattle.trie.specs.Nodes.{Several}
 use Rattle.trie.proofs.MapsLemmas.{hashes}
 use Rattle.trie.proofs.MeetLemmas.{branch_and_bucket, branches_meet, bucket_and_branch, buckets_meet}
-use Rattle.trie.proofs.VariantsLemmas.{branch_dense}
+use Rattle.trie.proofs.VariantsLemmas.{branch_in}
 use Rattle.trie.proofs.meeting.inner_nodes_meet.Goals as goal
 
 pub unreachable-requires : goal.unreachable-requires
@@ -27,4 +27,4 @@ pub returns-in-Branch-other-2 : goal.returns-in-Branch-other-2
 returns-in-Branch-other-2 g c =
     let is = ap (λ i. Some (Several i)) c.in-Branch.is in
     let also = ap (λ i. Some (Several i)) c.in-Branch-other-2.is in
-    (branches_meet g.H.KeyHash.hash_of g.K.Ord.cmp (hashes g.met.K.Ord.total g.met.K.Ord.matches_eq g.met.H.KeyHash.respects_eq) (g.B.Blend.asks c.args._blend.now) (g.B.Blend.blend_of c.args._blend.now) c.args.depth _ _ c.requires _ _ c.in-Branch.children c.in-Branch-other-2.more _ _ is also, branch_dense g.H.KeyHash.hash_of g.K.Ord.cmp _ _ _ _ _ is c.requires.first_placed, branch_dense g.H.KeyHash.hash_of g.K.Ord.cmp _ _ _ _ _ also c.requires.second_placed)
+    (branches_meet g.H.KeyHash.hash_of g.K.Ord.cmp (hashes g.met.K.Ord.total g.met.K.Ord.matches_eq g.met.H.KeyHash.respects_eq) (g.B.Blend.asks c.args._blend.now) (g.B.Blend.blend_of c.args._blend.now) c.args.depth _ _ c.requires _ _ c.in-Branch.children c.in-Branch-other-2.more _ _ is also, (branch_in g.H.KeyHash.hash_of g.K.Ord.cmp _ _ _ _ _ is c.requires.first_placed).dense, (branch_in g.H.KeyHash.hash_of g.K.Ord.cmp _ _ _ _ _ also c.requires.second_placed).dense)

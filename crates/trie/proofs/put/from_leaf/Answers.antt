@@ -1,17 +1,15 @@
 use Rattle.std.proofs.Common.{◌<◌, ◌≡◌, [], ◌∷◌, ap, ◌∙◌, rules, refl, replicate, None}
-use Rattle.trie.specs.Digits.{digit_count, place_count}
-use Rattle.trie.specs.Dense.{places_of}
+use Rattle.trie.specs.Digits.{digit_count, slot_count}
+use Rattle.trie.specs.Dense.{slots_of}
 use Rattle.trie.specs.Nodes.{Node, values}
-use Rattle.trie.proofs.DenseLemmas.{none_dense, places_of-none}
+use Rattle.trie.proofs.DenseLemmas.{none_dense, slots_of-none}
 use Rattle.trie.proofs.OrderLemmas.{same_hash}
 use Rattle.trie.proofs.PutLemmas.{bucket_holds, leaf_holds, spread, with_pair-equal, with_pair-two}
 use Rattle.trie.proofs.put.from_leaf.Goals as goal
 
 pub returns-then-is_eq : goal.returns-then-is_eq
 returns-then-is_eq g c =
-    let same =
-    same_hash g.H.KeyHash.hash_of g.K.Ord.cmp g.K.PartialEq.eq g.met.K.Ord.matches_eq
-    g.met.H.KeyHash.respects_eq in
+    let same = same_hash g.H.KeyHash.hash_of g.K.Ord.cmp g.K.PartialEq.eq g.met.K.Ord.matches_eq g.met.H.KeyHash.respects_eq in
     let equal =
     with_pair-equal g.H.KeyHash.hash_of g.K.Ord.cmp same c.args.pair.now.value.0 c.args.pair.now.value.1
     c.args.old.now.value (search rules) in
@@ -37,10 +35,10 @@ pub returns : goal.returns
 returns g c =
     let lt : c.args.at.depth < digit_count = search rules in
     let written = c.in_ok-made.ensures in
-    let none : places_of 0 (values c.new.result.items) ≡ replicate place_count None =
-    ap (λ l. places_of 0 (values l)) c.new.ensures.items ∙ places_of-none (Node g.row.K.Denot g.row.V.Denot) in
-    let places =
+    let none : slots_of 0 (values c.new.result.items) ≡ replicate slot_count None =
+    ap (λ l. slots_of 0 (values l)) c.new.ensures.items ∙ slots_of-none (Node g.row.K.Denot g.row.V.Denot) in
+    let slots =
     spread g.H.KeyHash.hash_of g.K.Ord.cmp c.args.at.hash c.args.at.depth lt c.args.old.now.value c.hash.result
     (rw c.deref-3.ensures at c.hash.ensures) c.requires.placed c.next_of-digit.result c.next_of-digit.ensures.value _
-    (written.places_are ∙ rw (none, c.in_ok-try_clone-3.ensures) refl) in
-    (places.places_are, places.entries_are, written.dense)
+    (written.slots_are ∙ rw (none, c.in_ok-try_clone-3.ensures) refl) in
+    (slots.slots_are, slots.entries_are, written.dense)

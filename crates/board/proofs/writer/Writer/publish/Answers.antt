@@ -1,6 +1,6 @@
 use Rattle.std.proofs.Common.{rules, ◌≡◌, [], ◌∷◌, ◌++◌, sym, ap, ◌∙◌, subst}
 use Rattle.board.specs.Editions.{Edition}
-use Rattle.board.specs.Ends.{IsEnd}
+use Rattle.board.specs.Law.{IsEnd}
 use Rattle.board.proofs.SeatLemmas.{end_of}
 use Rattle.board.proofs.writer.Writer.publish.Goals as goal
 

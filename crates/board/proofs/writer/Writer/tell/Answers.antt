@@ -1,6 +1,6 @@
 use Rattle.std.proofs.Common.{rules, arith, ◌≡◌, ◌≤◌, sym, ap, ◌∙◌}
-use Rattle.board.specs.Ends.{plan_at}
-use Rattle.board.specs.Law.{plan_of}
+use Rattle.board.specs.Ends.{progress_at}
+use Rattle.board.specs.Law.{progress_of}
 use Rattle.board.proofs.RuleLemmas.{tells}
 use Rattle.board.proofs.writer.Writer.tell.Goals as goal
 
@@ -10,6 +10,6 @@ split_seat-note-requires g c =
     let key = c.deref.result.now.shared.key in
     let many = ap (λ t. t.shared.key.places) c.deref.ensures ∙ w.sized.0 in
     let made = w.counted.0 in
-    let done : (plan_at w.seat).done ≡ w.made = ap (λ m. (plan_of m.0.role).done) w.resting in
-    let room : (plan_at w.seat).made ≤ key.places = (let a = w.counted.1 in omega arith) in
-    (search rules, search rules, tells key.places key.schema.value w.seat.id w.seat.me.0 _ (ap (λ m. m.0.role) w.resting) (let l : (plan_at w.seat).made ≤ w.made = omega arith in l) room)
+    let done : (progress_at w.seat).done ≡ w.made = ap (λ m. (progress_of m.0.role).done) w.resting in
+    let room : (progress_at w.seat).made ≤ key.places = (let a = w.counted.1 in omega arith) in
+    (search rules, search rules, tells key.places key.schema.value w.seat.id w.seat.me.0 _ (ap (λ m. m.0.role) w.resting) (let l : (progress_at w.seat).made ≤ w.made = omega arith in l) room)

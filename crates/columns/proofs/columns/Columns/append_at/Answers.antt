@@ -8,16 +8,16 @@ pub returns-then-not-branch-clause-puts : goal.returns-then-not-branch-clause-pu
 returns-then-not-branch-clause-puts g c = λ more held. record {
   into = None;
   puts = tt;
-  is = c.leave_out-then-not-branch.ensures.left ∙ set_again c.self.inside.columns.items c.args.place _ None ∙ ap (λ l. set l c.args.place None) c.self.view_is;
+  is = c.leave_out-then-not-branch.ensures.left ∙ set_again c.self.inside.columns.items c.args.index _ None ∙ ap (λ l. set l c.args.index None) c.self.view_is;
 }
 
 pub returns-else-not-branch-clause-puts : goal.returns-else-not-branch-clause-puts
 returns-else-not-branch-clause-puts g c = λ more held. record {
   into = Some c.append.new.self;
   puts =
-      puts_some c.args.place (cells_at c.args.place more) c.args.self.now c.in-Some-index_mut.column c.append.new.self
-      (ap (λ l. get_or l c.args.place None) (sym c.self.view_is) ∙ sym (get_or_read c.self.inside.columns.items c.args.place c.index_mut.result.now (search rules) c.index_mut.ensures.value None) ∙ c.in-Some-index_mut.is)
-      (puts_behind (cells_at c.args.place more) (cells_of c.in-Some.other.now) c.in-Some-index_mut.column c.append.new.self
+      puts_some c.args.index (cells_at c.args.index more) c.args.self.now c.in-Some-index_mut.column c.append.new.self
+      (ap (λ l. get_or l c.args.index None) (sym c.self.view_is) ∙ sym (get_or_read c.self.inside.columns.items c.args.index c.index_mut.result.now (search rules) c.index_mut.ensures.value None) ∙ c.in-Some-index_mut.is)
+      (puts_behind (cells_at c.args.index more) (cells_of c.in-Some.other.now) c.in-Some-index_mut.column c.append.new.self
       (c.in-Some.ensures.cells more held) (c.in_ok-append.ensures (search rules)));
-  is = ap (λ l. set l c.args.place (Some c.append.new.self)) c.self.view_is;
+  is = ap (λ l. set l c.args.index (Some c.append.new.self)) c.self.view_is;
 }

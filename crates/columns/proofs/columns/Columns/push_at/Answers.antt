@@ -6,5 +6,5 @@ pub returns-then-not-branch : goal.returns-then-not-branch
 returns-then-not-branch g c = record {
   into = None;
   puts = tt;
-  is = c.leave_out.ensures.left ∙ set_again c.self.inside.columns.items c.args.place _ None ∙ ap (λ l. set l c.args.place None) c.self.view_is;
+  is = c.leave_out.ensures.left ∙ set_again c.self.inside.columns.items c.args.index _ None ∙ ap (λ l. set l c.args.index None) c.self.view_is;
 }

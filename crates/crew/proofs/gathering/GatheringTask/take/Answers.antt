@@ -1,9 +1,6 @@
 use Rattle.std.proofs.lemmas.Result.{IfOk-weaker}
-use Rattle.crew.proofs.GatheringLemmas.{may_take_more, place_within, took}
+use Rattle.crew.proofs.GatheringLemmas.{may_take_more, took}
 use Rattle.crew.proofs.gathering.GatheringTask.take.Goals as goal
-
-pub piece-requires : goal.piece-requires
-piece-requires g c = place_within c.args.self.now c.args.made.now c.args.place c.requires
 
 pub take-taken-requires : goal.take-taken-requires
 take-taken-requires g c =

@@ -7,5 +7,5 @@ pub invariant_of-self-2 : goal.invariant_of-self-2
 invariant_of-self-2 g c =
     let longer : length c.push.new.self.items ≡ length c.self.inside.groups.items + 1 =
     ap (λ l. length l) c.in_ok-push.ensures.items ∙ length-append c.self.inside.groups.items _ in
-    All-values-PutsEntry nat_eq (λ p. p < length c.push.new.self.items) c.self.inside.places c.insert.new.self c.args.hash c.len-place.result _
-    c.in_ok-insert.ensures.entries (λ k d h. omega (arith, c.self.invariant k d h, longer)) (omega (arith, c.len-place.ensures, c.self.inside.groups.ok.0, longer))
+    All-values-PutsEntry nat_eq (λ p. p < length c.push.new.self.items) c.self.inside.by_hash c.insert.new.self c.args.hash c.len-index.result _
+    c.in_ok-insert.ensures.entries (λ k d h. omega (arith, c.self.invariant k d h, longer)) (omega (arith, c.len-index.ensures, c.self.inside.groups.ok.0, longer))

@@ -11,14 +11,14 @@ use Rattle.groups.proofs.folding.Folding.of_rows.Goals as goal
 pub sources_from-requires : goal.sources_from-requires
 sources_from-requires g c =
     let may = c.requires in
-    let places : List ℕ = c.in-Some.rows.items in
-    let within : AllByRecursion (λ i. i < c.args.first + c.args.count) places =
+    let indexes : List ℕ = c.in-Some.rows.items in
+    let within : AllByRecursion (λ i. i < c.args.first + c.args.count) indexes =
     subst (λ o. IfSome o (λ v. AllByRecursion (λ i. i < c.args.first + c.args.count) v.items)) c.in-Some.is c.in_ok-rows.ensures.within in
-    let few : length places ≤ c.args.count = subst (λ o. IfSome o (λ v. length v.items ≤ c.args.count)) c.in-Some.is c.in_ok-rows.ensures.few in
+    let few : length indexes ≤ c.args.count = subst (λ o. IfSome o (λ v. length v.items ≤ c.args.count)) c.in-Some.is c.in_ok-rows.ensures.few in
     subst (λ l. HaveRows c.args.columns.now l) (sym c.as_slice-2.ensures.value) (record {
       rows = may.rows;
       held = may.held;
-      within = within_all (c.args.first + c.args.count) (length may.rows) places may.within within;
+      within = within_all (c.args.first + c.args.count) (length may.rows) indexes may.within within;
       few = omega (arith, few, may.few);
     })
 

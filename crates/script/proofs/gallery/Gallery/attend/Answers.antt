@@ -5,23 +5,23 @@ use Rattle.script.proofs.TailsLemmas.{attended_late, attended_none, expected_nob
 use Rattle.script.proofs.gallery.Gallery.attend.Goals as goal
 
 pub returns-in_default-clause-attended : goal.returns-in_default-clause-attended
-returns-in_default-clause-attended g c = attended_none (asked_of c.args.setup.now.viewing) c.args.desk.now c.args.self.now.stage c.args.self.now.audience (ap asked_of c.in_default.is)
+returns-in_default-clause-attended g c = attended_none (asked_of c.args.setup.now.viewing) c.args.desk.now c.args.self.now.stage c.args.self.now.audience.watches (ap asked_of c.in_default.is)
 
 pub returns-in_default-stage-clause-attended : goal.returns-in_default-stage-clause-attended
 returns-in_default-stage-clause-attended g c =
-    attended_late (asked_of c.args.setup.now.viewing) c.args.desk.now c.args.self.now.stage c.args.self.now.audience c.requires.attend (λ is. absurd (search (rules, is)))
+    attended_late (asked_of c.args.setup.now.viewing) c.args.desk.now c.args.self.now.stage c.args.self.now.audience.watches c.requires.attend (λ is. absurd (search (rules, is)))
 
 pub returns-in_default-desk-clause-attended : goal.returns-in_default-desk-clause-attended
 returns-in_default-desk-clause-attended g c =
-    attended_late (asked_of c.args.setup.now.viewing) c.args.desk.now c.args.self.now.stage c.args.self.now.audience c.requires.attend (λ is. c.in_default-desk.is)
+    attended_late (asked_of c.args.setup.now.viewing) c.args.desk.now c.args.self.now.stage c.args.self.now.audience.watches c.requires.attend (λ is. c.in_default-desk.is)
 
 pub begin-requires-clause-nobody : goal.begin-requires-clause-nobody
 begin-requires-clause-nobody g c κs within =
-    expected_nobody (asked_of c.args.setup.now.viewing) (viewing_of c.in-Some.viewing) c.args.desk.now c.args.self.now.stage c.args.self.now.audience (ap asked_of c.in-Some.is) c.in-Expected.is c.requires.attend
+    expected_nobody (asked_of c.args.setup.now.viewing) (viewing_of c.in-Some.viewing) c.args.desk.now c.args.self.now.stage c.args.self.now.audience.watches (ap asked_of c.in-Some.is) c.in-Expected.is c.requires.attend
 
 pub returns-clause-attended : goal.returns-clause-attended
 returns-clause-attended g c =
-    attended_begun (asked_of c.args.setup.now.viewing) (viewing_of c.in-Some.viewing) _ c.in-Some-desk.keeper c.begin.new.self.stage c.begin.new.self.audience c.begin.result (ap asked_of c.in-Some.is) (search rules)
+    attended_begun (asked_of c.args.setup.now.viewing) (viewing_of c.in-Some.viewing) _ c.in-Some-desk.keeper c.begin.new.self.stage c.begin.new.self.audience.watches c.begin.result (ap asked_of c.in-Some.is) (search rules)
     c.begin.ensures.attend c.begin.ensures.stage
 
 pub returns-clause-asked : goal.returns-clause-asked

@@ -8,8 +8,8 @@ start_all-requires-clause-plans g c κs within = rw (← c.schema.ensures) c.in-
 
 pub returns-in_ok-start_all-in-Ok-clause-attend : goal.returns-in_ok-start_all-in-Ok-clause-attend
 returns-in_ok-start_all-in-Ok-clause-attend g c =
-    begun_all (viewing_of c.args.viewing) c.args.keeper.now c.start_all.new.self.audience c.in-Ok.plans.items c.in_ok-start_all-in-Ok.ensures.many c.in-Ok.ensures.many c.in_ok-start_all-in-Ok.ensures.started
+    begun_all (viewing_of c.args.viewing) c.args.keeper.now c.start_all.new.self.audience.watches c.in-Ok.plans.items c.in_ok-start_all-in-Ok.ensures.many c.in-Ok.ensures.many c.in_ok-start_all-in-Ok.ensures.started
 
 pub returns-in-Err-clause-attend : goal.returns-in-Err-clause-attend
 returns-in-Err-clause-attend g c =
-    turned_all (viewing_of c.args.viewing) c.args.keeper.now c.in-Err.fault c.args.self.now.audience c.requires.nobody (search rules) (rw c.schema.ensures at c.in-Err.ensures.refused)
+    turned_all (viewing_of c.args.viewing) c.args.keeper.now c.in-Err.fault c.args.self.now.audience.watches c.requires.nobody (search rules) (rw c.schema.ensures at c.in-Err.ensures.refused)

@@ -1,4 +1,4 @@
-use Rattle.std.proofs.Common.{◌∙◌, ◌∷◌, [], ap, arith, length, length-append, refl, subst, sym}
+use Rattle.std.proofs.Common.{◌∙◌, ◌+◌, ◌∷◌, [], ap, arith, length, length-append, refl, subst, sym}
 use Rattle.board.specs.Editions.{board, schema}
 use Rattle.report.specs.Watching.{watch_from}
 use Rattle.script.specs.Viewers.{ArePlans, viewing_of}
@@ -18,11 +18,11 @@ loop-plan-preserved g c =
     let inv = c.loop-plan.invariant in
     let plans = subst (ArePlans (schema c.args.keeper.now) c.args.viewing.query.now) c.in-Some.ensures.steps.0 inv.left in
     let fewer = ap length c.in-Some.ensures.steps.0 in
-    let more = ap length c.in_ok-begin.ensures.watching in
+    let more = ap (λ a. length a.watches) c.in_ok-begin.ensures.watching in
     record {
       same = c.in-Ok.ensures.same ∙ inv.same;
       left = plans.1;
-      many = omega (arith, inv.many, fewer, more, length-append c.loop-plan.self.audience (watch_from c.in-Ok.viewer c.in-Some.plan c.args.viewing.shots ∷ []));
-      started = rw c.in_ok-begin.ensures.watching (started_more (viewing_of c.args.viewing) c.args.keeper.now c.loop-plan.self.audience c.in-Ok.viewer c.in-Some.plan inv.started
+      many = omega (arith, inv.many, fewer, more, length-append c.loop-plan.self.audience.watches (watch_from (c.loop-plan.self.audience.begun + 1) c.in-Ok.viewer c.in-Some.plan c.args.viewing.shots ∷ []));
+      started = rw c.in_ok-begin.ensures.watching (started_more (viewing_of c.args.viewing) c.args.keeper.now c.loop-plan.self.audience.watches (c.loop-plan.self.audience.begun + 1) c.in-Ok.viewer c.in-Some.plan inv.started
           (c.in-Ok.ensures.viewer.board ∙ ap board inv.same) (c.in-Ok.ensures.viewer.schema ∙ ap schema inv.same) plans.0);
     }

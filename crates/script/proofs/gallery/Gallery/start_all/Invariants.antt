@@ -9,6 +9,6 @@ abbrev pub invariant-loop-plan : goal.invariant-loop-plan
 invariant-loop-plan g l = record {
   same : l.keeper ≡ l.fn.keeper;
   left : ArePlans (schema l.fn.keeper) l.viewing.query.now (into_iter_items l.plan-iterator);
-  many : length l.self.audience + length (into_iter_items l.plan-iterator) ≡ length l.fn.plans.items;
-  started : AllByRecursion (IsStarted (viewing_of l.viewing) l.fn.keeper) l.self.audience;
+  many : length l.self.audience.watches + length (into_iter_items l.plan-iterator) ≡ length l.fn.plans.items;
+  started : AllByRecursion (IsStarted (viewing_of l.viewing) l.fn.keeper) l.self.audience.watches;
 }

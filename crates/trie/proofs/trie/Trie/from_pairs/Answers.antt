@@ -9,8 +9,8 @@ use Rattle.trie.proofs.MapsLemmas.{hashes}
 use Rattle.trie.proofs.SortLemmas.{sorted_made, sorted_rise}
 use Rattle.trie.proofs.trie.Trie.from_pairs.Goals as goal
 
-pub place_of-requires : goal.place_of-requires
-place_of-requires g c =
+pub slot_of-requires : goal.slot_of-requires
+slot_of-requires g c =
     let before = c.in_ok-with_hashes in
     let after = c.in_ok-sorted in
     let list = c.in_ok-owned.owned in

@@ -1,6 +1,0 @@
-use Rattle.std.proofs.Common.{◌≡◌, take}
-use Rattle.groups.specs.Parting.{parted_tuples}
-use Rattle.groups.proofs.grouped.Grouped.tuples_of.Given as goal
-
-abbrev pub invariant-loop-part : goal.invariant-loop-part
-invariant-loop-part l = l.tuples.items ≡ parted_tuples l.self.tuples.items l.cells (take l.part-index l.parts)

@@ -1,0 +1,128 @@
+//! Rows numbered by their groups, column by column.
+ghost use Rattle.std.specs.Prelude.{◌≡◌, ◌++◌, ◌∷◌, [], ℕ, List, IfOk, IfSome, length, map, slice_index_or};
+ghost use Rattle.cells.specs.Values.{RowValue};
+ghost use Rattle.cells.specs.declared.cell.Cell.{Cell};
+ghost use Rattle.cells.specs.declared.cell.Cell.TheVariants.{Null};
+ghost use Rattle.columns.specs.Columns.{Hold, cells_at, cells_of};
+ghost use Rattle.groups.specs.Numbered.{AreNumbered, HasRows, HaveRows, NumberAll, picked_rows};
+ghost use Rattle.groups.specs.Parting.{AreWithinBoth, parted_tuples};
+
+use crate::parting::{Part, Parts, parted};
+use cells::{Cell, KeyHash, Tuple};
+use columns::{CodeColumn, Columns};
+use std::alloc::{AllocError, Global};
+
+/// The groups of some rows: a number for each row, and for each number the tuple of its rows. Two numbers may have one tuple,
+/// since a column may have two codes for one cell.
+#[derive(Drop)]
+pub struct NumberedRows {
+    pub numbers: Vec<u32>,
+    pub tuples: Vec<Tuple>,
+}
+
+/// The groups of a set over the rows of these indexes. None where a column was left out, or where the groups
+/// are too many for a table.
+pub fn groups_of<H: KeyHash<Cell>>(
+    alloc: Global,
+    columns: &Columns<H>,
+    set: &[usize],
+    rows: &[u32],
+) -> Result<Option<NumberedRows>, AllocError>
+    requires { HaveRows columns.now rows.now }
+    ensures { (all : List RowValue) → Hold all columns.now →
+        IfOk result (λ made. IfSome made (λ g. AreNumbered set.now (picked_rows all rows.now) g.numbers.items g.tuples.items)) }
+{
+    let mut groups = NumberedRows::together(alloc, rows.len())?;
+    for index in set {
+        let Some(column) = columns.at(*index) else {
+            return Ok(None);
+        };
+        let Some(finer) = groups.cut(alloc, column, rows)? else {
+            return Ok(None);
+        };
+        groups = finer;
+    }
+    Ok(Some(groups))
+}
+
+impl NumberedRows {
+    /// One group of all rows, if there is any.
+    fn together(alloc: Global, count: usize) -> Result<NumberedRows, AllocError>
+        ensures all { IfOk result (λ g. NumberAll count g.numbers.items g.tuples.items) }
+        ensures one { (rows : List RowValue) → length rows ≡ count → IfOk result (λ g. AreNumbered [] rows g.numbers.items g.tuples.items) }
+    {
+        if count == 0 {
+            return Ok(NumberedRows {
+                numbers: Vec::new(alloc),
+                tuples: Vec::new(alloc),
+            });
+        }
+        let mut tuples = Vec::new(alloc);
+        tuples.push(Tuple::new(Vec::new(alloc)))?;
+        Ok(NumberedRows {
+            numbers: Vec::from_elem(alloc, 0u32, count)?,
+            tuples,
+        })
+    }
+
+    /// The groups cut by the cells of a column, which stands behind those of their set. None where they are too many.
+    fn cut<H: KeyHash<Cell>>(
+        &self,
+        alloc: Global,
+        column: &CodeColumn<H>,
+        rows: &[u32],
+    ) -> Result<Option<NumberedRows>, AllocError>
+        requires rows { HasRows column.now rows.now }
+        requires all { NumberAll (length rows.now) self.now.numbers.items self.now.tuples.items }
+        ensures all { IfOk result (λ made. IfSome made (λ g. NumberAll (length rows.now) g.numbers.items g.tuples.items)) }
+        ensures cut { (all : List RowValue) (set : List ℕ) (index : ℕ) → cells_of column.now ≡ cells_at index all →
+            AreNumbered set (picked_rows all rows.now) self.now.numbers.items self.now.tuples.items →
+            IfOk result (λ made. IfSome made (λ g. AreNumbered (set ++ index ∷ []) (picked_rows all rows.now) g.numbers.items g.tuples.items)) }
+    {
+        let Some(finer) = parted(
+            alloc,
+            self.numbers.as_slice(),
+            self.tuples.len(),
+            rows,
+            column.codes(),
+            column.cells().len(),
+        )?
+        else {
+            return Ok(None);
+        };
+        let Parts { numbers, parts } = finer;
+        let tuples = self.tuples_of(alloc, parts.as_slice(), column.cells())?;
+        Ok(Some(NumberedRows { numbers, tuples }))
+    }
+
+    /// The tuples of parts of the groups: each is its group's with the cell of its code behind it.
+    fn tuples_of(
+        &self,
+        alloc: Global,
+        parts: &[Part],
+        cells: &[Cell],
+    ) -> Result<Vec<Tuple>, AllocError>
+        requires { AreWithinBoth (length self.now.tuples.items) (length cells.now) parts.now }
+        ensures { IfOk result (λ v. v.items ≡ parted_tuples self.now.tuples.items cells.now parts.now) }
+    {
+        let mut tuples = Vec::with_capacity(alloc, parts.len())?;
+        for part in parts {
+            let coarser = &self.tuples[part.group as usize];
+            tuples.push(longer(alloc, coarser, &cells[part.code as usize])?)?;
+        }
+        Ok(tuples)
+    }
+}
+
+/// The tuple with a cell behind its own.
+fn longer(alloc: Global, tuple: &Tuple, last: &Cell) -> Result<Tuple, AllocError>
+    ensures { IfOk result (λ t. t ≡ tuple.now ++ last.now ∷ []) }
+{
+    let cells = tuple.cells();
+    let mut all = Vec::with_capacity(alloc, cells.len() + 1)?;
+    for cell in cells {
+        all.push(cell.clone()?)?;
+    }
+    all.push(last.clone()?)?;
+    Ok(Tuple::new(all))
+}

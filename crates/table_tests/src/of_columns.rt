@@ -1,0 +1,62 @@
+//! Columns of codes: how many different cells they have, since no clause rests on how a code is found.
+
+use crate::written::Written::{self, Int, Null, Text};
+use crate::written::cells_of;
+use cells::{Cell, Fnv, KeyHash, Plain};
+use columns::CodeColumn;
+use std::alloc::{AllocError, Global};
+use std::test::Fail;
+
+const NUMBERS: [Written; 6] = [Null, Int(0), Int(-1), Int(1), Int(4_096), Int(i64::MIN)];
+
+const TEXTS: [Written; 4] = [Null, Text("a"), Text("b"), Text("ab")];
+
+/// How many different cells a column has when both cells were put into it in turn.
+fn different_in_turn<H: KeyHash<Cell>>(
+    alloc: Global,
+    first: &Cell,
+    second: &Cell,
+) -> Result<usize, AllocError> {
+    let mut column: CodeColumn<H> = CodeColumn::new(alloc);
+    for _i in 0..100u64 {
+        let _ = column.push(first)?;
+        let _ = column.push(second)?;
+    }
+    Ok(column.cells().len())
+}
+
+/// The first two of the cells, which all differ, that have other than a code each when they come in turn.
+fn first_coded_again<H: KeyHash<Cell>>(
+    alloc: Global,
+    cells: &[Cell],
+) -> Result<Option<(usize, usize)>, AllocError> {
+    for (i, first) in cells.iter().enumerate() {
+        for (j, second) in cells.iter().enumerate() {
+            let expected = if i == j { 1 } else { 2 };
+            if different_in_turn::<H>(alloc, first, second)? != expected {
+                return Ok(Some((i, j)));
+            }
+        }
+    }
+    Ok(None)
+}
+
+#[test]
+fn numbers_in_turn_have_a_code_each(rt: HostRuntime) -> Result<(), Fail> {
+    let cells = cells_of(rt.alloc(), NUMBERS.as_slice())?;
+    let found = first_coded_again::<Plain>(rt.alloc(), cells.as_slice())?;
+    assert_eq!(rt; found, None);
+    let found = first_coded_again::<Fnv>(rt.alloc(), cells.as_slice())?;
+    assert_eq!(rt; found, None);
+    Ok(())
+}
+
+#[test]
+fn texts_in_turn_have_a_code_each(rt: HostRuntime) -> Result<(), Fail> {
+    let cells = cells_of(rt.alloc(), TEXTS.as_slice())?;
+    let found = first_coded_again::<Plain>(rt.alloc(), cells.as_slice())?;
+    assert_eq!(rt; found, None);
+    let found = first_coded_again::<Fnv>(rt.alloc(), cells.as_slice())?;
+    assert_eq!(rt; found, None);
+    Ok(())
+}

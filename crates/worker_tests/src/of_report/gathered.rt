@@ -1,0 +1,99 @@
+//! What workers gather from pieces, with no report round it.
+
+ghost use Rattle.std.specs.Prelude.{◌≤◌, IfOk, IsTrue, length};
+ghost use Rattle.aggs.specs.Room.{cell_limit};
+ghost use Rattle.crew.specs.Gathering.{rows_in};
+ghost use Rattle.crew.specs.Limits.{piece_limit};
+
+use crate::of_report::answers::edition_of;
+use board::Snapshot;
+use cells::{Cell, Plain, Refused, Row, Total};
+use crew::{Open, gather};
+use groups::Partial;
+use query::{Plan, check, read};
+use std::alloc::{AllocError, Global};
+use std::sync::Wait;
+use std::test::Fail;
+use std::thread::Threads;
+use trie::{Cutting, Piece};
+
+/// The partial result of the pieces by two workers; where it is refused, by the same call made again.
+fn gathered<R: Threads + Wait>(
+    rt: &R,
+    alloc: Global,
+    plan: &Plan,
+    pieces: &[Piece<Cell, Row, Plain>],
+) -> Result<Partial<Plain>, Refused>
+    requires rows { length (rows_in pieces.now) ≤ cell_limit }
+    requires pieces { length pieces.now ≤ piece_limit }
+{
+    if let Ok(partial) = gather(rt, alloc, plan, pieces, 2, &Open) {
+        return Ok(partial);
+    }
+    gather(rt, alloc, plan, pieces, 2, &Open)
+}
+
+/// Whether the piece has one row at most.
+fn is_short(alloc: Global, piece: &Piece<Cell, Row, Plain>) -> Result<bool, AllocError>
+    ensures { IfOk result (λ short. IsTrue short → length piece.now ≤ 1) }
+{
+    Ok(piece.entries(alloc)?.len() <= 1)
+}
+
+/// The partial result of the pieces, if they are two of one row each at most, and so few enough.
+#[tactic(auto, using(crate::proofs::GatheredLemmas::are_few))]
+fn gathered_of_two<R: Threads + Wait>(
+    rt: &R,
+    alloc: Global,
+    plan: &Plan,
+    pieces: &[Piece<Cell, Row, Plain>],
+) -> Result<Option<Partial<Plain>>, Refused> {
+    if pieces.len() != 2 {
+        return Ok(None);
+    }
+    if !is_short(alloc, &pieces[0])? {
+        return Ok(None);
+    }
+    if !is_short(alloc, &pieces[1])? {
+        return Ok(None);
+    }
+    Ok(Some(gathered(rt, alloc, plan, pieces)?))
+}
+
+/// Whether the partial result has one group, whose values are 2 and 3.
+fn is_two_and_three(
+    alloc: Global,
+    plan: &Plan,
+    partial: Partial<Plain>,
+) -> Result<bool, AllocError> {
+    let rows = Partial::finish(alloc, plan, partial)?;
+    Ok(match rows.as_slice() {
+        [row] => matches!(row.totals.as_slice(), [Total::Int(2), Total::Int(3)]),
+        _ => false,
+    })
+}
+
+/// Whether the rows of keys 1 and 2 are counted and summed up, each of which is a piece.
+fn are_counted<R: Threads + Wait>(
+    rt: &R,
+    alloc: Global,
+    snapshot: &Snapshot<Plain>,
+) -> Result<bool, Refused> {
+    let query = read(alloc, "SELECT COUNT(*), SUM(ID) FROM SALES")?;
+    let plan = check(alloc, query, snapshot.schema())?;
+    let cutting = Cutting { depth: 1, small: 0 };
+    let pieces = snapshot.root().rows().split(alloc, &cutting)?;
+    let made = gathered_of_two(rt, alloc, &plan, pieces.as_slice())?;
+    let Some(partial) = made else {
+        return Ok(false);
+    };
+    Ok(is_two_and_three(alloc, &plan, partial)?)
+}
+
+/// Run with each allocation, or each thread, refused in turn, too: what is gathered again gives what it would have given.
+#[test]
+fn pieces_are_gathered_behind_a_refusal(rt: HostRuntime) -> Result<(), Fail> {
+    let edition = edition_of(&rt, rt.alloc(), &[b"1", b"2"])?;
+    assert!(rt; are_counted(&rt, rt.alloc(), &edition)?);
+    Ok(())
+}

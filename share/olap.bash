@@ -1,0 +1,47 @@
+# Completion of the words of olap for bash: commands, options, the values of --hash, and files.
+
+_olap() {
+    local word=${COMP_WORDS[COMP_CWORD]} before=${COMP_WORDS[COMP_CWORD - 1]} place
+    local options="--workers --depth --small --hash --rows --help"
+    COMPREPLY=()
+    if ((COMP_CWORD == 1)); then
+        mapfile -t COMPREPLY < <(compgen -W "run live help --help --version" -- "$word")
+        return
+    fi
+    # (the `=` of an option is a word of its own)
+    if [[ $before == "=" ]]; then
+        before=${COMP_WORDS[COMP_CWORD - 2]}
+    elif [[ $word == "=" ]]; then
+        before=${COMP_WORDS[COMP_CWORD - 1]} word=""
+    fi
+    case $before in
+        --hash)
+            mapfile -t COMPREPLY < <(compgen -W "fnv plain" -- "$word")
+            return
+            ;;
+        --workers | --depth | --small | --rows | --query | --viewers | --shots)
+            return
+            ;;
+    esac
+    case ${COMP_WORDS[1]} in
+        help)
+            mapfile -t COMPREPLY < <(compgen -W "run live" -- "$word")
+            return
+            ;;
+        live) options+=" --query --viewers --shots" ;;
+        run) ;;
+        *) return ;;
+    esac
+    # After the word `--` all words are file names.
+    for ((place = 2; place < COMP_CWORD; place++)); do
+        [[ ${COMP_WORDS[place]} == "--" ]] && options=""
+    done
+    if [[ $word == -* && -n $options ]]; then
+        mapfile -t COMPREPLY < <(compgen -W "$options" -- "$word")
+    else
+        compopt -o filenames 2> /dev/null
+        mapfile -t COMPREPLY < <(compgen -f -- "$word")
+    fi
+}
+
+complete -F _olap olap
