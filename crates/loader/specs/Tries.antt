@@ -1,6 +1,7 @@
 -- Rows as tries, and tries put together.
-use Rattle.std.specs.Prelude.{◌≡◌, ℕ, List}
+use Rattle.std.specs.Prelude.{◌≡◌, ℕ, List, if◌then◌else◌, max, nat_lt}
 use Rattle.std.specs.FinMap.{empty, insert}
+use Rattle.std.specs.Int.{div_ceil}
 use Rattle.std.specs.List.{AllByRecursion, fold}
 use Rattle.cells.specs.CellOrder.{cell_cmp}
 use Rattle.cells.specs.Fitting.{IsRowOf}
@@ -26,3 +27,11 @@ HoldsShares hash_of shares held = (t : Table) (rs : List RowValue) → AreSpread
 -- the rows of two tries, where those of the second lie over those of the first
 abbrev pub IsLaidOver : Held → Held → Held → Type 0
 IsLaidOver first second both = map_of cell_cmp both ≡ laid_over (map_of cell_cmp second) (map_of cell_cmp first)
+
+-- into how many runs shares may be cut: one of a single part, and else one for each worker, and two at least
+abbrev pub run_limit : ℕ → ℕ → ℕ
+run_limit parts workers = if nat_lt parts 2 then 1 else max workers 2
+
+-- the most shares that a run has, so that no worker is left with much more than its part of them
+abbrev pub run_length : ℕ → ℕ → ℕ → ℕ
+run_length parts workers shares = max (div_ceil shares (run_limit parts workers)) 1

@@ -1,8 +1,8 @@
 //! Rows as a trie: that of each share, and all of them together.
-ghost use Rattle.std.specs.Prelude.{◌≡◌, ◌≤◌, ◌⊎◌, IfErr, IfOk};
-ghost use Rattle.std.specs.List.{flat_map};
+ghost use Rattle.std.specs.Prelude.{◌≡◌, ◌≤◌, ◌⊎◌, IfErr, IfOk, length};
+ghost use Rattle.std.specs.List.{AllByRecursion, flat_map};
 ghost use Rattle.loader.specs.Shares.{all_in, in_shares, pairs_in};
-ghost use Rattle.loader.specs.Tries.{HoldsAll, HoldsShares, IsLaidOver};
+ghost use Rattle.loader.specs.Tries.{HoldsAll, HoldsShares, IsLaidOver, run_length};
 ghost use Rattle.loader.specs.declared.fault.PartFault.TheVariants.{NoWorker, OutOfMemory};
 
 use crate::fault::PartFault;
@@ -52,20 +52,23 @@ pub(crate) fn trie_of_shares<H: KeyHash<Cell> + Send + Sync, G: Gate, R: Threads
     }
 }
 
-/// The shares of so many parts, in their order, in runs of much the same length for so many workers.
+/// The shares of so many parts, in their order, in runs for so many workers. Each run has as many shares as the first one,
+/// but for the last, which has what is left.
 fn runs_of(
     alloc: Global,
     shares: Vec<Share>,
     parts: usize,
     workers: usize,
 ) -> Result<Vec<Run>, AllocError>
-    ensures { IfOk result (λ runs. flat_map (λ run. run.shares.items) runs.items ≡ shares.items) }
+    ensures all { IfOk result (λ runs. flat_map (λ run. run.shares.items) runs.items ≡ shares.items) }
+    ensures even { IfOk result (λ runs. AllByRecursion (λ run. length run.shares.items ≤ run_length parts workers (length shares.items)) runs.items) }
 {
     let count = if parts < 2 { 1 } else { workers.max(2) };
+    let most = shares.len().div_ceil(count).max(1);
     let mut runs = Vec::with_capacity(alloc, count)?;
     let mut left = shares;
-    for behind in (1..count).rev() {
-        let rest = left.split_off(left.len() / (behind + 1))?;
+    while left.len() > most {
+        let rest = left.split_off(most)?;
         let place = told_place(runs.len(), count, parts);
         runs.push(Run {
             shares: left,
