@@ -1,10 +1,6 @@
 -- Viewers may cross threads. Each type has a lemma of its own, since one search that goes down through all of them runs out of steps.
-use denote.Enum.Declared.{row}
-use denote.Hole.FixSend.{Crosses, both_send, both_sync}
 use denote.Param.Send.{IsSend, IsSync, sendable}
 use denote.RattleType.{RattleType}
-use denote.Struct.Tuple as Struct
-use Rattle.std.proofs.Common.{[], ◌∷◌}
 use Rattle.std.proofs.Crossing.{crosses}
 use Rattle.atomic_table.proofs.badge.Badge.TheSendSync as TheBadge
 use Rattle.atomic_table.proofs.send_lease.SendLease.TheSendSync as TheLease
@@ -22,6 +18,7 @@ use Rattle.board.specs.contracts.root.Root as Root
 use Rattle.board.specs.contracts.snapshot.Snapshot as Snapshot
 use Rattle.board.specs.contracts.told.Told as Told
 use Rattle.board.specs.contracts.viewer.Viewer as Viewer
+use Rattle.cells.specs.Crossing.{cell_send, cell_sync, row_send, row_sync}
 use Rattle.cells.specs.contracts.cell.Cell as CellType
 use Rattle.cells.specs.contracts.row.Row as RowType
 use Rattle.cells.specs.declared.cell.Cell.{Cell}
@@ -29,43 +26,11 @@ use Rattle.cells.specs.declared.hash.KeyHash as KeyHash
 use Rattle.std.specs.contracts.alloc.Global as Global
 use Rattle.std.specs.contracts.impls.GlobalAllocator.TheImpl as Heap
 use Rattle.std.specs.contracts.option.Option as OptionType
-use Rattle.trie.specs.contracts.node.Inner as Inner
-use Rattle.trie.specs.contracts.node.Owner as Owner
+use Rattle.trie.specs.Crossing.{node, node_send, node_sync}
 
--- ---- nodes of a trie, of which inner ones reach themselves
-abbrev node : RattleType → RattleType → RattleType
-node K V = Owner.the_row (Struct.Tuple (K ∷ V ∷ [])) (Inner.the_row K V)
-
-module _ (K V : RattleType) (ks : IsSend K) (ky : IsSync K) (vs : IsSend V) (vy : IsSync V) where
-  inner_crosses : Crosses (Inner.the_ring K V) (Inner.the_member K V)
-  inner_crosses = record {
-    send = λ h s y. let sent = s (Inner.the_member K V) in let shared = y (Inner.the_member K V) in
-        let layer : IsSend (row (Inner.the_layer K V h)) = search (sendable, crosses) depth 40 in layer;
-    sync = λ h s y. let sent = s (Inner.the_member K V) in let shared = y (Inner.the_member K V) in
-        let layer : IsSync (row (Inner.the_layer K V h)) = search (sendable, crosses) depth 40 in layer;
-  }
-
-  hole : IsSend (Inner.the_hole K V) × IsSync (Inner.the_hole K V)
-  hole = (
-    both_send (Inner.the_ring K V) (Inner.by_members K V (Crosses (Inner.the_ring K V)) inner_crosses) (Inner.the_member K V),
-    both_sync (Inner.the_ring K V) (Inner.by_members K V (Crosses (Inner.the_ring K V)) inner_crosses) (Inner.the_member K V),
-  )
-
-  inner : IsSend (Inner.the_field K V).row × IsSync (Inner.the_field K V).row
-  inner = let sent = hole.0 in let shared = hole.1 in (search (sendable, crosses) depth 40, search (sendable, crosses) depth 40)
-
-  node_crosses : IsSend (node K V) × IsSync (node K V)
-  node_crosses = let sent = inner.0 in let shared = inner.1 in (search (sendable, crosses) depth 40, search (sendable, crosses) depth 40)
-
--- ---- cells, rows, and the nodes of a table
-cell : IsSend CellType.the_row × IsSync CellType.the_row
-cell = (search (sendable, crosses) depth 40, search (sendable, crosses) depth 40)
-
-row_crosses : IsSend RowType.the_row × IsSync RowType.the_row
-row_crosses = let sent = cell.0 in let shared = cell.1 in (search (sendable, crosses) depth 40, search (sendable, crosses) depth 40)
-
+-- ---- the nodes of a table
 rows : IsSend (node CellType.the_row RowType.the_row) × IsSync (node CellType.the_row RowType.the_row)
-rows = node_crosses _ _ cell.0 cell.1 row_crosses.0 row_crosses.1
+rows = (node_send _ _ cell_send cell_sync row_send row_sync, node_sync _ _ cell_send cell_sync row_send row_sync)
 
 -- ---- what was told, which has no bytes
 pub told_send : IsSend Told.the_field.row

@@ -1,5 +1,6 @@
 pub mod CellOrder
 pub mod Codes
+pub mod Crossing
 pub mod Fitting
 pub mod Hashes
 pub mod Integers

@@ -1,5 +1,6 @@
 pub mod Trees
 pub mod Codes
+pub mod Crossing
 pub mod ElementViews
 pub mod ElementFalls
 pub mod PredicateViews

@@ -1,5 +1,6 @@
 pub mod Building
 pub mod Counts
+pub mod Crossing
 pub mod Cuts
 pub mod Dense
 pub mod Digits
