@@ -1,6 +1,6 @@
 //! COUNT DISTINCT of all groups at once, from a column: an accumulator takes the cell of each code that its group has once,
 //! however many rows have it.
-ghost use Rattle.std.specs.Prelude.{◌≡◌, ◌<◌, ◌≤◌, IfOk, IfSome, length, map};
+ghost use Rattle.std.specs.Prelude.{◌≡◌, ◌<◌, ◌≤◌, IfOk, length, map};
 ghost use Rattle.std.specs.List.{AllByRecursion};
 ghost use Rattle.aggs.specs.Room.{cell_limit};
 ghost use Rattle.aggs.specs.declared.acc.Kind.TheVariants as kind;
@@ -17,26 +17,23 @@ use cells::{Cell, KeyHash};
 use columns::CodeColumn;
 use std::alloc::{AllocError, Global};
 
-/// Accumulators of COUNT DISTINCT of `count` groups, as of [`tallied`](crate::tallying::tallied). None where the pairs of a
-/// group and a code are too many for a table.
+/// Accumulators of COUNT DISTINCT of `count` groups, as of [`tallied`](crate::tallying::tallied).
 pub fn tallied_different<H: KeyHash<Cell>>(
     alloc: Global,
     count: usize,
     numbers: &[u32],
     rows: &[u32],
     column: &CodeColumn<H>,
-) -> Result<Option<Vec<Acc<H>>>, AllocError>
+) -> Result<Vec<Acc<H>>, AllocError>
     requires rows { HasRows column.now rows.now }
     requires numbers { (length numbers.now ≡ length rows.now) × AllByRecursion (λ n. n < count) numbers.now }
-    ensures { IfOk result (λ made. IfSome made (λ v. AreTallied kind.CountDistinct count numbers.now (decoded column.now.cells (codes_at column.now.by_row rows.now)) v.items)) }
+    ensures { IfOk result (λ v. AreTallied kind.CountDistinct count numbers.now (decoded column.now.cells (codes_at column.now.by_row rows.now)) v.items) }
 {
     let codes = column.codes();
     let cells = column.cells();
-    let Some(made) = parted(alloc, numbers, count, rows, codes, cells.len())? else {
-        return Ok(None);
-    };
+    let made = parted(alloc, numbers, count, rows, codes, cells.len())?;
     let Parts { parts, .. } = made;
-    Ok(Some(tallied_parts(alloc, count, parts.as_slice(), cells)?))
+    Ok(tallied_parts(alloc, count, parts.as_slice(), cells)?)
 }
 
 /// Accumulators of COUNT DISTINCT of `count` groups, each stepped with the cells of the parts of its group.

@@ -16,8 +16,7 @@ use query::{Plan, Predicate, Truth, truth_by_columns};
 use std::alloc::{AllocError, Global};
 
 /// The indexes of those rows for which the plan's WHERE is true, of `count` rows from the index `first` on. None where a column
-/// that WHERE names was left out, or the groups of its columns are too many for a table. The predicate is asked once for the
-/// rows that have the same cells in these columns.
+/// that WHERE names was left out. The predicate is asked once for the rows that have the same cells in these columns.
 pub fn kept_rows<H: KeyHash<Cell>>(
     alloc: Global,
     plan: &Plan,
