@@ -1,5 +1,5 @@
 //! The rows of a range of columns that WHERE keeps.
-ghost use Rattle.std.specs.Prelude.{◌≡◌, ◌+◌, ◌<◌, ◌≤◌, ◌^◌, List, IfOk, IfSome, length, map};
+ghost use Rattle.std.specs.Prelude.{◌≡◌, ◌+◌, ◌<◌, ◌≤◌, ◌^◌, List, IfOk, IfSome, OnOk, length, map};
 ghost use Rattle.std.specs.List.{AllByRecursion, range_with_len};
 ghost use Rattle.cells.specs.Values.{RowValue};
 ghost use Rattle.columns.specs.Columns.{Hold};
@@ -106,29 +106,30 @@ fn truths(
     ensures { IfOk result (λ v. v.items ≡ map (truth_for predicate.now named.now width) tuples.now) }
 {
     let mut truths = Vec::with_capacity(alloc, tuples.len())?;
+    let mut cells = Vec::with_capacity(alloc, width)?;
     for tuple in tuples {
-        let cells = cells_for(alloc, named, width, tuple)?;
+        put_cells_for(&mut cells, named, width, tuple)?;
         let truth = predicate.truth_of_cells(cells.as_slice());
         truths.push(matches!(truth, Truth::True))?;
     }
     Ok(truths)
 }
 
-/// The cells of a row with this tuple in the named columns, and NULL in all others.
-fn cells_for(
-    alloc: Global,
+/// Puts the cells of a row with this tuple in the named columns, and NULL in all others, in the place of all that are there.
+fn put_cells_for(
+    cells: &mut Vec<Cell>,
     named: &[usize],
     width: usize,
     tuple: &Tuple,
-) -> Result<Vec<Cell>, AllocError>
-    ensures { IfOk result (λ v. v.items ≡ cells_for named.now width tuple.now) }
+) -> Result<(), AllocError>
+    ensures { OnOk result (cells.new.items ≡ cells_for named.now width tuple.now) }
 {
-    let mut cells = Vec::with_capacity(alloc, width)?;
+    cells.clear();
     for index in 0..width {
         let cell = cell_in(tuple.cells(), index_in(named, index))?;
         cells.push(cell)?;
     }
-    Ok(cells)
+    Ok(())
 }
 
 /// A copy of the tuple's cell of an index, and NULL for none.

@@ -1,18 +1,16 @@
-use Rattle.std.proofs.Common.{[], List, ℕ, ap, arith, get_or, length, refl, subst, sym}
-use Rattle.std.proofs.lemmas.List.{length-map}
+use Rattle.std.proofs.Common.{List, ℕ, length, refl, subst, sym}
 use Rattle.aggs.specs.declared.acc.Kind.TheVariants.{CountDistinct}
 use Rattle.columns.specs.Columns.{AreCodes}
 use Rattle.groups.specs.Differing.{cells_of_parts, groups_of_parts}
 use Rattle.groups.specs.Parting.{AreWithinBoth, codes_at}
 use Rattle.groups.specs.Tallying.{AreTallied}
-use Rattle.groups.specs.declared.parting.Part.{Part}
-use Rattle.groups.proofs.DifferingLemmas.{parts_few, tallied_by_parts}
+use Rattle.groups.proofs.DifferingLemmas.{tallied_by_parts}
 use Rattle.groups.proofs.NumberedLemmas.{codes_within, parts_below}
 use Rattle.groups.proofs.PartingLemmas.{parted_by}
 use Rattle.groups.proofs.differing.tallied_different.Goals as goal
 
-pub tallied_parts-requires-clause-within : goal.tallied_parts-requires-clause-within
-tallied_parts-requires-clause-within g c =
+pub tallied_parts-requires : goal.tallied_parts-requires
+tallied_parts-requires g c =
     let made = c.in_ok-made.made in
     let numbers : List ℕ = c.args.numbers.now in
     let column = c.args.column.now in
@@ -23,15 +21,6 @@ tallied_parts-requires-clause-within g c =
     (codes_within (length column.cells) column.by_row rows (subst (AreCodes column.cells) c.codes-codes.ensures.codes c.codes-codes.ensures.within) c.requires.rows.within) in
     subst (λ l. AreWithinBoth c.args.count (length l) c.as_slice.result.now) (sym c.cells-cells.ensures)
     (subst (AreWithinBoth c.args.count (length column.cells)) (sym c.as_slice.ensures.value) there)
-
-pub tallied_parts-requires-clause-few : goal.tallied_parts-requires-clause-few
-tallied_parts-requires-clause-few g c =
-    let made = c.in_ok-made.made in
-    let numbers : List ℕ = c.args.numbers.now in
-    let codes : List ℕ = c.codes-codes.result.now in
-    let rows : List ℕ = c.args.rows.now in
-    let are = parted_by made numbers numbers codes codes rows refl refl c.in_ok-made.ensures in
-    omega (arith, c.requires.rows.few, parts_few numbers (codes_at codes rows) made.numbers.items made.parts.items [] are, length-map rows (λ row. get_or codes row 0), ap (λ (l : List Part). length l) c.as_slice.ensures.value)
 
 pub returns : goal.returns
 returns g c =
