@@ -7,16 +7,17 @@ ghost use Rattle.groups.specs.Groups.{cell_at_index, kept};
 ghost use Rattle.groups.specs.Keeping.{HaveRange, KeptBy, cells_for, chosen, truth_for};
 ghost use Rattle.groups.specs.Numbered.{HaveRows, NumberAll, picked_rows};
 ghost use Rattle.groups.specs.Ranges.{rows_from};
+ghost use Rattle.query.specs.Trees.{And, predicates_of};
 
 use crate::numbered::groups_of;
 use crate::set_columns::index_in;
 use cells::{Cell, KeyHash, Tuple};
 use columns::Columns;
-use query::{Plan, Predicate, Truth, truth_by_columns};
+use query::{Plan, Predicate, PredicateForm, Truth, truth_by_columns};
 use std::alloc::{AllocError, Global};
 
 /// The indexes of those rows for which the plan's WHERE is true, of `count` rows from the index `first` on. None where a column
-/// that WHERE names was left out. The predicate is asked once for the rows that have the same cells in these columns.
+/// that WHERE names was left out.
 pub fn kept_rows<H: KeyHash<Cell>>(
     alloc: Global,
     plan: &Plan,
@@ -34,13 +35,53 @@ pub fn kept_rows<H: KeyHash<Cell>>(
     let Some(predicate) = plan.condition() else {
         return Ok(Some(indexes));
     };
-    let Some(kept) = chosen_by(alloc, predicate, columns, indexes.as_slice())? else {
+    let Some(kept) = kept_by(alloc, predicate, columns, indexes.as_slice())? else {
         return Ok(None);
     };
     Ok(Some(kept))
 }
 
-/// Those of the places whose rows the predicate is true for. None as of [`kept_rows`].
+/// Those of the places whose rows the predicate is true for. Where AND stands between predicates, each is asked of those alone
+/// that those before it leave. None as of [`kept_rows`].
+fn kept_by<H: KeyHash<Cell>>(
+    alloc: Global,
+    predicate: &Predicate<usize>,
+    columns: &Columns<H>,
+    places: &[u32],
+) -> Result<Option<Vec<u32>>, AllocError>
+    requires { HaveRows columns.now places.now }
+    ensures { (all : List RowValue) → Hold all columns.now →
+        IfOk result (λ made. IfSome made (λ v. KeptBy predicate.now all places.now v.items)) }
+{
+    if let PredicateForm::And(predicates) = predicate.form() {
+        return kept_by_all(alloc, predicates.as_slice(), columns, places);
+    }
+    chosen_by(alloc, predicate, columns, places)
+}
+
+/// Those of the places whose rows all predicates are true for. None likewise.
+fn kept_by_all<H: KeyHash<Cell>>(
+    alloc: Global,
+    predicates: &[Predicate<usize>],
+    columns: &Columns<H>,
+    places: &[u32],
+) -> Result<Option<Vec<u32>>, AllocError>
+    requires { HaveRows columns.now places.now }
+    ensures { (all : List RowValue) → Hold all columns.now →
+        IfOk result (λ made. IfSome made (λ v. KeptBy (And (predicates_of predicates.now)) all places.now v.items)) }
+{
+    let mut kept = Vec::from_slice(alloc, places)?;
+    for predicate in predicates {
+        let Some(fewer) = chosen_by(alloc, predicate, columns, kept.as_slice())? else {
+            return Ok(None);
+        };
+        kept = fewer;
+    }
+    Ok(Some(kept))
+}
+
+/// Those of the places whose rows the predicate is true for, which is asked once for those that have the same cells in the
+/// columns that it names. None likewise.
 fn chosen_by<H: KeyHash<Cell>>(
     alloc: Global,
     predicate: &Predicate<usize>,

@@ -1,7 +1,6 @@
 use Rattle.std.proofs.Common.{◌<◌, List, arith, get_or, length, rules}
-use Rattle.std.proofs.lemmas.List.{length-map, take_all}
-use Rattle.cells.specs.declared.cell.Cell.{Cell}
-use Rattle.groups.specs.Differing.{AreListed, cells_of_parts, groups_of_parts, lists_of}
+use Rattle.std.proofs.lemmas.List.{length-map}
+use Rattle.groups.specs.Differing.{lists_of}
 use Rattle.groups.specs.Parting.{no_part}
 use Rattle.groups.specs.declared.parting.Part.{Part}
 use Rattle.groups.proofs.DifferingLemmas.{listed_all, listed_next, listed_none}
