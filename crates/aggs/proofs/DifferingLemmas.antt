@@ -1,12 +1,15 @@
 -- The entries of a trie of cells as a set of cells, and the steps of that set.
 use Rattle.std.specs.Prelude.{is_some}
-use Rattle.std.proofs.Common.{Bor, ◌≡◌, ◌≢◌, ◌||◌, ◌+◌, ℕ, Bool, true, false, cond, Option, Some, None, List, [], ◌∷◌, refl, sym, ap, ap₂, ◌∙◌}
+use Rattle.std.specs.List.{fold, list_any}
+use Rattle.std.proofs.lemmas.List.{append_assoc, append-nil, map-append}
+use Rattle.std.proofs.Common.{Bor, ◌≡◌, ◌≢◌, ◌||◌, ◌+◌, ℕ, Bool, true, false, cond, Option, Some, None, List, [], ◌∷◌, ◌++◌, refl, sym, ap, ap₂, ◌∙◌}
 use Rattle.std.specs.FinMap as map
 use Rattle.std.specs.FinMap.Entries.{is_some-find}
 use Rattle.std.specs.FinSet.{contains, contains-empty, contains-from_list, contains-insert, contains-union, empty, from_list, insert, len, len-empty, len-insert, same_set, union}
 use Rattle.std.specs.Map.{keys_of}
 use Rattle.std.specs.Option.{option_copied}
 use Rattle.std.specs.declared.cmp.Ordering.{Ordering}
+use Rattle.aggs.specs.Counts.{present_append}
 use Rattle.aggs.specs.Differing.{Cells, contains_different, different, nothing_second, union_turns}
 use Rattle.aggs.specs.Values.{is_null, present}
 use Rattle.cells.specs.CellOrder.{cell_cmp, cell_cmp-total, cell_eq, cell_eq-equiv}
@@ -63,6 +66,51 @@ one_more_held es new s c is e = same (held new) (insert s c) (λ q.
     ∙ some_or (cell_eq q c) (map.get (map_of cell_cmp es) q)
     ∙ ap (λ b. cell_eq q c || b) (sym (contains_held es s q (map.get (map_of cell_cmp es) q) is refl))
     ∙ sym (contains-insert cell_cmp-total s c q))
+
+-- ---- the cells of a list, as keys one after another
+
+pub null_behind : (keys : List Cell) (c : Cell) → is_null c ≡ true → keys ≡ keys ++ present (c ∷ [])
+null_behind keys Null e = sym (append-nil keys)
+null_behind keys (Int n) e = absurd (cc)
+null_behind keys (Text t) e = absurd (cc)
+
+pub one_behind : (pairs : Entries) (c : Cell) → is_null c ≡ false → keys_of (pairs ++ (c, tt) ∷ []) ≡ keys_of pairs ++ present (c ∷ [])
+one_behind pairs Null e = absurd (cc)
+one_behind pairs (Int n) e = map-append (λ (p : Cell × Unit {0}). p.0) pairs ((Int n, tt) ∷ [])
+one_behind pairs (Text t) e = map-append (λ (p : Cell × Unit {0}). p.0) pairs ((Text t, tt) ∷ [])
+
+pub key_more : (keys more rest cells : List Cell) (c : Cell) → keys ++ present (c ∷ rest) ≡ present cells → more ≡ keys ++ present (c ∷ []) → more ++ present rest ≡ present cells
+key_more keys more rest cells c so e =
+    ap (λ l. l ++ present rest) e ∙ append_assoc keys (present (c ∷ [])) (present rest) ∙ ap (λ l. keys ++ l) (sym (present_append (c ∷ []) rest)) ∙ so
+
+has_swapped : (a b c : Bool) → (a || (b || c)) ≡ ((b || a) || c)
+has_swapped true true c = refl
+has_swapped true false c = refl
+has_swapped false true c = refl
+has_swapped false false c = refl
+
+all_put : (pairs : Entries) (m : map.FinMap cell_cmp (Unit {0})) (q : Cell) →
+    is_some (map.get (fold (λ (m : map.FinMap cell_cmp (Unit {0})) (p : Cell × Unit {0}). map.insert m p.0 p.1) m pairs) q) ≡ (list_any (cell_eq q) (keys_of pairs) || is_some (map.get m q))
+all_put [] m q = refl
+all_put (p ∷ pairs) m q =
+    all_put pairs (map.insert m p.0 p.1) q
+    ∙ ap (λ b. list_any (cell_eq q) (keys_of pairs) || b) (ap is_some (map.get-insert cell_cmp-total m p.0 p.1 q) ∙ some_or (cell_eq q p.0) (map.get m q))
+    ∙ has_swapped (list_any (cell_eq q) (keys_of pairs)) (cell_eq q p.0) (is_some (map.get m q))
+
+pub all_held : (pairs new : Entries) (xs : List Cell) → keys_of pairs ≡ present xs →
+    map_of cell_cmp new ≡ fold (λ (m : map.FinMap cell_cmp (Unit {0})) (p : Cell × Unit {0}). map.insert m p.0 p.1) (map_of cell_cmp []) pairs → held new ≡ different xs
+all_held pairs new xs are e = same (held new) (different xs) (λ q.
+    contains_keys new q
+    ∙ ap (λ m. is_some (map.get m q)) e
+    ∙ all_put pairs (map_of cell_cmp []) q
+    ∙ ap (λ b. list_any (cell_eq q) (keys_of pairs) || b) (sym (contains_keys [] q) ∙ contains-empty cell_cmp q)
+    ∙ or_false (list_any (cell_eq q) (keys_of pairs))
+    ∙ ap (list_any (cell_eq q)) are
+    ∙ sym (contains_different xs q))
+  where
+    or_false : (b : Bool) → (b || false) ≡ b
+    or_false true = refl
+    or_false false = refl
 
 either : (x y : Option (Unit {0})) → is_some (blended (λ a b. b) x y) ≡ (is_some x || is_some y)
 either None y = refl

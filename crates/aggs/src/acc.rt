@@ -1,6 +1,7 @@
 //! An accumulator of any of the aggregates.
 ghost use Rattle.std.specs.Prelude.{◌≡◌, ◌≢◌, [], ◌∷◌, IfOk, OnErr};
 ghost use Rattle.aggs.specs.Accs.{AccsFit, acc_of, acc_together, acc_total, kind_of};
+ghost use Rattle.aggs.specs.declared.acc.Kind.TheVariants as kind;
 
 use crate::aggregate::Aggregate;
 use crate::count::{Count, CountRows};
@@ -68,6 +69,13 @@ impl<H: KeyHash<Cell>> Acc<H> {
             Kind::Min => Acc::Min(Min::empty()),
             Kind::Max => Acc::Max(Max::empty()),
         }
+    }
+
+    /// The accumulator of COUNT DISTINCT of a list, which is made at once: as if it had been stepped with each cell.
+    pub fn of_different(alloc: Global, cells: Vec<Cell>) -> Result<Acc<H>, AllocError>
+        ensures { IfOk result (λ acc. acc ≡ acc_of kind.CountDistinct cells.items) }
+    {
+        Ok(Acc::CountDistinct(CountDistinct::of_cells(alloc, cells)?))
     }
 
     /// Makes it the accumulator of its list and the cell behind it. It takes memory only where the

@@ -1,5 +1,5 @@
 //! COUNT of a column's different cells.
-ghost use Rattle.std.specs.Prelude.{◌≡◌, ◌+◌, ◌<◌, ◌^◌, List, IfOk, pos};
+ghost use Rattle.std.specs.Prelude.{◌≡◌, ◌+◌, ◌<◌, ◌^◌, ◌++◌, ◌∷◌, [], List, IfOk, OnOk, pos};
 ghost use Rattle.std.specs.FinSet.{contains, from_list, insert, len, union};
 ghost use Rattle.std.specs.Map.{keys_of};
 ghost use Rattle.aggs.specs.Differing as differing;
@@ -49,6 +49,16 @@ impl<H: KeyHash<Cell>> CountDistinct<H> {
     {
         cells.keys_rise();
         CountDistinct { cells }
+    }
+
+    /// Those of a list of cells, in a trie that is made at once.
+    pub(crate) fn of_cells(alloc: Global, cells: Vec<Cell>) -> Result<CountDistinct<H>, AllocError>
+        ensures { IfOk result (λ c. c ≡ different cells.items) }
+    {
+        entries_are_a_map::<Cell, (), H>();
+        let pairs = present_pairs(alloc, cells)?;
+        let cells = Trie::from_pairs(alloc, pairs)?;
+        Ok(CountDistinct::holding(cells))
     }
 
     /// The trie that holds the cells: its keys are the different cells of the list without NULL, each
@@ -103,6 +113,28 @@ impl<H: KeyHash<Cell>> CountDistinct<H> {
         entries_are_a_map::<Cell, (), H>();
         self.cells.len()
     }
+}
+
+/// The cells that are not NULL, in their order, as keys.
+fn present_pairs(alloc: Global, cells: Vec<Cell>) -> Result<Vec<(Cell, ())>, AllocError>
+    ensures { IfOk result (λ v. keys_of v.items ≡ present cells.items) }
+{
+    let mut pairs = Vec::with_capacity(alloc, cells.len())?;
+    for cell in cells {
+        push_present(&mut pairs, cell)?;
+    }
+    Ok(pairs)
+}
+
+/// Puts the cell behind the others as a key, unless it is NULL.
+fn push_present(pairs: &mut Vec<(Cell, ())>, cell: Cell) -> Result<(), AllocError>
+    ensures { OnOk result (keys_of pairs.new.items ≡ keys_of pairs.old.items ++ present (cell ∷ [])) }
+{
+    if is_null(&cell) {
+        return Ok(());
+    }
+    pairs.push((cell, ()))?;
+    Ok(())
 }
 
 /// Whether the cell is NULL.

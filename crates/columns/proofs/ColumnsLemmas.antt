@@ -2,6 +2,7 @@
 use Rattle.std.specs.Prelude.{◌≡◌, ℕ, ◌+◌, ◌<◌, List, [], ◌∷◌, ◌++◌, length, map, take, refl}
 use Rattle.std.proofs.Common.{get_or, ap, ap₂, sym, ◌∙◌, subst, arith}
 use Rattle.std.proofs.lemmas.List.{append_assoc, get_or_append_left, get_or-map, length-append, length-map, map-append, take_more}
+use Rattle.std.proofs.Math.Seq.{get_or-append_seam}
 use Rattle.cells.specs.declared.cell.Cell.{Cell}
 use Rattle.cells.specs.declared.cell.Cell.TheVariants.{Null}
 use Rattle.columns.specs.Coding.{Puts, Recode}
@@ -40,6 +41,19 @@ recode_more xs x old mid new codes code one two =
       stand = decoded_both new.cells codes (code ∷ []) ∙
           ap₂ (λ (a b : List Cell). a ++ b) (ap (λ l. decoded l codes) grown ∙ still_stand mid.cells two.more codes one.within ∙ one.stand) two.stand;
     }
+
+-- a cell was added
+pub recode_added : (cells items : List Cell) (by_row : List ℕ) (cell : Cell) (code : ℕ) (old : ColumnValue) → record { cells = cells; by_row = by_row } ≡ old → items ≡ cells ++ cell ∷ [] →
+    code ≡ length cells → Recode (cell ∷ []) old (record { cells = items; by_row = by_row }) (code ∷ [])
+recode_added cells items by_row cell code old is added number =
+    subst (λ o. Recode (cell ∷ []) o (record { cells = items; by_row = by_row }) (code ∷ [])) is
+    (rw (added, number) (record {
+      more = cell ∷ [];
+      grown = refl;
+      same = refl;
+      within = (omega (arith, length-append cells (cell ∷ [])), tt);
+      stand = ap (λ (c : Cell). c ∷ []) (get_or-append_seam cells cell [] Null);
+    }))
 
 -- the codes were put behind those of the column
 pub puts_coded : (cells : List Cell) (old mid new : ColumnValue) (codes : List ℕ) → AreCodes old.cells old.by_row → Recode cells old mid codes → new.cells ≡ mid.cells →

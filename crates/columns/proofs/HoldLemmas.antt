@@ -98,11 +98,6 @@ pub puts_some : (index : ℕ) (cells : List Cell) (old : ColumnsValue) (column n
     PutsAny cells (get_or old index None) (Some new)
 puts_some index cells old column new is puts = subst (λ o. PutsAny cells o (Some new)) (sym is) puts
 
-pub set_again : (columns : ColumnsValue) (index : ℕ) (one two : Option ColumnValue) → set (set columns index one) index two ≡ set columns index two
-set_again [] index one two = refl
-set_again (c ∷ columns) zero one two = refl
-set_again (c ∷ columns) (suc index) one two = ap (λ (l : ColumnsValue). c ∷ l) (set_again columns index one two)
-
 pub cells_both : (rows more : List RowValue) (k : ℕ) → cells_at k (rows ++ more) ≡ cells_at k rows ++ cells_at k more
 cells_both rows more k = map-append (λ r. get_or r.cells k Null) rows more
 

@@ -1,69 +1,43 @@
 //! One column.
-ghost use Rattle.std.specs.Prelude.{◌≡◌, ◌∷◌, ◌<◌, ◌++◌, [], length, slice_index_or, true, IfOk, IfSome, OnOk};
+ghost use Rattle.std.specs.Prelude.{◌≡◌, ◌∷◌, ◌<◌, ◌++◌, [], length, slice_index_or, IfOk, IfSome, OnOk};
 ghost use Rattle.cells.specs.declared.cell.Cell.TheVariants.{Null};
 ghost use Rattle.columns.specs.Coding.{Puts, Recode};
 ghost use Rattle.columns.specs.Columns.{AreCodes, cells_of};
-ghost use Rattle.columns.specs.Limits.{code_limit};
 
-use crate::limits::MAX_CODES;
 use cells::{Cell, KeyHash};
 use std::alloc::{AllocError, Global};
-use std::collections::HashMap;
 use std::marker::{Model, PhantomData};
 
-/// How many codes are remembered by a few bits of their cells.
-const RECENT: usize = 4_096;
+/// No cell has this code.
+const NONE: u32 = u32::MAX;
 
-/// Where the code of NULL is remembered: after all others, since no integer and no text may push it out. A hash may be
-/// the same for NULL and for an integer, and then each of them would be added again whenever it follows the other.
-const NULL_SLOT: usize = RECENT;
+/// The fewest slots for hints, if there are any.
+const FEWEST_SLOTS: usize = 256;
 
-/// Where the code of a cell is remembered: an integer by its lowest bits, a text by those of its last three bytes.
-fn recent_slot(cell: &Cell) -> usize {
-    match cell {
-        Cell::Null => NULL_SLOT,
-        Cell::Int(value) => value.cast_unsigned() as usize & (RECENT - 1),
-        Cell::Text(text) => {
-            let bytes = text.as_bytes();
-            let last = low_bits(bytes, 1);
-            let second = low_bits(bytes, 2).wrapping_mul(16);
-            let third = low_bits(bytes, 3).wrapping_mul(256);
-            last.wrapping_add(second).wrapping_add(third)
-        }
-    }
-}
+/// In how many slots a hint of a cell is looked for.
+const PROBES: usize = 32;
 
-/// The four lowest bits of the byte so many bytes before the end; 0 where there is none.
-fn low_bits(bytes: &[u8], back: usize) -> usize {
-    match bytes.get(bytes.len().wrapping_sub(back)) {
-        Some(byte) => (*byte & 15) as usize,
-        None => 0,
-    }
-}
+/// An odd number whose digits have no pattern: 2^64 over the golden ratio.
+const MIXER: u64 = 0x9E37_79B9_7F4A_7C15;
 
 /// The cells of rows in one column, one for each row. Each is held as a code of 32 bits, the index of its cell in the list of
-/// the column's different cells, of which NULL may be one; there are at most [`MAX_CODES`] of them. It owns a copy of each.
+/// the column's different cells, of which NULL may be one. It owns a copy of each.
 ///
-/// Nothing rests on hashes: a cell whose hash is also another's may stand in the list twice.
+/// What is put behind finds its code by hints, which rest on hashes. Nothing rests on the hints: a cell that they do not
+/// show may stand in the list twice.
 #[derive(Drop)]
 pub struct CodeColumn<H: KeyHash<Cell>> {
     by_row: Vec<u32>,
     cells: Vec<Cell>,
-    // the code that a cell of this hash was added with last
-    codes_by_hash: HashMap<u64, u32>,
-    // where a cell was met last, by a few of its bits
-    recent: Vec<u32>,
+    // codes of cells, each in one of a few slots from the one on to which its cell's hash points
+    hints: Vec<u32>,
     hash: PhantomData<H>,
 }
 
 impl<H: KeyHash<Cell>> Model for CodeColumn<H> {
-    ghost use Rattle.std.specs.Prelude.{◌<◌, ◌≤◌, length};
     ghost use Rattle.std.specs.Coded.{codes};
-    ghost use Rattle.std.specs.HashMap.{values};
-    ghost use Rattle.std.specs.List.{All};
     ghost use Rattle.cells.specs.Codes.{coded_cell};
     ghost use Rattle.columns.specs.Columns.{AreCodes, ColumnValue};
-    ghost use Rattle.columns.specs.Limits.{code_limit};
 
     ghost Value = { ColumnValue };
 
@@ -71,7 +45,7 @@ impl<H: KeyHash<Cell>> Model for CodeColumn<H> {
 
     ghost view = { λ c. record { cells = c.cells.items; by_row = c.by_row.items } };
 
-    ghost invariant = { λ c. AreCodes c.cells.items c.by_row.items × (length c.cells.items ≤ code_limit) × All (λ code. code < length c.cells.items) (values c.codes_by_hash) };
+    ghost invariant = { λ c. AreCodes c.cells.items c.by_row.items };
 }
 
 impl<H: KeyHash<Cell>> CodeColumn<H> {
@@ -82,8 +56,7 @@ impl<H: KeyHash<Cell>> CodeColumn<H> {
         CodeColumn {
             by_row: Vec::new(alloc),
             cells: Vec::new(alloc),
-            codes_by_hash: HashMap::new(alloc),
-            recent: Vec::new(alloc),
+            hints: Vec::new(alloc),
             hash: PhantomData,
         }
     }
@@ -103,33 +76,37 @@ impl<H: KeyHash<Cell>> CodeColumn<H> {
         self.by_row.as_slice()
     }
 
-    /// Puts a cell behind those that are there, and answers true; false where there would be too many different cells, and
-    /// then the column is to be left out. The only error is that a growth was refused.
-    pub fn push(&mut self, cell: &Cell) -> Result<bool, AllocError>
-        ensures { IfOk result (λ there. there ≡ true → Puts (cell.now ∷ []) self.old self.new) }
+    /// Puts a cell behind those that are there. The only error is that a growth was refused, as that of a list of
+    /// 4,294,967,296 different cells is.
+    pub fn push(&mut self, cell: &Cell) -> Result<(), AllocError>
+        ensures { OnOk result (Puts (cell.now ∷ []) self.old self.new) }
     {
         self.codes_stand();
-        let Some(code) = self.code_of(cell)? else {
-            return Ok(false);
-        };
+        let code = self.code_of(cell)?;
         self.push_code(code)?;
-        Ok(true)
+        Ok(())
     }
 
-    /// Puts the cells of another column behind those that are there, and answers true, or false as [`push`](CodeColumn::push)
-    /// does. Each different cell is looked up once.
-    pub fn append(&mut self, alloc: Global, other: &CodeColumn<H>) -> Result<bool, AllocError>
-        ensures { IfOk result (λ there. there ≡ true → Puts (cells_of other.now) self.old self.new) }
+    /// Puts the cells of another column behind those that are there. Each different cell is looked up once. Errors are those
+    /// of [`push`](CodeColumn::push).
+    pub fn append(&mut self, alloc: Global, other: &CodeColumn<H>) -> Result<(), AllocError>
+        ensures { OnOk result (Puts (cells_of other.now) self.old self.new) }
     {
         self.codes_stand();
-        let Some(recoded) = self.recoded(alloc, other.cells())? else {
-            return Ok(false);
-        };
+        let recoded = self.recoded(alloc, other.cells())?;
         self.by_row.reserve(other.by_row.len())?;
         for code in other.codes() {
             self.push_code(recoded[*code as usize])?;
         }
-        Ok(true)
+        Ok(())
+    }
+
+    /// Gives back the memory of what only serves to put cells behind; it is made again where some come.
+    pub fn forget_hints(&mut self)
+        ensures { self.new ≡ self.old }
+    {
+        self.hints.clear();
+        self.hints.shrink_to_fit();
     }
 
     /// What is known of each column: its codes are indexes of its cells. It does nothing.
@@ -149,93 +126,127 @@ impl<H: KeyHash<Cell>> CodeColumn<H> {
         Ok(())
     }
 
-    /// The codes of some cells; None where there is no room for them.
-    fn recoded(&mut self, alloc: Global, cells: &[Cell]) -> Result<Option<Vec<u32>>, AllocError>
-        ensures { IfOk result (λ found. IfSome found (λ codes. Recode cells.now self.old self.new codes.items)) }
+    /// The codes of some cells.
+    fn recoded(&mut self, alloc: Global, cells: &[Cell]) -> Result<Vec<u32>, AllocError>
+        ensures { IfOk result (λ codes. Recode cells.now self.old self.new codes.items) }
     {
         let mut codes = Vec::with_capacity(alloc, cells.len())?;
         for cell in cells {
-            let Some(code) = self.code_of(cell)? else {
-                return Ok(None);
-            };
+            let code = self.code_of(cell)?;
             codes.push(code)?;
         }
-        Ok(Some(codes))
+        Ok(codes)
     }
 
-    /// The code of the cell, which is added where it is not found; None where there is no room for it.
-    fn code_of(&mut self, cell: &Cell) -> Result<Option<u32>, AllocError>
-        ensures { IfOk result (λ found. IfSome found (λ code. Recode (cell.now ∷ []) self.old self.new (code ∷ []))) }
+    /// The code of the cell, which is added where it is not found.
+    fn code_of(&mut self, cell: &Cell) -> Result<u32, AllocError>
+        ensures { IfOk result (λ code. Recode (cell.now ∷ []) self.old self.new (code ∷ [])) }
     {
-        let slot = recent_slot(cell);
-        if let Some(code) = self.remembered(slot, cell) {
-            return Ok(Some(code));
-        }
-        let Some(code) = self.code_by_hash(cell)? else {
-            return Ok(None);
+        self.make_room()?;
+        let slot = match self.code_or_slot(cell) {
+            Ok(code) => return Ok(code),
+            Err(slot) => slot,
         };
-        self.remember(slot, code)?;
-        Ok(Some(code))
+        let code = self.add(cell)?;
+        self.hint(slot, code);
+        Ok(code)
     }
 
-    /// The code that was remembered there, if it is the cell's. It takes no memory.
-    fn remembered(&self, slot: usize, cell: &Cell) -> Option<u32>
+    /// The code of the cell, if a hint shows it; else the slot for its hint. It takes no memory.
+    fn code_or_slot(&self, cell: &Cell) -> Result<u32, usize>
+        ensures within { IfOk result (λ code. code < length self.now.cells) }
+        ensures found { IfOk result (λ code. slice_index_or self.now.cells code Null ≡ cell.now) }
+    {
+        let mut slot = self.first_slot(cell);
+        for _probe in 0..PROBES {
+            if let Some(code) = self.shown(slot, cell) {
+                return Ok(code);
+            }
+            if self.is_free(slot) {
+                return Err(slot);
+            }
+            slot = slot.wrapping_add(1);
+        }
+        Err(slot)
+    }
+
+    /// The code in the slot, if it is the cell's. It takes no memory.
+    fn shown(&self, slot: usize, cell: &Cell) -> Option<u32>
         ensures within { IfSome result (λ code. code < length self.now.cells) }
         ensures found { IfSome result (λ code. slice_index_or self.now.cells code Null ≡ cell.now) }
     {
-        let code = *self.recent.get(slot)?;
+        let code = *self.hints.get(slot)?;
         let found = self.cells.get(code as usize)?;
         if *found == *cell { Some(code) } else { None }
     }
 
-    /// Remembers the code there. Nothing rests on it.
-    fn remember(&mut self, slot: usize, code: u32) -> Result<(), AllocError>
+    /// Whether the slot has no hint. Nothing rests on it.
+    fn is_free(&self, slot: usize) -> bool {
+        match self.hints.get(slot) {
+            Some(code) => *code == NONE,
+            None => true,
+        }
+    }
+
+    /// The slot from which on a hint of the cell is looked for. Nothing rests on it.
+    fn first_slot(&self, cell: &Cell) -> usize {
+        let number = match cell {
+            Cell::Int(value) => value.cast_unsigned(),
+            other => H::hash(other),
+        };
+        let hash = number.wrapping_mul(MIXER) as usize >> 32;
+        hash.wrapping_mul(self.hints.len().saturating_sub(PROBES)) >> 32
+    }
+
+    /// Puts a hint into the slot. Nothing rests on it.
+    fn hint(&mut self, slot: usize, code: u32)
+        ensures { self.new ≡ self.old }
+    {
+        if let Some(hint) = self.hints.get_mut(slot) {
+            *hint = code;
+        }
+    }
+
+    /// Makes more slots, with the hints of all cells, where there may be fewer than two for each cell. Nothing rests on it.
+    fn make_room(&mut self) -> Result<(), AllocError>
         ensures { OnOk result (self.new ≡ self.old) }
     {
-        if self.recent.is_empty() {
-            self.recent.resize(NULL_SLOT + 1, 0)?;
+        if self.cells.len() < self.hints.len() / 2 {
+            return Ok(());
         }
-        if let Some(remembered) = self.recent.get_mut(slot) {
-            *remembered = code;
+        let slots = self.cells.len().saturating_mul(4).max(FEWEST_SLOTS);
+        self.hints.clear();
+        self.hints.resize(slots, NONE)?;
+        for index in 0..self.cells.len() {
+            self.hint_again(index);
         }
         Ok(())
     }
 
-    /// The same by the cell's hash.
-    fn code_by_hash(&mut self, cell: &Cell) -> Result<Option<u32>, AllocError>
-        ensures { IfOk result (λ found. IfSome found (λ code. Recode (cell.now ∷ []) self.old self.new (code ∷ []))) }
+    /// Puts a hint of the cell of the index. Nothing rests on it.
+    fn hint_again(&mut self, index: usize)
+        ensures { self.new ≡ self.old }
     {
-        let hash = H::hash(cell);
-        if let Some(code) = self.find(hash, cell) {
-            return Ok(Some(code));
-        }
-        if self.cells.len() >= MAX_CODES {
-            return Ok(None);
-        }
-        Ok(Some(self.add(hash, cell)?))
-    }
-
-    /// The code of the cell, if it is found. It takes no memory.
-    fn find(&self, hash: u64, cell: &Cell) -> Option<u32>
-        ensures within { IfSome result (λ code. code < length self.now.cells) }
-        ensures found { IfSome result (λ code. slice_index_or self.now.cells code Null ≡ cell.now) }
-    {
-        let code = *self.codes_by_hash.get(&hash)?;
-        if self.cells[code as usize] == *cell {
-            Some(code)
-        } else {
-            None
+        let Some(cell) = self.cells.get(index) else {
+            return;
+        };
+        let Err(slot) = self.code_or_slot(cell) else {
+            return;
+        };
+        if let Ok(code) = u32::try_from(index) {
+            self.hint(slot, code);
         }
     }
 
     /// Adds a cell.
-    fn add(&mut self, hash: u64, cell: &Cell) -> Result<u32, AllocError>
-        requires { length self.old.cells < code_limit }
+    fn add(&mut self, cell: &Cell) -> Result<u32, AllocError>
         ensures { IfOk result (λ code. Recode (cell.now ∷ []) self.old self.new (code ∷ [])) }
     {
+        if self.cells.len() > u32::MAX as usize {
+            return Err(AllocError);
+        }
         let code = self.cells.len() as u32;
         self.cells.push(cell.clone()?)?;
-        let _ = self.codes_by_hash.insert(hash, code)?;
         Ok(code)
     }
 }

@@ -12,8 +12,8 @@ use std::marker::Model;
 use std::mem;
 use trie::{Piece, Visitor};
 
-/// The columns of rows, one for each column of the table. Rows come one behind another; a column that would have too many
-/// different cells is left out, and its memory given back. It owns copies of the cells.
+/// The columns of rows, one for each column of the table, but for those that are left out. Rows come one behind another. It
+/// owns copies of the cells.
 #[derive(Drop)]
 pub struct Columns<H: KeyHash<Cell>> {
     columns: Vec<Option<CodeColumn<H>>>,
@@ -75,6 +75,25 @@ impl<H: KeyHash<Cell>> Columns<H> {
         Ok(())
     }
 
+    /// Gives back the memory of what only serves to put rows behind; it is made again where some come.
+    pub fn forget_hints(&mut self)
+        ensures { self.new ≡ self.old }
+    {
+        for index in 0..self.column_count() {
+            self.forget_hints_at(index);
+        }
+    }
+
+    /// Does so in the column of the index.
+    fn forget_hints_at(&mut self, index: usize)
+        requires { index < length self.old }
+        ensures { self.new ≡ self.old }
+    {
+        if let Some(column) = &mut self.columns[index] {
+            column.forget_hints();
+        }
+    }
+
     /// How many columns the table has, with those that were left out.
     pub fn column_count(&self) -> usize
         ensures { result ≡ length self.now }
@@ -82,7 +101,7 @@ impl<H: KeyHash<Cell>> Columns<H> {
         self.columns.len()
     }
 
-    /// Puts the row's cell behind the column of the index, or leaves the column out.
+    /// Puts the row's cell behind the column of the index, if it is not left out.
     fn push_at(&mut self, index: usize, row: &Row) -> Result<(), AllocError>
         requires { index < length self.old }
         ensures { OnOk result (PutsAt index (cells_at index (row.now ∷ [])) self.old self.new) }
@@ -91,13 +110,11 @@ impl<H: KeyHash<Cell>> Columns<H> {
             return Ok(());
         };
         let cell = row.cells().get(index).unwrap_or(&Cell::Null);
-        if !column.push(cell)? {
-            self.leave_out(index);
-        }
+        column.push(cell)?;
         Ok(())
     }
 
-    /// Puts the cells of the other column of the index behind the column there, or leaves it out.
+    /// Puts the cells of the other column of the index behind the column there, or leaves it out where that one is.
     fn append_at(
         &mut self,
         alloc: Global,
@@ -115,13 +132,12 @@ impl<H: KeyHash<Cell>> Columns<H> {
         let Some(column) = &mut self.columns[index] else {
             return Ok(());
         };
-        if !column.append(alloc, other)? {
-            self.leave_out(index);
-        }
+        column.append(alloc, other)?;
         Ok(())
     }
 
-    /// Leaves the column of the index out, which is one of the table, as its key may be, which no two rows have in common.
+    /// Leaves the column of the index out, which is one of the table, and gives its memory back: as its key may be, which no
+    /// two rows have in common.
     pub fn leave_out(&mut self, index: usize)
         requires { index < length self.old }
         ensures left { self.new ≡ set self.old index None }

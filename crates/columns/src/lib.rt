@@ -4,8 +4,6 @@
 
 mod code_column;
 mod columns;
-mod limits;
 
 pub use code_column::CodeColumn;
 pub use columns::Columns;
-pub use limits::MAX_CODES;

@@ -137,5 +137,6 @@ fn appended<'a, H: KeyHash<Cell>, G>(
     for part in parts {
         all.append(alloc, &part)?;
     }
+    all.forget_hints();
     Ok(all)
 }

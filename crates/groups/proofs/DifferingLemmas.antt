@@ -1,13 +1,16 @@
 -- Where a cell counts once, parts are as good as the rows that they are parts of.
-use Rattle.std.specs.Prelude.{◌≡◌, ℕ, ◌<◌, ◌≤◌, ◌==◌, ◌&&◌, ◌||◌, Bool, true, false, not, List, [], ◌∷◌, length, map, refl}
+use Rattle.std.specs.Prelude.{◌≡◌, ◌≢◌, ℕ, ◌+◌, ◌<◌, ◌≤◌, ◌==◌, ◌&&◌, ◌||◌, ◌⊎◌, Bool, true, false, not, List, [], ◌∷◌, ◌++◌, Vec, length, map, min, replicate, set, take, refl}
+use Rattle.std.specs.declared.alloc.Global.{Global}
 use Rattle.std.specs.FinSet.{same_set}
 use Rattle.std.specs.List.{AllByRecursion, Contains, list_any}
-use Rattle.std.proofs.Common.{get_or, ap, ap₂, sym, ◌∙◌, subst, arith}
+use Rattle.std.proofs.Common.{get_or, ap, ap₂, sym, ◌∙◌, subst, arith, eq-eqb, inl, inr}
 use Rattle.std.specs.Cmp.{both_ways}
-use Rattle.std.proofs.lemmas.List.{get_or_default, length-map}
+use Rattle.std.proofs.lemmas.Bool.Decides.{eqb_tells}
+use Rattle.std.proofs.lemmas.List.{append-nil, get_or_default, get_or-map as get_or-map-at, get_or-replicate, get_or-set_other, get_or-set_same, length-map, length-replicate, length-set, length-take, map-set, take_all}
 use Rattle.std.proofs.lemmas.Simd.{map-map}
 use Rattle.std.proofs.lemmas.List.Folds.{Any-from_list_any, list_any_at}
 use Rattle.std.proofs.Math.ListN.{get_or-map}
+use Rattle.aggs.specs.Accs.{acc_of}
 use Rattle.aggs.specs.Differing.{contains_different, different}
 use Rattle.aggs.specs.Values.{is_null, present}
 use Rattle.aggs.specs.declared.acc.Acc.{Acc}
@@ -18,11 +21,12 @@ use Rattle.cells.specs.SameKeys.{exact_cells}
 use Rattle.cells.specs.declared.cell.Cell.{Cell}
 use Rattle.cells.specs.declared.cell.Cell.TheVariants.{Null, Int, Text}
 use Rattle.columns.specs.Columns.{decoded}
-use Rattle.groups.specs.Differing.{cells_of_parts, groups_of_parts}
-use Rattle.groups.specs.Parting.{AreParted, no_part}
+use Rattle.groups.specs.Differing.{AreListed, cells_of_parts, groups_of_parts, lists_of}
+use Rattle.groups.specs.Parting.{AreParted, AreWithinBoth, no_part}
 use Rattle.groups.specs.Tallying.{AreTallied, keep_if, those_of}
 use Rattle.groups.specs.declared.parting.Part.{Part}
-use Rattle.groups.proofs.TuplesLemmas.{all_at}
+use Rattle.groups.proofs.TallyingLemmas.{passing_more}
+use Rattle.groups.proofs.TuplesLemmas.{all_at, take_next}
 
 -- ---- the part at i
 pub part_group : (parts : List Part) (i : ℕ) → (get_or parts i no_part).group ≡ get_or (groups_of_parts parts) i 0
@@ -34,6 +38,64 @@ part_cell cells parts i cell h below is =
     let g : Part → Cell = λ part. get_or cells part.code Null in
     let there : i < length (cells_of_parts cells parts) = omega (arith, h, length-map parts g) in
     is ∙ get_or_default cells (get_or parts i no_part).code cell Null below ∙ sym (get_or-map g parts i no_part) ∙ get_or_default (cells_of_parts cells parts) i (g no_part) cell there
+
+-- ---- the cells of each number, a cell after another
+pub listed_none : (count : ℕ) (lists : List (List Cell)) → lists ≡ replicate count [] → AreListed count [] [] lists
+listed_none count lists e = rw e (record { counted = length-replicate count []; each = λ n h. get_or-replicate count n [] [] h })
+
+listed_more : (count : ℕ) (numbers : List ℕ) (cells : List Cell) (lists : List (List Cell)) (n : ℕ) (cell : Cell) → length numbers ≡ length cells → n < count → AreListed count numbers cells lists →
+    AreListed count (numbers ++ n ∷ []) (cells ++ cell ∷ []) (set lists n (get_or lists n [] ++ cell ∷ []))
+listed_more count numbers cells lists n cell same below now = record {
+  counted = length-set lists n (get_or lists n [] ++ cell ∷ []) ∙ now.counted;
+  each = λ m h. each m h (eqb_tells n m);
+}
+  where
+    each : (m : ℕ) → m < count → (((n == m) ≡ true) × (n ≡ m)) ⊎ (((n == m) ≡ false) × (n ≢ m)) →
+        get_or (set lists n (get_or lists n [] ++ cell ∷ [])) m [] ≡ those_of m (numbers ++ n ∷ []) (cells ++ cell ∷ [])
+    each m h (inl here) =
+        subst (λ j. get_or (set lists n (get_or lists n [] ++ cell ∷ [])) j [] ≡ those_of j (numbers ++ n ∷ []) (cells ++ cell ∷ [])) here.1
+        (get_or-set_same lists n (get_or lists n [] ++ cell ∷ []) [] (omega (arith, below, now.counted)) ∙ ap (λ l. l ++ cell ∷ []) (now.each n below) ∙
+        sym (passing_more (λ k. k == n) numbers cells n cell same ∙ ap (λ b. those_of n numbers cells ++ keep_if b cell []) (eq-eqb n n refl)))
+    each m h (inr other) =
+        get_or-set_other lists n m (get_or lists n [] ++ cell ∷ []) [] (λ z. other.1 (sym z)) ∙ now.each m h ∙
+        sym (passing_more (λ k. k == m) numbers cells n cell same ∙ ap (λ b. those_of m numbers cells ++ keep_if b cell []) other.0 ∙ append-nil (those_of m numbers cells))
+
+-- the cell of the part at i is pushed to the list of its group
+pub listed_next : (count : ℕ) (parts : List Part) (cells : List Cell) (lists : List (Vec Cell Global)) (i : ℕ) (cell : Cell) (old new : Vec Cell Global) →
+    AreWithinBoth count (length cells) parts → i < length parts → cell ≡ get_or cells (get_or parts i no_part).code cell → old ≡ get_or lists (get_or parts i no_part).group old →
+    new.items ≡ old.items ++ cell ∷ [] → AreListed count (take i (groups_of_parts parts)) (take i (cells_of_parts cells parts)) (lists_of lists) →
+    AreListed count (take (i + 1) (groups_of_parts parts)) (take (i + 1) (cells_of_parts cells parts)) (lists_of (set lists (get_or parts i no_part).group new))
+listed_next count parts cells lists i cell old new within h at read is now =
+    let part : Part = get_or parts i no_part in
+    let both : (part.group < count) × (part.code < length cells) = all_at (λ (p : Part). (p.group < count) × (p.code < length cells)) parts i no_part within h in
+    let groups : List ℕ = groups_of_parts parts in
+    let all : List Cell = cells_of_parts cells parts in
+    let f : Part → Cell = λ part. get_or cells part.code Null in
+    let long : length (lists_of lists) ≡ length lists = length-map lists (λ list. list.items) in
+    let there : get_or (lists_of lists) part.group [] ≡ old.items =
+    get_or-map-at (λ (list : Vec Cell Global). list.items) lists part.group old [] (omega (arith, both.0, long, now.counted)) ∙ ap (λ list. list.items) (sym read) in
+    let first : take (i + 1) groups ≡ take i groups ++ part.group ∷ [] = take_next groups i 0 part.group (omega (arith, h, length-map parts (λ (p : Part). p.group))) (part_group parts i) in
+    let second : take (i + 1) all ≡ take i all ++ cell ∷ [] = take_next all i cell cell (omega (arith, h, length-map parts f)) (part_cell cells parts i cell h both.1 at) in
+    let same : length (take i groups) ≡ length (take i all) =
+    length-take i groups ∙ ap (λ l. min i l) (length-map parts (λ (p : Part). p.group) ∙ sym (length-map parts f)) ∙ sym (length-take i all) in
+    subst (λ l. AreListed count l (take (i + 1) all) (lists_of (set lists part.group new))) (sym first)
+    (subst (λ l. AreListed count (take i groups ++ part.group ∷ []) l (lists_of (set lists part.group new))) (sym second)
+    (subst (AreListed count (take i groups ++ part.group ∷ []) (take i all ++ cell ∷ []))
+    (ap (λ l. set (lists_of lists) part.group (l ++ cell ∷ [])) there ∙ ap (set (lists_of lists) part.group) (sym is) ∙ sym (map-set (λ (list : Vec Cell Global). list.items) lists part.group new))
+    (listed_more count (take i groups) (take i all) (lists_of lists) part.group cell same both.0 now)))
+
+pub listed_all : (count : ℕ) (parts : List Part) (cells : List Cell) (lists : List (List Cell)) (i : ℕ) → length parts ≤ i →
+    AreListed count (take i (groups_of_parts parts)) (take i (cells_of_parts cells parts)) lists → AreListed count (groups_of_parts parts) (cells_of_parts cells parts) lists
+listed_all count parts cells lists i h now =
+    subst (λ l. AreListed count l (cells_of_parts cells parts) lists) (take_all i (groups_of_parts parts) (omega (arith, h, length-map parts (λ (p : Part). p.group))))
+    (subst (λ l. AreListed count (take i (groups_of_parts parts)) l lists) (take_all i (cells_of_parts cells parts) (omega (arith, h, length-map parts (λ (p : Part). get_or cells p.code Null)))) now)
+
+pub tallied_lists : {H : Type 0} (count : ℕ) (numbers : List ℕ) (cells : List Cell) (lists : List (List Cell)) (accs : List (Acc H)) → AreListed count numbers cells lists →
+    accs ≡ map (acc_of kind.CountDistinct) lists → AreTallied kind.CountDistinct count numbers cells accs
+tallied_lists {H} count numbers cells lists accs now e = record {
+  counted = ap (λ l. length l) e ∙ length-map lists (acc_of {H = H} kind.CountDistinct) ∙ now.counted;
+  each = λ n h d. ap (λ l. get_or l n d) e ∙ get_or-map-at (acc_of {H = H} kind.CountDistinct) lists n [] d (omega (arith, h, now.counted)) ∙ ap (acc_of kind.CountDistinct) (now.each n h);
+}
 
 -- ---- whether one of some things is so
 any_present : (p : Cell → Bool) (cells : List Cell) → list_any p (present cells) ≡ list_any (λ c. not (is_null c) && p c) cells
@@ -95,6 +157,3 @@ module _ (groups codes numbers : List ℕ) (parts : List Part) (cells : List Cel
     counted = now.counted;
     each = λ n h d. now.each n h d ∙ ap acc.CountDistinct (sym (same_cells_of n));
   }
-
-  pub parts_few : length parts ≤ length codes
-  parts_few = omega (arith, are.few, ap (λ l. length l) are.of_codes, length-map numbers (λ (n : ℕ). (get_or parts n no_part).code))

@@ -1,5 +1,5 @@
 -- The rows that WHERE keeps, found by the columns that it names.
-use Rattle.std.specs.Prelude.{◌≡◌, ℕ, suc, ◌+◌, ◌<◌, ◌≤◌, ◌==◌, Bool, true, false, List, [], ◌∷◌, ◌++◌, drop, length, map, min, take, Option, Some, refl}
+use Rattle.std.specs.Prelude.{◌≡◌, ℕ, suc, ◌+◌, ◌<◌, ◌≤◌, ◌==◌, ◌&&◌, Bool, true, false, cond, filter, List, [], ◌∷◌, ◌++◌, drop, length, map, min, take, Option, Some, refl}
 use Rattle.std.specs.List.{AllByRecursion}
 use Rattle.std.proofs.Common.{get_or, nat_lt, ap, ap₂, sym, ◌∙◌, subst, arith, eq-eqb}
 use Rattle.std.proofs.lemmas.Bool.{ltb-false, ltb-true}
@@ -13,15 +13,19 @@ use Rattle.cells.specs.TotalOrder.{cell_total}
 use Rattle.cells.specs.Values.{RowValue}
 use Rattle.cells.specs.declared.cell.Cell.{Cell}
 use Rattle.cells.specs.declared.cell.Cell.TheVariants.{Null}
+use Rattle.columns.specs.Columns.{ColumnsValue, Hold}
 use Rattle.cells.specs.declared.total.Total.{Total}
 use Rattle.groups.specs.Groups.{cell_at, cell_at_index, is_true, keeps, kept, index_in, tuple_of}
 use Rattle.groups.specs.Keeping.{KeptBy, cells_for, chosen, truth_for}
-use Rattle.groups.specs.Numbered.{AreNumbered, no_row, picked_rows}
+use Rattle.groups.specs.Numbered.{AreNumbered, HaveRows, no_row, picked_rows}
 use Rattle.groups.specs.Tallying.{keep_if}
 use Rattle.groups.proofs.TallyingLemmas.{passing_few, passing_more}
+use Rattle.groups.proofs.TuplesLemmas.{take_next}
 use Rattle.query.specs.Naming.{AgreeAt, columns_named}
-use Rattle.query.specs.Trees.{PredicateTree}
-use Rattle.query.specs.Truth.{truth}
+use Rattle.query.specs.Trees.{And, NoPredicates, PredicateTree, predicates_of}
+use Rattle.query.specs.Truth.{all_truth, and_truth, truth, truth_by, value_at}
+use Rattle.query.specs.declared.truth.Truth.{Truth}
+use Rattle.query.specs.declared.truth.Truth.TheVariants.{True, False, Unknown}
 use Rattle.query.specs.declared.test.Test.{Test}
 
 -- ---- those that are marked
@@ -142,3 +146,64 @@ pub unmarked_more : (marks : List Bool) (numbers places : List ℕ) (i : ℕ) (k
 unmarked_more marks numbers places i kept added same h are mark e =
     e ∙ are ∙ sym (append-nil (chosen marks (take i numbers) (take i places))) ∙
     ap (λ b. chosen marks (take i numbers) (take i places) ++ keep_if b (get_or places i 0) []) (sym mark) ∙ sym (chosen_next marks numbers places i same h)
+
+-- ---- predicates one after another
+and_both : (a b : Truth) → is_true (and_truth a b) ≡ (is_true a && is_true b)
+and_both True b = refl
+and_both False b = refl
+and_both Unknown True = refl
+and_both Unknown False = refl
+and_both Unknown Unknown = refl
+
+both_assoc : (a b c : Bool) → ((a && b) && c) ≡ (a && (b && c))
+both_assoc true b c = refl
+both_assoc false b c = refl
+
+-- a row for which all are true is one for which those before the last are, and the last
+and_last : (value : ℕ → Total) (ps : List (PredicateTree (Test ℕ))) (p : PredicateTree (Test ℕ)) →
+    is_true (all_truth value (predicates_of (ps ++ p ∷ []))) ≡ (is_true (all_truth value (predicates_of ps)) && is_true (truth_by value p))
+and_last value [] p = and_both (truth_by value p) True ∙ one (is_true (truth_by value p))
+  where
+    one : (b : Bool) → (b && true) ≡ b
+    one true = refl
+    one false = refl
+and_last value (q ∷ ps) p =
+    and_both (truth_by value q) (all_truth value (predicates_of (ps ++ p ∷ []))) ∙ ap (λ b. is_true (truth_by value q) && b) (and_last value ps p) ∙
+    sym (both_assoc (is_true (truth_by value q)) (is_true (all_truth value (predicates_of ps))) (is_true (truth_by value p))) ∙
+    ap (λ b. b && is_true (truth_by value p)) (sym (and_both (truth_by value q) (all_truth value (predicates_of ps))))
+
+kept_twice : (p q both : RowValue → Bool) → ((r : RowValue) → both r ≡ (q r && p r)) → (rows : List RowValue) → filter p (filter q rows) ≡ filter both rows
+kept_twice p q both e [] = refl
+kept_twice p q both e (r ∷ rows) = step (q r) ∙ ap (λ b. cond b (r ∷ filter p (filter q rows)) (filter p (filter q rows))) (sym (e r)) ∙ ap (λ (l : List RowValue). cond (both r) (r ∷ l) l) (kept_twice p q both e rows)
+  where
+    step : (b : Bool) → filter p (cond b (r ∷ filter q rows) (filter q rows)) ≡ cond (b && p r) (r ∷ filter p (filter q rows)) (filter p (filter q rows))
+    step true = refl
+    step false = refl
+
+all_kept : (rows : List RowValue) → kept (Some (And NoPredicates)) rows ≡ rows
+all_kept [] = refl
+all_kept (r ∷ rows) = ap (λ (l : List RowValue). r ∷ l) (all_kept rows)
+
+pub kept_by_none : (all : List RowValue) (indexes : List ℕ) → KeptBy (And NoPredicates) all indexes indexes
+kept_by_none all indexes = record { kept = sym (all_kept (picked_rows all indexes)); among = λ n h. h; few = omega arith }
+
+kept_by_last : (ps : List (PredicateTree (Test ℕ))) (p : PredicateTree (Test ℕ)) (all : List RowValue) (indexes some fewer : List ℕ) → KeptBy (And (predicates_of ps)) all indexes some → KeptBy p all some fewer →
+    KeptBy (And (predicates_of (ps ++ p ∷ []))) all indexes fewer
+kept_by_last ps p all indexes some fewer one two = record {
+  kept = two.kept ∙ ap (kept (Some p)) one.kept ∙
+      kept_twice (keeps (Some p)) (keeps (Some (And (predicates_of ps)))) (keeps (Some (And (predicates_of (ps ++ p ∷ []))))) (λ r. and_last (value_at (map cell_total r.cells)) ps p) (picked_rows all indexes);
+  among = λ n h. two.among n (one.among n h);
+  few = omega (arith, one.few, two.few);
+}
+
+pub kept_by_more : (ps : List (PredicateTree (Test ℕ))) (i : ℕ) (p : PredicateTree (Test ℕ)) (all : List RowValue) (indexes some fewer : List ℕ) → i < length ps → p ≡ get_or ps i p →
+    KeptBy (And (predicates_of (take i ps))) all indexes some → KeptBy p all some fewer → KeptBy (And (predicates_of (take (i + 1) ps))) all indexes fewer
+kept_by_more ps i p all indexes some fewer h at one two =
+    subst (λ l. KeptBy (And (predicates_of l)) all indexes fewer) (sym (take_next ps i p p h at)) (kept_by_last (take i ps) p all indexes some fewer one two)
+
+-- what is left of rows that are there
+pub still_have_rows : (columns : ColumnsValue) (indexes some : List ℕ) → HaveRows columns indexes → (p : PredicateTree (Test ℕ)) → ((all : List RowValue) → Hold all columns → KeptBy p all indexes some) →
+    HaveRows columns some
+still_have_rows columns indexes some have p by =
+    let left = by have.rows have.held in
+    record { rows = have.rows; held = have.held; within = left.among (length have.rows) have.within; few = omega (arith, left.few, have.few) }

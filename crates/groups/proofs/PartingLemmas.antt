@@ -1,5 +1,5 @@
 -- Parts, and the rows that are of them.
-use Rattle.std.specs.Prelude.{◌≡◌, ◌≢◌, ◌==◌, ℕ, ◌+◌, ◌<◌, ◌⊎◌, true, false, List, [], ◌∷◌, ◌++◌, length, map, take, Option, Some, IfSome, refl}
+use Rattle.std.specs.Prelude.{◌≡◌, ◌≢◌, ◌==◌, ℕ, ◌+◌, ◌<◌, ◌⊎◌, true, false, List, [], ◌∷◌, ◌++◌, length, map, take, refl}
 use Rattle.std.specs.List.{AllByRecursion, Contains}
 use Rattle.std.proofs.Common.{get_or, ap, ap₂, sym, ◌∙◌, subst, arith, inl, inr}
 use Rattle.std.proofs.lemmas.List.{get_or_append_left, get_or-map, length-append, length-map, map-append}
@@ -65,9 +65,7 @@ parted_next groups rows codes numbers added parts new i group row code n h k at 
     (parted_more (take i groups) (take i (codes_at codes rows)) numbers parts (record { group = group; code = code }) now new n numbered)))
 
 -- the parts that were made, of what was lent
-pub parted_by : (made : Option Parts) (p : Parts) (lent groups codes by_row rows : List ℕ) → made ≡ Some p → lent ≡ groups → codes ≡ by_row →
-    IfSome made (λ p. AreParted lent (codes_at codes rows) p.numbers.items p.parts.items) → AreParted groups (codes_at by_row rows) p.numbers.items p.parts.items
-parted_by made p lent groups codes by_row rows is one two are =
-    subst (λ l. AreParted l (codes_at by_row rows) p.numbers.items p.parts.items) one
-    (subst (λ l. AreParted lent (codes_at l rows) p.numbers.items p.parts.items) two
-    (subst (λ o. IfSome o (λ p. AreParted lent (codes_at codes rows) p.numbers.items p.parts.items)) is are))
+pub parted_by : (p : Parts) (lent groups codes by_row rows : List ℕ) → lent ≡ groups → codes ≡ by_row → AreParted lent (codes_at codes rows) p.numbers.items p.parts.items →
+    AreParted groups (codes_at by_row rows) p.numbers.items p.parts.items
+parted_by p lent groups codes by_row rows one two are =
+    subst (λ l. AreParted l (codes_at by_row rows) p.numbers.items p.parts.items) one (subst (λ l. AreParted lent (codes_at l rows) p.numbers.items p.parts.items) two are)

@@ -1,7 +1,9 @@
 -- Parts of groups, as groups and cells.
-use Rattle.std.specs.Prelude.{ℕ, List, map, slice_index_or}
+use Rattle.std.specs.Prelude.{◌≡◌, ℕ, ◌<◌, List, [], Vec, length, map, slice_index_or}
+use Rattle.std.specs.declared.alloc.Global.{Global}
 use Rattle.cells.specs.declared.cell.Cell.{Cell}
 use Rattle.cells.specs.declared.cell.Cell.TheVariants.{Null}
+use Rattle.groups.specs.Tallying.{those_of}
 use Rattle.groups.specs.declared.parting.Part.{Part}
 
 -- the group of each part
@@ -11,3 +13,11 @@ groups_of_parts parts = map (λ part. part.group) parts
 -- the cell of each part
 abbrev pub cells_of_parts : List Cell → List Part → List Cell
 cells_of_parts cells parts = map (λ part. slice_index_or cells part.code Null) parts
+
+abbrev pub lists_of : List (Vec Cell Global) → List (List Cell)
+lists_of lists = map (λ list. list.items) lists
+
+-- lists, one for each number below the count, of the cells that have it
+pub record AreListed (count : ℕ) (numbers : List ℕ) (cells : List Cell) (lists : List (List Cell)) : Type 0 where
+  pub counted : length lists ≡ count
+  pub each : (n : ℕ) → n < count → slice_index_or lists n [] ≡ those_of n numbers cells

@@ -18,8 +18,7 @@ use cells::{Cell, KeyHash, Tuple};
 use columns::Columns;
 use std::alloc::{AllocError, Global};
 
-/// The bag of a set over the rows of these indexes. None where a column that is wanted was left out, or the
-/// groups are too many for a table.
+/// The bag of a set over the rows of these indexes. None where a column that is wanted was left out.
 pub fn bag_of<H: KeyHash<Cell>>(
     alloc: Global,
     columns: &Columns<H>,

@@ -1,58 +1,93 @@
-//! COUNT DISTINCT of all groups at once, from a column: an accumulator takes the cell of each code that its group has once,
-//! however many rows have it.
-ghost use Rattle.std.specs.Prelude.{◌≡◌, ◌<◌, ◌≤◌, IfOk, IfSome, length, map};
+//! COUNT DISTINCT of all groups at once, from a column: an accumulator is made of the cells of the codes that its group has,
+//! each once, however many rows have it.
+ghost use Rattle.std.specs.Prelude.{◌≡◌, ◌<◌, [], IfOk, length, map, replicate};
 ghost use Rattle.std.specs.List.{AllByRecursion};
-ghost use Rattle.aggs.specs.Room.{cell_limit};
+ghost use Rattle.aggs.specs.Accs.{acc_of};
 ghost use Rattle.aggs.specs.declared.acc.Kind.TheVariants as kind;
 ghost use Rattle.columns.specs.Columns.{decoded};
-ghost use Rattle.groups.specs.Differing.{cells_of_parts, groups_of_parts};
+ghost use Rattle.groups.specs.Differing.{AreListed, cells_of_parts, groups_of_parts, lists_of};
 ghost use Rattle.groups.specs.Numbered.{HasRows};
 ghost use Rattle.groups.specs.Parting.{AreWithinBoth, codes_at};
 ghost use Rattle.groups.specs.Tallying.{AreTallied};
 
 use crate::parting::{Part, Parts, parted};
-use crate::tallying::empty_accs;
-use aggs::{Acc, Kind};
+use aggs::Acc;
 use cells::{Cell, KeyHash};
 use columns::CodeColumn;
 use std::alloc::{AllocError, Global};
 
-/// Accumulators of COUNT DISTINCT of `count` groups, as of [`tallied`](crate::tallying::tallied). None where the pairs of a
-/// group and a code are too many for a table.
+/// Accumulators of COUNT DISTINCT of `count` groups, as of [`tallied`](crate::tallying::tallied).
 pub fn tallied_different<H: KeyHash<Cell>>(
     alloc: Global,
     count: usize,
     numbers: &[u32],
     rows: &[u32],
     column: &CodeColumn<H>,
-) -> Result<Option<Vec<Acc<H>>>, AllocError>
+) -> Result<Vec<Acc<H>>, AllocError>
     requires rows { HasRows column.now rows.now }
     requires numbers { (length numbers.now ≡ length rows.now) × AllByRecursion (λ n. n < count) numbers.now }
-    ensures { IfOk result (λ made. IfSome made (λ v. AreTallied kind.CountDistinct count numbers.now (decoded column.now.cells (codes_at column.now.by_row rows.now)) v.items)) }
+    ensures { IfOk result (λ v. AreTallied kind.CountDistinct count numbers.now (decoded column.now.cells (codes_at column.now.by_row rows.now)) v.items) }
 {
     let codes = column.codes();
     let cells = column.cells();
-    let Some(made) = parted(alloc, numbers, count, rows, codes, cells.len())? else {
-        return Ok(None);
-    };
+    let made = parted(alloc, numbers, count, rows, codes, cells.len())?;
     let Parts { parts, .. } = made;
-    Ok(Some(tallied_parts(alloc, count, parts.as_slice(), cells)?))
+    Ok(tallied_parts(alloc, count, parts.as_slice(), cells)?)
 }
 
-/// Accumulators of COUNT DISTINCT of `count` groups, each stepped with the cells of the parts of its group.
+/// Accumulators of COUNT DISTINCT of `count` groups, each made at once of the cells of the parts of its group.
 fn tallied_parts<H: KeyHash<Cell>>(
     alloc: Global,
     count: usize,
     parts: &[Part],
     cells: &[Cell],
 ) -> Result<Vec<Acc<H>>, AllocError>
-    requires within { AreWithinBoth count (length cells.now) parts.now }
-    requires few { length parts.now ≤ cell_limit }
+    requires { AreWithinBoth count (length cells.now) parts.now }
     ensures { IfOk result (λ v. AreTallied kind.CountDistinct count (groups_of_parts parts.now) (cells_of_parts cells.now parts.now) v.items) }
 {
-    let mut accs = empty_accs(alloc, Kind::CountDistinct, count)?;
+    let lists = cells_by_group(alloc, count, parts, cells)?;
+    Ok(accumulators_of(alloc, lists)?)
+}
+
+/// The cells of the parts of each of `count` groups.
+fn cells_by_group(
+    alloc: Global,
+    count: usize,
+    parts: &[Part],
+    cells: &[Cell],
+) -> Result<Vec<Vec<Cell>>, AllocError>
+    requires { AreWithinBoth count (length cells.now) parts.now }
+    ensures { IfOk result (λ v. AreListed count (groups_of_parts parts.now) (cells_of_parts cells.now parts.now) (lists_of v.items)) }
+{
+    let mut lists = empty_lists(alloc, count)?;
     for part in parts {
-        accs[part.group as usize].step(alloc, &cells[part.code as usize])?;
+        let cell = cells[part.code as usize].clone()?;
+        lists[part.group as usize].push(cell)?;
+    }
+    Ok(lists)
+}
+
+/// So many lists of no cells.
+fn empty_lists(alloc: Global, count: usize) -> Result<Vec<Vec<Cell>>, AllocError>
+    ensures { IfOk result (λ v. lists_of v.items ≡ replicate count []) }
+{
+    let mut lists = Vec::with_capacity(alloc, count)?;
+    for _list in 0..count {
+        lists.push(Vec::new(alloc))?;
+    }
+    Ok(lists)
+}
+
+/// Accumulators of COUNT DISTINCT, one of each list.
+fn accumulators_of<H: KeyHash<Cell>>(
+    alloc: Global,
+    lists: Vec<Vec<Cell>>,
+) -> Result<Vec<Acc<H>>, AllocError>
+    ensures { IfOk result (λ v. v.items ≡ map (acc_of kind.CountDistinct) (lists_of lists.items)) }
+{
+    let mut accs = Vec::with_capacity(alloc, lists.len())?;
+    for list in lists {
+        accs.push(Acc::of_different(alloc, list)?)?;
     }
     Ok(accs)
 }

@@ -67,8 +67,8 @@ impl<'a, H: KeyHash<Cell> + KeyHash<Tuple>> Folding<'a, H> {
     }
 
     /// The folding of those rows for which the plan's WHERE is true, of `count` rows from the index `first` on whose
-    /// columns are at hand. None where a column that the plan needs was left out, or groups are too many for a table: then
-    /// the rows are to be folded piece by piece. The only error is that a growth was refused.
+    /// columns are at hand. None where a column that the plan needs was left out: then the rows are to be folded piece by
+    /// piece. The only error is that a growth was refused.
     pub fn of_rows(
         alloc: Global,
         plan: &'a Plan,

@@ -1,5 +1,5 @@
 //! The rows of a range of columns that WHERE keeps.
-ghost use Rattle.std.specs.Prelude.{◌≡◌, ◌+◌, ◌<◌, ◌≤◌, ◌^◌, List, IfOk, IfSome, length, map};
+ghost use Rattle.std.specs.Prelude.{◌≡◌, ◌+◌, ◌<◌, ◌≤◌, ◌^◌, List, IfOk, IfSome, OnOk, length, map};
 ghost use Rattle.std.specs.List.{AllByRecursion, range_with_len};
 ghost use Rattle.cells.specs.Values.{RowValue};
 ghost use Rattle.columns.specs.Columns.{Hold};
@@ -7,17 +7,17 @@ ghost use Rattle.groups.specs.Groups.{cell_at_index, kept};
 ghost use Rattle.groups.specs.Keeping.{HaveRange, KeptBy, cells_for, chosen, truth_for};
 ghost use Rattle.groups.specs.Numbered.{HaveRows, NumberAll, picked_rows};
 ghost use Rattle.groups.specs.Ranges.{rows_from};
+ghost use Rattle.query.specs.Trees.{And, predicates_of};
 
 use crate::numbered::groups_of;
 use crate::set_columns::index_in;
 use cells::{Cell, KeyHash, Tuple};
 use columns::Columns;
-use query::{Plan, Predicate, Truth, truth_by_columns};
+use query::{Plan, Predicate, PredicateForm, Truth, truth_by_columns};
 use std::alloc::{AllocError, Global};
 
 /// The indexes of those rows for which the plan's WHERE is true, of `count` rows from the index `first` on. None where a column
-/// that WHERE names was left out, or the groups of its columns are too many for a table. The predicate is asked once for the
-/// rows that have the same cells in these columns.
+/// that WHERE names was left out.
 pub fn kept_rows<H: KeyHash<Cell>>(
     alloc: Global,
     plan: &Plan,
@@ -35,13 +35,53 @@ pub fn kept_rows<H: KeyHash<Cell>>(
     let Some(predicate) = plan.condition() else {
         return Ok(Some(indexes));
     };
-    let Some(kept) = chosen_by(alloc, predicate, columns, indexes.as_slice())? else {
+    let Some(kept) = kept_by(alloc, predicate, columns, indexes.as_slice())? else {
         return Ok(None);
     };
     Ok(Some(kept))
 }
 
-/// Those of the places whose rows the predicate is true for. None as of [`kept_rows`].
+/// Those of the places whose rows the predicate is true for. Where AND stands between predicates, each is asked of those alone
+/// that those before it leave. None as of [`kept_rows`].
+fn kept_by<H: KeyHash<Cell>>(
+    alloc: Global,
+    predicate: &Predicate<usize>,
+    columns: &Columns<H>,
+    places: &[u32],
+) -> Result<Option<Vec<u32>>, AllocError>
+    requires { HaveRows columns.now places.now }
+    ensures { (all : List RowValue) → Hold all columns.now →
+        IfOk result (λ made. IfSome made (λ v. KeptBy predicate.now all places.now v.items)) }
+{
+    if let PredicateForm::And(predicates) = predicate.form() {
+        return kept_by_all(alloc, predicates.as_slice(), columns, places);
+    }
+    chosen_by(alloc, predicate, columns, places)
+}
+
+/// Those of the places whose rows all predicates are true for. None likewise.
+fn kept_by_all<H: KeyHash<Cell>>(
+    alloc: Global,
+    predicates: &[Predicate<usize>],
+    columns: &Columns<H>,
+    places: &[u32],
+) -> Result<Option<Vec<u32>>, AllocError>
+    requires { HaveRows columns.now places.now }
+    ensures { (all : List RowValue) → Hold all columns.now →
+        IfOk result (λ made. IfSome made (λ v. KeptBy (And (predicates_of predicates.now)) all places.now v.items)) }
+{
+    let mut kept = Vec::from_slice(alloc, places)?;
+    for predicate in predicates {
+        let Some(fewer) = chosen_by(alloc, predicate, columns, kept.as_slice())? else {
+            return Ok(None);
+        };
+        kept = fewer;
+    }
+    Ok(Some(kept))
+}
+
+/// Those of the places whose rows the predicate is true for, which is asked once for those that have the same cells in the
+/// columns that it names. None likewise.
 fn chosen_by<H: KeyHash<Cell>>(
     alloc: Global,
     predicate: &Predicate<usize>,
@@ -107,29 +147,30 @@ fn truths(
     ensures { IfOk result (λ v. v.items ≡ map (truth_for predicate.now named.now width) tuples.now) }
 {
     let mut truths = Vec::with_capacity(alloc, tuples.len())?;
+    let mut cells = Vec::with_capacity(alloc, width)?;
     for tuple in tuples {
-        let cells = cells_for(alloc, named, width, tuple)?;
+        put_cells_for(&mut cells, named, width, tuple)?;
         let truth = predicate.truth_of_cells(cells.as_slice());
         truths.push(matches!(truth, Truth::True))?;
     }
     Ok(truths)
 }
 
-/// The cells of a row with this tuple in the named columns, and NULL in all others.
-fn cells_for(
-    alloc: Global,
+/// Puts the cells of a row with this tuple in the named columns, and NULL in all others, in the place of all that are there.
+fn put_cells_for(
+    cells: &mut Vec<Cell>,
     named: &[usize],
     width: usize,
     tuple: &Tuple,
-) -> Result<Vec<Cell>, AllocError>
-    ensures { IfOk result (λ v. v.items ≡ cells_for named.now width tuple.now) }
+) -> Result<(), AllocError>
+    ensures { OnOk result (cells.new.items ≡ cells_for named.now width tuple.now) }
 {
-    let mut cells = Vec::with_capacity(alloc, width)?;
+    cells.clear();
     for index in 0..width {
         let cell = cell_in(tuple.cells(), index_in(named, index))?;
         cells.push(cell)?;
     }
-    Ok(cells)
+    Ok(())
 }
 
 /// A copy of the tuple's cell of an index, and NULL for none.

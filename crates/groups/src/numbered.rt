@@ -20,8 +20,7 @@ pub struct NumberedRows {
     pub tuples: Vec<Tuple>,
 }
 
-/// The groups of a set over the rows of these indexes. None where a column was left out, or where the groups
-/// are too many for a table.
+/// The groups of a set over the rows of these indexes. None where a column was left out.
 pub fn groups_of<H: KeyHash<Cell>>(
     alloc: Global,
     columns: &Columns<H>,
@@ -37,9 +36,7 @@ pub fn groups_of<H: KeyHash<Cell>>(
         let Some(column) = columns.at(*index) else {
             return Ok(None);
         };
-        let Some(finer) = groups.cut(alloc, column, rows)? else {
-            return Ok(None);
-        };
+        let finer = groups.cut(alloc, column, rows)?;
         groups = finer;
     }
     Ok(Some(groups))
@@ -65,34 +62,31 @@ impl NumberedRows {
         })
     }
 
-    /// The groups cut by the cells of a column, which stands behind those of their set. None where they are too many.
+    /// The groups cut by the cells of a column, which stands behind those of their set.
     fn cut<H: KeyHash<Cell>>(
         &self,
         alloc: Global,
         column: &CodeColumn<H>,
         rows: &[u32],
-    ) -> Result<Option<NumberedRows>, AllocError>
+    ) -> Result<NumberedRows, AllocError>
         requires rows { HasRows column.now rows.now }
         requires all { NumberAll (length rows.now) self.now.numbers.items self.now.tuples.items }
-        ensures all { IfOk result (λ made. IfSome made (λ g. NumberAll (length rows.now) g.numbers.items g.tuples.items)) }
+        ensures all { IfOk result (λ g. NumberAll (length rows.now) g.numbers.items g.tuples.items) }
         ensures cut { (all : List RowValue) (set : List ℕ) (index : ℕ) → cells_of column.now ≡ cells_at index all →
             AreNumbered set (picked_rows all rows.now) self.now.numbers.items self.now.tuples.items →
-            IfOk result (λ made. IfSome made (λ g. AreNumbered (set ++ index ∷ []) (picked_rows all rows.now) g.numbers.items g.tuples.items)) }
+            IfOk result (λ g. AreNumbered (set ++ index ∷ []) (picked_rows all rows.now) g.numbers.items g.tuples.items) }
     {
-        let Some(finer) = parted(
+        let finer = parted(
             alloc,
             self.numbers.as_slice(),
             self.tuples.len(),
             rows,
             column.codes(),
             column.cells().len(),
-        )?
-        else {
-            return Ok(None);
-        };
+        )?;
         let Parts { numbers, parts } = finer;
         let tuples = self.tuples_of(alloc, parts.as_slice(), column.cells())?;
-        Ok(Some(NumberedRows { numbers, tuples }))
+        Ok(NumberedRows { numbers, tuples })
     }
 
     /// The tuples of parts of the groups: each is its group's with the cell of its code behind it.

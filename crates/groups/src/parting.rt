@@ -1,5 +1,5 @@
 //! Groups of rows cut into parts by a column.
-ghost use Rattle.std.specs.Prelude.{◌≡◌, ◌<◌, ◌≤◌, ◌*◌, ◌^◌, IfOk, IfSome, None, length};
+ghost use Rattle.std.specs.Prelude.{◌≡◌, ◌<◌, ◌≤◌, ◌^◌, IfOk, IfSome, length};
 ghost use Rattle.std.specs.List.{AllByRecursion};
 ghost use Rattle.groups.specs.Parting.{AreParted, IsNumbered, codes_at, entry_limit};
 
@@ -28,9 +28,14 @@ const ENTRIES_PER_ROW: usize = 4;
 /// How many entries it may have beside these: with few rows, memory for it is no matter.
 const SPARE_ENTRIES: usize = 65_536;
 
+/// In how many slots a part is looked for.
+const PROBES: usize = 64;
+
+/// An odd number whose digits have no pattern: 2^64 over the golden ratio.
+const MIXER: usize = 0x9E37_79B9_7F4A_7C15;
+
 /// The parts of the groups. `groups` has the number of each row's group, `rows` the index of its code among the codes, of
-/// which there are fewer than `width`; `count` is the number of groups. A table has an entry for each group and each code.
-/// None where it would be much larger than the list of rows.
+/// which there are fewer than `width`; `count` is the number of groups.
 pub fn parted(
     alloc: Global,
     groups: &[u32],
@@ -38,20 +43,16 @@ pub fn parted(
     rows: &[u32],
     codes: &[u32],
     width: usize,
-) -> Result<Option<Parts>, AllocError>
+) -> Result<Parts, AllocError>
     requires one { length groups.now ≡ length rows.now }
     requires few { length rows.now ≤ 2 ^ 32 }
     requires rows { AllByRecursion (λ row. row < length codes.now) rows.now }
-    ensures parted { IfOk result (λ made. IfSome made (λ p. AreParted groups.now (codes_at codes.now rows.now) p.numbers.items p.parts.items)) }
-    ensures bounded { IfOk result (λ made. IfSome made (λ _. count * width ≤ entry_limit (length rows.now))) }
-    ensures none { IfOk result (λ made. made ≡ None → entry_limit (length rows.now) < count * width) }
+    ensures { IfOk result (λ p. AreParted groups.now (codes_at codes.now rows.now) p.numbers.items p.parts.items) }
 {
-    let Some(size) = table_size(count, width, rows.len()) else {
-        return Ok(None);
-    };
+    let slots = Slots::of(count, width, rows.len());
     let mut numbering = Numbering {
-        table: Vec::from_elem(alloc, NONE, size)?,
-        width,
+        table: Vec::from_elem(alloc, NONE, slots.count)?,
+        slots,
         parts: Vec::new(alloc),
     };
     let mut numbers = Vec::with_capacity(alloc, rows.len())?;
@@ -63,20 +64,49 @@ pub fn parted(
         numbers.push(numbering.number(part)?)?;
     }
     let Numbering { parts, .. } = numbering;
-    Ok(Some(Parts { numbers, parts }))
+    Ok(Parts { numbers, parts })
 }
 
-/// How many entries a table has for so many groups, codes and rows. None where they would be too many.
-fn table_size(count: usize, width: usize, rows: usize) -> Option<usize>
-    requires { rows ≤ 2 ^ 32 }
-    ensures bounded { IfSome result (λ _. count * width ≤ entry_limit rows) }
-    ensures none { result ≡ None → entry_limit rows < count * width }
-{
-    let size = count.checked_mul(width)?;
-    if size > ENTRIES_PER_ROW * rows + SPARE_ENTRIES {
-        return None;
+/// How many slots a table of parts has, and by what a part's first one is found.
+#[derive(Clone, Copy, Debug, Drop)]
+struct Slots {
+    count: usize,
+    // how many codes there are, where each group has a slot for each of them; else a part's slot is found by a hash
+    width: Option<usize>,
+}
+
+impl Slots {
+    /// Those for so many groups, codes and rows: a slot for each group and code where these are not too many for the rows,
+    /// and else two slots for each row.
+    fn of(count: usize, width: usize, rows: usize) -> Slots
+        requires { rows ≤ 2 ^ 32 }
+        ensures { result.count ≤ entry_limit rows }
+    {
+        if let Some(size) = count.checked_mul(width) {
+            if size <= ENTRIES_PER_ROW * rows + SPARE_ENTRIES {
+                return Slots {
+                    count: size,
+                    width: Some(width),
+                };
+            }
+        }
+        Slots {
+            count: 2 * rows + PROBES,
+            width: None,
+        }
     }
-    Some(size)
+
+    /// The slot from which on the part is looked for. Nothing rests on it.
+    fn first(&self, part: Part) -> usize {
+        let group = part.group as usize;
+        let code = part.code as usize;
+        if let Some(width) = self.width {
+            return group.wrapping_mul(width).wrapping_add(code);
+        }
+        let both = group.wrapping_mul(MIXER) ^ code;
+        let hash = (both ^ (both >> 32)).wrapping_mul(MIXER) >> 32;
+        hash.wrapping_mul(self.count.saturating_sub(PROBES)) >> 32
+    }
 }
 
 /// Parts, each with a number, and a table of where a part was met. Nothing rests on the table: a part that is not found by it
@@ -84,7 +114,7 @@ fn table_size(count: usize, width: usize, rows: usize) -> Option<usize>
 #[derive(Drop)]
 struct Numbering {
     table: Vec<u32>,
-    width: usize,
+    slots: Slots,
     parts: Vec<Part>,
 }
 
@@ -94,30 +124,53 @@ impl Numbering {
         requires { length self.old.parts.items < 2 ^ 32 }
         ensures { IfOk result (IsNumbered part self.old.parts.items self.new.parts.items) }
     {
-        let at = (part.group as usize)
-            .wrapping_mul(self.width)
-            .wrapping_add(part.code as usize);
-        if let Some(number) = self.found(at, part) {
-            return Ok(number);
-        }
+        let slot = match self.number_or_slot(part) {
+            Ok(number) => return Ok(number),
+            Err(slot) => slot,
+        };
         let number = self.parts.len() as u32;
         self.parts.push(part)?;
-        if let Some(met) = self.table.get_mut(at) {
+        if let Some(met) = self.table.get_mut(slot) {
             *met = number;
         }
         Ok(number)
     }
 
+    /// The number of the part, if it is found; else the slot in which it may stand. It takes no memory.
+    fn number_or_slot(&self, part: Part) -> Result<u32, usize>
+        ensures { IfOk result (λ n. IsNumbered part self.now.parts.items self.now.parts.items n) }
+    {
+        let mut slot = self.slots.first(part);
+        for _probe in 0..PROBES {
+            if let Some(number) = self.found(slot, part) {
+                return Ok(number);
+            }
+            if self.is_free(slot) {
+                return Err(slot);
+            }
+            slot = slot.wrapping_add(1);
+        }
+        Err(slot)
+    }
+
     /// The number that the table has there, if it is that of the part. It takes no memory.
-    fn found(&self, at: usize, part: Part) -> Option<u32>
+    fn found(&self, slot: usize, part: Part) -> Option<u32>
         ensures { IfSome result (λ n. IsNumbered part self.now.parts.items self.now.parts.items n) }
     {
-        let number = *self.table.get(at)?;
+        let number = *self.table.get(slot)?;
         let found = self.parts.get(number as usize)?;
         if found.group == part.group && found.code == part.code {
             Some(number)
         } else {
             None
+        }
+    }
+
+    /// Whether the table has no number there. Nothing rests on it.
+    fn is_free(&self, slot: usize) -> bool {
+        match self.table.get(slot) {
+            Some(number) => *number == NONE,
+            None => true,
         }
     }
 }

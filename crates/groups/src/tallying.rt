@@ -16,8 +16,7 @@ use columns::CodeColumn;
 use std::alloc::{AllocError, Global};
 
 /// Accumulators of `count` groups, each of the cells of its rows. `rows` has the indexes of the rows, and `numbers` the
-/// numbers of their groups. Each is stepped with each row of its group, unless different cells are to be counted and a
-/// table finds them.
+/// numbers of their groups. Each is stepped with each row of its group, unless different cells are to be counted.
 pub fn tallied<H: KeyHash<Cell>>(
     alloc: Global,
     kind: Kind,
@@ -31,9 +30,8 @@ pub fn tallied<H: KeyHash<Cell>>(
     ensures { IfOk result (λ v. AreTallied kind count numbers.now (decoded column.now.cells (codes_at column.now.by_row rows.now)) v.items) }
 {
     if let Kind::CountDistinct = kind {
-        if let Some(made) = tallied_different(alloc, count, numbers, rows, column)? {
-            return Ok(made);
-        }
+        let made = tallied_different(alloc, count, numbers, rows, column)?;
+        return Ok(made);
     }
     let codes = column.codes();
     let cells = column.cells();

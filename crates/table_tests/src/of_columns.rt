@@ -19,8 +19,8 @@ fn different_in_turn<H: KeyHash<Cell>>(
 ) -> Result<usize, AllocError> {
     let mut column: CodeColumn<H> = CodeColumn::new(alloc);
     for _i in 0..100u64 {
-        let _ = column.push(first)?;
-        let _ = column.push(second)?;
+        column.push(first)?;
+        column.push(second)?;
     }
     Ok(column.cells().len())
 }
@@ -58,5 +58,29 @@ fn texts_in_turn_have_a_code_each(rt: HostRuntime) -> Result<(), Fail> {
     assert_eq!(rt; found, None);
     let found = first_coded_again::<Fnv>(rt.alloc(), cells.as_slice())?;
     assert_eq!(rt; found, None);
+    Ok(())
+}
+
+/// How many different integers a column holds that is to have more than 16 bits can number.
+const MANY: i64 = 70_000;
+
+/// How many different cells a column has into which so many integers were put, and then all of them again; the hints are
+/// forgotten between.
+fn different_of_many<H: KeyHash<Cell>>(alloc: Global) -> Result<usize, AllocError> {
+    let mut column: CodeColumn<H> = CodeColumn::new(alloc);
+    for number in 0..MANY {
+        column.push(&Cell::Int(number))?;
+    }
+    column.forget_hints();
+    for number in 0..MANY {
+        column.push(&Cell::Int(number))?;
+    }
+    Ok(column.cells().len())
+}
+
+#[test]
+fn many_integers_have_a_code_each(rt: HostRuntime) -> Result<(), Fail> {
+    assert_eq!(rt; different_of_many::<Plain>(rt.alloc())?, 70_000);
+    assert_eq!(rt; different_of_many::<Fnv>(rt.alloc())?, 70_000);
     Ok(())
 }

@@ -4,6 +4,7 @@ use Rattle.std.proofs.lemmas.Result.{IfOk-weaker}
 use Rattle.std.specs.Vec.Iter.{into_iter_items}
 use Rattle.columns.specs.Columns.{Hold}
 use Rattle.crew.specs.Gathering.{AreMadeOf, rows_in}
+use Rattle.crew.specs.Laying.{HoldAll}
 use Rattle.crew.proofs.LayingLemmas.{all_laid, none_laid}
 use Rattle.crew.proofs.PartsLemmas.{last_one, two_joined}
 use Rattle.crew.proofs.laying.appended.Goals as goal
@@ -34,4 +35,4 @@ returns g c =
     let rows = rows_in c.args.laying.now.pieces.now in
     let iterator = c.loop-part.part-iterator in
     let none : into_iter_items iterator ≡ [] = nil_from_length (into_iter_items iterator) (omega (arith, iterator.rest.ok, c.in-None.ensures.steps.0)) in
-    last_one Hold rows c.loop-part.all (subst (λ left. AreMadeOf Hold rows (c.loop-part.all ∷ left)) none c.loop-part.invariant)
+    subst (HoldAll rows) (sym c.forget_hints.ensures) (last_one Hold rows c.loop-part.all (subst (λ left. AreMadeOf Hold rows (c.loop-part.all ∷ left)) none c.loop-part.invariant))

@@ -1,46 +1,35 @@
-use Rattle.std.proofs.Common.{[], List, ℕ, ap, arith, get_or, length, refl, subst, sym}
-use Rattle.std.proofs.lemmas.List.{length-map}
+use Rattle.std.proofs.Common.{List, ℕ, length, refl, subst, sym}
 use Rattle.aggs.specs.declared.acc.Kind.TheVariants.{CountDistinct}
 use Rattle.columns.specs.Columns.{AreCodes}
 use Rattle.groups.specs.Differing.{cells_of_parts, groups_of_parts}
 use Rattle.groups.specs.Parting.{AreWithinBoth, codes_at}
 use Rattle.groups.specs.Tallying.{AreTallied}
-use Rattle.groups.specs.declared.parting.Part.{Part}
-use Rattle.groups.proofs.DifferingLemmas.{parts_few, tallied_by_parts}
+use Rattle.groups.proofs.DifferingLemmas.{tallied_by_parts}
 use Rattle.groups.proofs.NumberedLemmas.{codes_within, parts_below}
 use Rattle.groups.proofs.PartingLemmas.{parted_by}
 use Rattle.groups.proofs.differing.tallied_different.Goals as goal
 
-pub tallied_parts-requires-clause-within : goal.tallied_parts-requires-clause-within
-tallied_parts-requires-clause-within g c =
-    let made = c.in-Some.made in
+pub tallied_parts-requires : goal.tallied_parts-requires
+tallied_parts-requires g c =
+    let made = c.in_ok-made.made in
     let numbers : List ℕ = c.args.numbers.now in
     let column = c.args.column.now in
     let rows : List ℕ = c.args.rows.now in
-    let are = parted_by _ made numbers numbers c.codes-codes.result.now column.by_row rows c.in-Some.is refl c.codes-codes.ensures.codes c.in_ok-made.ensures.parted in
+    let are = parted_by made numbers numbers c.codes-codes.result.now column.by_row rows refl c.codes-codes.ensures.codes c.in_ok-made.ensures in
     let there : AreWithinBoth c.args.count (length column.cells) made.parts.items =
     parts_below numbers (codes_at column.by_row rows) made.numbers.items made.parts.items are c.args.count (length column.cells) c.requires.numbers.1
     (codes_within (length column.cells) column.by_row rows (subst (AreCodes column.cells) c.codes-codes.ensures.codes c.codes-codes.ensures.within) c.requires.rows.within) in
     subst (λ l. AreWithinBoth c.args.count (length l) c.as_slice.result.now) (sym c.cells-cells.ensures)
     (subst (AreWithinBoth c.args.count (length column.cells)) (sym c.as_slice.ensures.value) there)
 
-pub tallied_parts-requires-clause-few : goal.tallied_parts-requires-clause-few
-tallied_parts-requires-clause-few g c =
-    let made = c.in-Some.made in
-    let numbers : List ℕ = c.args.numbers.now in
-    let codes : List ℕ = c.codes-codes.result.now in
-    let rows : List ℕ = c.args.rows.now in
-    let are = parted_by _ made numbers numbers codes codes rows c.in-Some.is refl refl c.in_ok-made.ensures.parted in
-    omega (arith, c.requires.rows.few, parts_few numbers (codes_at codes rows) made.numbers.items made.parts.items [] are, length-map rows (λ row. get_or codes row 0), ap (λ (l : List Part). length l) c.as_slice.ensures.value)
-
 pub returns : goal.returns
 returns g c =
-    let made = c.in-Some.made in
+    let made = c.in_ok-made.made in
     let numbers : List ℕ = c.args.numbers.now in
     let column = c.args.column.now in
     let rows : List ℕ = c.args.rows.now in
     let accs = c.in_ok-tallied_parts.field-0.items in
-    let are = parted_by _ made numbers numbers c.codes-codes.result.now column.by_row rows c.in-Some.is refl c.codes-codes.ensures.codes c.in_ok-made.ensures.parted in
+    let are = parted_by made numbers numbers c.codes-codes.result.now column.by_row rows refl c.codes-codes.ensures.codes c.in_ok-made.ensures in
     tallied_by_parts numbers (codes_at column.by_row rows) made.numbers.items made.parts.items column.cells are c.args.count accs
     (subst (λ l. AreTallied CountDistinct c.args.count (groups_of_parts l) (cells_of_parts column.cells l) accs) c.as_slice.ensures.value
     (subst (λ l. AreTallied CountDistinct c.args.count (groups_of_parts c.as_slice.result.now) (cells_of_parts l c.as_slice.result.now) accs) c.cells-cells.ensures

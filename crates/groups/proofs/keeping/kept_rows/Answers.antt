@@ -9,8 +9,8 @@ use Rattle.groups.specs.Ranges.{rows_from}
 use Rattle.groups.proofs.RangesLemmas.{kept_all, range_below, within_all}
 use Rattle.groups.proofs.keeping.kept_rows.Goals as goal
 
-pub chosen_by-requires : goal.chosen_by-requires
-chosen_by-requires g c = subst (HaveRows c.args.columns.now) (sym (c.as_slice.ensures.value ∙ c.in_ok-indexes.ensures)) (record {
+pub kept_by-requires : goal.kept_by-requires
+kept_by-requires g c = subst (HaveRows c.args.columns.now) (sym (c.as_slice.ensures.value ∙ c.in_ok-indexes.ensures)) (record {
   rows = c.requires.rows;
   held = c.requires.held;
   within = within_all (c.args.first + c.args.count) (length c.requires.rows) (range_with_len c.args.first c.args.count) c.requires.within (range_below c.args.first c.args.count);

@@ -11,8 +11,8 @@ tuples_of-requires g c =
     let groups = c.args.self.now in
     let column = c.args.column.now in
     let rows : List ℕ = c.args.rows.now in
-    let finer = c.in-Some.finer in
-    let are = parted_by _ finer c.as_slice.result.now groups.numbers.items c.codes.result.now column.by_row rows c.in-Some.is c.as_slice.ensures.value c.codes.ensures.codes c.in_ok-finer.ensures.parted in
+    let finer = c.in_ok-finer.finer in
+    let are = parted_by finer c.as_slice.result.now groups.numbers.items c.codes.result.now column.by_row rows c.as_slice.ensures.value c.codes.ensures.codes c.in_ok-finer.ensures in
     let there : AreWithinBoth (length groups.tuples.items) (length column.cells) finer.parts.items =
     parts_below groups.numbers.items (codes_at column.by_row rows) finer.numbers.items finer.parts.items are (length groups.tuples.items) (length column.cells) c.requires.all.within
     (codes_within (length column.cells) column.by_row rows (subst (AreCodes column.cells) c.codes.ensures.codes c.codes.ensures.within) c.requires.rows.within) in
@@ -24,8 +24,8 @@ returns-clause-all g c =
     let groups = c.args.self.now in
     let column = c.args.column.now in
     let rows : List ℕ = c.args.rows.now in
-    let finer = c.in-Some.finer in
-    let are = parted_by _ finer c.as_slice.result.now groups.numbers.items c.codes.result.now column.by_row rows c.in-Some.is c.as_slice.ensures.value c.codes.ensures.codes c.in_ok-finer.ensures.parted in
+    let finer = c.in_ok-finer.finer in
+    let are = parted_by finer c.as_slice.result.now groups.numbers.items c.codes.result.now column.by_row rows c.as_slice.ensures.value c.codes.ensures.codes c.in_ok-finer.ensures in
     number_parts groups.numbers.items (codes_at column.by_row rows) finer.numbers.items finer.parts.items groups.tuples.items c.cells-2.result.now are (length rows) c.in_ok-tuples.tuples.items
     c.requires.all.counted (c.in_ok-tuples.ensures ∙ ap (parted_tuples groups.tuples.items c.cells-2.result.now) c.as_slice-2.ensures.value)
 
@@ -34,8 +34,8 @@ returns-clause-cut g c = λ all set index is numbered.
     let groups = c.args.self.now in
     let column = c.args.column.now in
     let rows : List ℕ = c.args.rows.now in
-    let finer = c.in-Some.finer in
-    let are = parted_by _ finer c.as_slice.result.now groups.numbers.items c.codes.result.now column.by_row rows c.in-Some.is c.as_slice.ensures.value c.codes.ensures.codes c.in_ok-finer.ensures.parted in
+    let finer = c.in_ok-finer.finer in
+    let are = parted_by finer c.as_slice.result.now groups.numbers.items c.codes.result.now column.by_row rows c.as_slice.ensures.value c.codes.ensures.codes c.in_ok-finer.ensures in
     numbered_parts groups.numbers.items (codes_at column.by_row rows) finer.numbers.items finer.parts.items groups.tuples.items column.cells are set index _ c.in_ok-tuples.tuples.items
     numbered (cells_picked column index all rows is c.requires.rows.within)
     (c.in_ok-tuples.ensures ∙ ap (λ l. parted_tuples groups.tuples.items l c.as_slice-2.result.now) c.cells-2.ensures ∙

@@ -2,7 +2,7 @@ use Rattle.std.proofs.Common.{◌≡◌, ◌∙◌, ap, get_or, rules, sym, subs
 use Rattle.std.proofs.lemmas.List.{get_or_read}
 use Rattle.cells.specs.declared.cell.Cell.TheVariants.{Null}
 use Rattle.cells.specs.SameKeys.{same_cells}
-use Rattle.columns.proofs.code_column.CodeColumn.remembered.Goals as goal
+use Rattle.columns.proofs.code_column.CodeColumn.shown.Goals as goal
 
 pub returns-then-eq-clause-found : goal.returns-then-eq-clause-found
 returns-then-eq-clause-found g c =

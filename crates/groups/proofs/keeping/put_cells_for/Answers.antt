@@ -1,5 +1,5 @@
 use Rattle.groups.proofs.KeepingLemmas.{cell_next}
-use Rattle.groups.proofs.keeping.cells_for.Goals as goal
+use Rattle.groups.proofs.keeping.put_cells_for.Goals as goal
 
 pub loop-index-preserved : goal.loop-index-preserved
 loop-index-preserved c =
