@@ -16,7 +16,9 @@ pub mod ColumnarLemmas
 pub mod RangesLemmas
 pub mod KeepingLemmas
 pub mod PoolLemmas
+pub mod PoolRowsLemmas
 pub mod ReportLemmas
+pub mod RisingLemmas
 pub mod SetTuplesLemmas
 pub mod SourcesLemmas
 pub mod TuplesLemmas
