@@ -2,6 +2,7 @@ pub mod AccumulatorsLemmas
 pub mod CoarseningLemmas
 pub mod FinishLemmas
 pub mod BagLemmas
+pub mod BagJoinLemmas
 pub mod FoldsLemmas
 pub mod GroupingLemmas
 pub mod JoinLemmas

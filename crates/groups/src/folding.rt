@@ -120,8 +120,8 @@ impl<'a, H: KeyHash<Cell> + KeyHash<Tuple>> Folding<'a, H> {
     }
 
     /// The rows that went into another folding of the same plan, behind those that are there: at most 4,294,967,296
-    /// together. Where none went in here, it is the other one; else the groups of both are copied, and those of one tuple
-    /// put together. The only error is that a growth was refused.
+    /// together. Where none went in here, it is the other one; else the other's groups are moved here, and those of one
+    /// tuple put together. The only error is that a growth was refused.
     pub fn join(self, alloc: Global, other: Folding<'a, H>) -> Result<Folding<'a, H>, AllocError>
         requires { MayJoin self other }
         ensures { (plan : PlanTree) (xs ys : List RowValue) → Folds plan xs self.entry → Folds plan ys other.entry →
@@ -135,7 +135,11 @@ impl<'a, H: KeyHash<Cell> + KeyHash<Tuple>> Folding<'a, H> {
             aggregations,
             sources,
         } = self;
-        let sources = all_with_others(alloc, sources, other.sources.as_slice())?;
+        let Folding {
+            sources: others,
+            ..
+        } = other;
+        let sources = all_with_others(alloc, sources, others)?;
         Ok(Folding {
             plan,
             aggregations,
