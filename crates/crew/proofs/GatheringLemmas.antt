@@ -5,7 +5,6 @@ use Rattle.std.specs.Prelude.{slice_index_or}
 use Rattle.std.proofs.lemmas.List.Folds.{flat_map-map}
 use Rattle.std.proofs.lemmas.Simd.{pick_l_whole}
 use Rattle.aggs.specs.Room.{cell_limit}
-use Rattle.cells.specs.Values.{RowValue}
 use Rattle.crew.specs.Gathering.{PieceValue, Planned, kept_at, rows_at, rows_at_place, rows_in}
 use Rattle.crew.specs.Tasks.{MayTake}
 use Rattle.groups.specs.Folds.{Folds, MayTakeMore}

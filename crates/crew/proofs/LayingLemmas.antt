@@ -1,6 +1,5 @@
 -- How far the columns of all workers have been put together.
 use Rattle.std.proofs.Common.{◌≡◌, List, [], length, subst}
-use Rattle.cells.specs.Values.{RowValue}
 use Rattle.columns.specs.Columns.{ColumnsValue, Hold}
 use Rattle.crew.specs.Gathering.{AreMadeOf, PieceValue, rows_at, rows_at_place, rows_in}
 use Rattle.crew.specs.Laying.{HoldAll}

@@ -1,4 +1,4 @@
-//! The partial result of the pieces of a table, which workers gather.
+//! The groups of the rows of a table's pieces, which workers gather, and the partial result of them.
 ghost use Rattle.std.specs.Prelude.{◌≡◌, ◌<◌, ◌≤◌, ◌⊎◌, List, [], length, min, slice_index_or, vec_len, IfErr, IfOk};
 ghost use Rattle.aggs.specs.Room.{cell_limit};
 ghost use Rattle.cells.specs.declared.refused.Refused.TheVariants as Refused;
@@ -6,7 +6,7 @@ ghost use Rattle.cells.specs.Values.{RowValue};
 ghost use Rattle.crew.specs.Gathering.{AreMadeOf, MayBeJoined, kept_at, rows_at_place, rows_in};
 ghost use Rattle.crew.specs.Limits.{piece_limit, workers_of};
 ghost use Rattle.crew.specs.Shares.{AreShared};
-ghost use Rattle.groups.specs.Folds.{Folds};
+ghost use Rattle.groups.specs.Folds.{Folds, MayEnd};
 ghost use Rattle.groups.specs.Groups.{kept};
 ghost use Rattle.groups.specs.Partials.{Stands};
 
@@ -41,6 +41,31 @@ pub fn gather<H: KeyHash<Cell> + KeyHash<Tuple> + Send + Sync, G: Gate, R: Threa
     requires rows { length (rows_in pieces.now) ≤ cell_limit }
     requires pieces { length pieces.now ≤ piece_limit }
     ensures stands { IfOk result (λ partial. Stands H.KeyHash-2.hash_of plan.now (kept plan.now.condition (rows_in pieces.now)) partial) }
+    ensures refused { IfErr result (λ e. (e ≡ Refused.NoWorker) ⊎ (e ≡ Refused.OutOfMemory)) }
+{
+    let folding = gather_pieces(rt, alloc, plan, pieces, workers, gate)?;
+    Ok(folding.into_partial(alloc)?)
+}
+
+/// The folding of the rows of all pieces for which the plan's WHERE is true: what [`gather`] makes the partial result of, by as
+/// many workers, and refused as that is.
+pub fn gather_pieces<
+    'a,
+    H: KeyHash<Cell> + KeyHash<Tuple> + Send + Sync,
+    G: Gate,
+    R: Threads + Wait,
+>(
+    rt: &R,
+    alloc: Global,
+    plan: &'a Plan,
+    pieces: &'a [Piece<Cell, Row, H>],
+    workers: u64,
+    gate: &'a G,
+) -> Result<Folding<'a, H>, Refused>
+    requires rows { length (rows_in pieces.now) ≤ cell_limit }
+    requires pieces { length pieces.now ≤ piece_limit }
+    ensures folds { IfOk result (Folds plan.now (kept plan.now.condition (rows_in pieces.now))) }
+    ensures end { IfOk result MayEnd }
     ensures refused { IfErr result (λ e. (e ≡ Refused.NoWorker) ⊎ (e ≡ Refused.OutOfMemory)) }
 {
     let gathering = Gathering { plan, pieces, gate };
@@ -110,7 +135,7 @@ impl<'a, H: KeyHash<Cell> + KeyHash<Tuple>, G> Gathering<'a, H, G> {
 impl<'a, H: KeyHash<Cell> + KeyHash<Tuple> + Send + Sync, G: Gate> Task for Gathering<'a, H, G> {
     ghost use Rattle.std.specs.Prelude.{length};
     ghost use Rattle.crew.specs.Gathering.{kept_at, rows_at_place};
-    ghost use Rattle.groups.specs.Folds.{Folds};
+    ghost use Rattle.groups.specs.Folds.{Folds, MayEnd};
 
     type Made = Folding<'a, H>;
 
@@ -131,16 +156,17 @@ impl<'a, H: KeyHash<Cell> + KeyHash<Tuple> + Send + Sync, G: Gate> Task for Gath
     }
 }
 
-/// The partial result of rows for which the plan's WHERE is true, from the foldings of the workers who shared them, which are
-/// joined in their order. So the groups of all are made tries once.
+/// The folding of rows for which the plan's WHERE is true, from the foldings of the workers who shared them, which are joined in
+/// their order.
 pub(crate) fn joined<'a, H: KeyHash<Cell> + KeyHash<Tuple>>(
     alloc: Global,
     plan: &'a Plan,
     foldings: Vec<Folding<'a, H>>,
-) -> Result<Partial<H>, AllocError>
+) -> Result<Folding<'a, H>, AllocError>
     requires { MayBeJoined plan.now foldings.items }
-    ensures { (rows : List RowValue) → AreMadeOf (Folds plan.now) rows foldings.entry.items →
-        IfOk result (Stands H.KeyHash-2.hash_of plan.now rows) }
+    ensures folds { (rows : List RowValue) → AreMadeOf (Folds plan.now) rows foldings.entry.items →
+        IfOk result (Folds plan.now rows) }
+    ensures end { IfOk result MayEnd }
 {
     // This does nothing: it is the law that the order of rows does not count.
     any_order::<H>();
@@ -148,5 +174,5 @@ pub(crate) fn joined<'a, H: KeyHash<Cell> + KeyHash<Tuple>>(
     for folding in foldings {
         all = all.join(alloc, folding)?;
     }
-    all.into_partial(alloc)
+    Ok(all)
 }

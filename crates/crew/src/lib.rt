@@ -1,7 +1,6 @@
 //! Work that threads share: a deal of numbered pieces, which workers draw one by one without waiting for one another;
-//! workers, who run a task over the pieces that they draw, and gather the partial result of a table's pieces, lay out the
-//! columns of its rows, or gather the partial result of rows whose columns are at hand; and the gates by which tests hold
-//! and watch a run.
+//! workers, who run a task over the pieces that they draw, and gather the groups of a table's pieces, lay out the columns of
+//! its rows, or gather the groups of rows whose columns are at hand; and the gates by which tests hold and watch a run.
 #![tactic(auto)]
 
 mod deal;
@@ -18,7 +17,7 @@ mod worker;
 
 pub use deal::{Deal, Dealt, Seat, draws_rise};
 pub use gate::{Gate, Open};
-pub use gathering::gather;
+pub use gathering::{gather, gather_pieces};
 pub use laying::columns_of;
 pub use limits::{MAX_PIECES, MAX_SEATS};
 pub use ranging::gather_rows;

@@ -1,4 +1,4 @@
-//! The partial result of rows whose columns are at hand, which workers gather range by range.
+//! The groups of rows whose columns are at hand, which workers gather range by range.
 ghost use Rattle.std.specs.Prelude.{◌≡◌, ◌<◌, ◌≤◌, ◌⊎◌, ◌++◌, ◌∷◌, ℕ, List, [], length, map, min, vec_len, IfErr, IfOk, IfSome, Some};
 ghost use Rattle.cells.specs.Values.{RowValue};
 ghost use Rattle.cells.specs.declared.refused.Refused.TheVariants as Refused;
@@ -7,16 +7,15 @@ ghost use Rattle.crew.specs.Limits.{workers_of};
 ghost use Rattle.crew.specs.Ranging.{FoldsRanges, MayGatherRows, range_count, range_rows};
 ghost use Rattle.crew.specs.Shares.{AreShared};
 ghost use Rattle.crew.specs.Tasks.{MayTake};
-ghost use Rattle.groups.specs.Folds.{Folds};
+ghost use Rattle.groups.specs.Folds.{Folds, MayEnd};
 ghost use Rattle.groups.specs.Groups.{kept};
-ghost use Rattle.groups.specs.Partials.{Stands};
 
 use crate::gathering::joined;
 use crate::sharing::share_out;
 use crate::task::Task;
 use cells::{Cell, KeyHash, Refused, Tuple};
 use columns::Columns;
-use groups::{Folding, Partial};
+use groups::Folding;
 use query::Plan;
 use std::alloc::{AllocError, Global};
 use std::marker::Model;
@@ -26,7 +25,7 @@ use std::thread::Threads;
 // So many that what is made of the groups of each range costs little beside its rows.
 const RANGE_ROWS: u64 = 524_288;
 
-/// The partial result of those rows for which the plan's WHERE is true, of `count` rows whose columns are at hand, which are
+/// The folding of those rows for which the plan's WHERE is true, of `count` rows whose columns are at hand, which are
 /// at most 4,294,967,296. The rows are cut into ranges, which as many workers as the smaller of `workers`, taken as 1 at
 /// least and [`MAX_SEATS`](crate::MAX_SEATS) at most, and the number of ranges draw until none are left, each in a thread of
 /// its own; which worker takes which range has no effect. It owns what it keeps.
@@ -36,17 +35,18 @@ const RANGE_ROWS: u64 = 524_288;
 ///
 /// [`Refused::NoWorker`] where a thread could not be started; otherwise [`Refused::OutOfMemory`] where there was no
 /// memory, here or for a worker. All threads that were started are joined before this returns, however it ends.
-pub fn gather_rows<H: KeyHash<Cell> + KeyHash<Tuple> + Send + Sync, R: Threads + Wait>(
+pub fn gather_rows<'a, H: KeyHash<Cell> + KeyHash<Tuple> + Send + Sync, R: Threads + Wait>(
     rt: &R,
     alloc: Global,
-    plan: &Plan,
-    columns: &Columns<H>,
+    plan: &'a Plan,
+    columns: &'a Columns<H>,
     count: u64,
     workers: u64,
-) -> Result<Option<Partial<H>>, Refused>
+) -> Result<Option<Folding<'a, H>>, Refused>
     requires rows { MayGatherRows columns.now count }
-    ensures stands { (rows : List RowValue) → Hold rows columns.now → length rows ≡ count →
-        IfOk result (λ made. IfSome made (λ partial. Stands H.KeyHash-2.hash_of plan.now (kept plan.now.condition rows) partial)) }
+    ensures folds { (rows : List RowValue) → Hold rows columns.now → length rows ≡ count →
+        IfOk result (λ made. IfSome made (Folds plan.now (kept plan.now.condition rows))) }
+    ensures end { IfOk result (λ made. IfSome made MayEnd) }
     ensures refused { IfErr result (λ e. (e ≡ Refused.NoWorker) ⊎ (e ≡ Refused.OutOfMemory)) }
 {
     let ranging = Ranging {

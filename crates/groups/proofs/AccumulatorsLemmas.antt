@@ -2,7 +2,8 @@
 use Rattle.std.specs.Prelude.{◌≡◌, ℕ, ◌+◌, ◌<◌, ◌≤◌, ◌⊎◌, List, [], ◌∷◌, ◌++◌, length, set, take, drop, Option, Some, None, refl}
 use Rattle.std.specs.List.{cons_option}
 use Rattle.std.proofs.Common.{get_or, ap, sym, ◌∙◌, subst, arith, inl, inr}
-use Rattle.std.proofs.lemmas.List.{take_more, append_assoc, append-nil, drop_more, drop-set-lt, take_more_set, drop_all, take_all, take-append-drop}
+use Rattle.std.proofs.Math.Seq.{take-nil}
+use Rattle.std.proofs.lemmas.List.{length-set, length-take, take_more, append_assoc, append-nil, drop_more, drop-set-lt, take_more_set, drop_all, take_all, take-append-drop}
 use Rattle.std.proofs.lemmas.List.Elements.{filter_map-append}
 use Rattle.aggs.specs.Accs.{AccsFit, acc_of, acc_together, kind_of}
 use Rattle.aggs.specs.declared.acc.Acc.{Acc}
@@ -90,6 +91,63 @@ module _ {H : Type 0} where
 
     pub joining_all : (xs ≡ []) ⊎ (ys ≡ []) → made ≡ accs_together firsts seconds
     joining_all h = sym (append-nil made) ∙ ap (λ l. made ++ l) (sym (no_more xs ys h)) ∙ now.same
+
+-- ---- accumulators with those of others, one by one
+module _ {H : Type 0} where
+  -- the first i of the accumulators have the others' rows, too
+  pub record Adding (old others : List (Acc H)) (i : ℕ) (accs : List (Acc H)) : Type 0 where
+    pub same : take i accs ++ accs_together (drop i accs) (drop i others) ≡ accs_together old others
+    pub fit : AllFit (drop i accs) (drop i others)
+    pub short : length accs ≤ length others
+
+  cut_together : (old others : List (Acc H)) → accs_together (take (length others) old) others ≡ accs_together old others
+  cut_together [] others = ap (λ l. accs_together l others) (take-nil (length others))
+  cut_together (x ∷ old) [] = refl
+  cut_together (x ∷ old) (y ∷ others) = ap (λ l. acc_together x y ∷ l) (cut_together old others)
+
+  cut_fit : (old others : List (Acc H)) → AllFit old others → AllFit (take (length others) old) others
+  cut_fit [] others fit = subst (λ l. AllFit l others) (sym (take-nil (length others))) tt
+  cut_fit (x ∷ old) [] fit = tt
+  cut_fit (x ∷ old) (y ∷ others) fit = (fit.0, cut_fit old others fit.1)
+
+  pub adding_first : (old others accs : List (Acc H)) → accs ≡ take (length others) old → AllFit old others → Adding old others 0 accs
+  adding_first old others accs e fit = record {
+    same = ap (λ l. accs_together l others) e ∙ cut_together old others;
+    fit = subst (λ l. AllFit l others) (sym e) (cut_fit old others fit);
+    short = omega (arith, ap (λ l. length l) e, length-take (length others) old);
+  }
+
+  pub adding_all : {old others accs : List (Acc H)} {i : ℕ} → Adding old others i accs → length accs ≤ i → accs ≡ accs_together old others
+  adding_all {old} {others} {accs} {i} now past =
+      let none : drop i accs ≡ [] = drop_all i accs past in
+      sym (take_all i accs past) ∙ sym (append-nil (take i accs)) ∙ (rw none at now.same)
+
+  module _ {old others accs : List (Acc H)} {i : ℕ} (now : Adding old others i accs) (x y : Acc H) (there : i < length accs) (here : x ≡ get_or accs i x)
+      (within : i < length others) (beside : y ≡ get_or others i y) where
+    own_left : drop i accs ≡ x ∷ drop (i + 1) accs
+    own_left = drop_more accs i x there ∙ ap (λ b. b ∷ drop (i + 1) accs) (sym here)
+
+    others_left : drop i others ≡ y ∷ drop (i + 1) others
+    others_left = drop_more others i y within ∙ ap (λ b. b ∷ drop (i + 1) others) (sym beside)
+
+    fit_here : AllFit (x ∷ drop (i + 1) accs) (y ∷ drop (i + 1) others)
+    fit_here = subst (λ l. AllFit l (y ∷ drop (i + 1) others)) own_left (subst (λ l. AllFit (drop i accs) l) others_left now.fit)
+
+    pub adding_may : AccsFit x y
+    adding_may = fit_here.0
+
+    pub adding_more : (v : Acc H) → v ≡ acc_together x y → Adding old others (i + 1) (set accs i v)
+    adding_more v e =
+        let after : drop (i + 1) (set accs i v) ≡ drop (i + 1) accs = drop-set-lt (i + 1) accs i v (omega arith) in
+        let before : take (i + 1) (set accs i v) ≡ take i accs ++ v ∷ [] = take_more_set accs i v there in
+        record {
+          same = rw (before, after) (append_assoc (take i accs) (v ∷ []) (accs_together (drop (i + 1) accs) (drop (i + 1) others))
+              ∙ ap (λ w. take i accs ++ w ∷ accs_together (drop (i + 1) accs) (drop (i + 1) others)) e
+              ∙ ap (λ l. take i accs ++ accs_together l (y ∷ drop (i + 1) others)) (sym own_left)
+              ∙ ap (λ l. take i accs ++ accs_together (drop i accs) l) (sym others_left) ∙ now.same);
+          fit = rw after fit_here.1;
+          short = omega (arith, now.short, length-set accs i v);
+        }
 
 -- ---- the aggregates of a select list, item by item
 module _ (items : List (Item ℕ)) (i : ℕ) (d : Item ℕ) (h : i < length items) where

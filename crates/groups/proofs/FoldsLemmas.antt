@@ -1,14 +1,17 @@
 -- Rows folded piece by piece.
 use Rattle.std.specs.Prelude.{◌≡◌, ℕ, zero, suc, ◌+◌, ◌<◌, ◌≤◌, List, [], ◌∷◌, ◌++◌, length, set, refl, ◌||◌, ⊤}
 use Rattle.std.specs.List.{AllByRecursion, Contains, list_any}
+use Rattle.std.specs.List.Sorted.{IsPermutation}
 use Rattle.std.proofs.Common.{get_or, ap, ap₂, sym, ◌∙◌, subst, arith}
+use Rattle.std.proofs.lemmas.List.Sorted.{IsPermutation-sym, IsPermutation-trans}
 use Rattle.aggs.specs.Room.{cell_limit}
 use Rattle.cells.specs.Values.{RowValue}
 use Rattle.cells.specs.declared.cell.Cell.{Cell}
+use Rattle.cells.specs.declared.total.Total.{Total}
 use Rattle.groups.specs.Accumulators.{aggregations_of}
-use Rattle.groups.specs.Bags.{Covers, Group}
+use Rattle.groups.specs.Bags.{Covers, Group, joined}
 use Rattle.groups.specs.Folds.{FillsSources, Folds, FillsSource, MayFillSources, MayEnd, MayFillSource, MayTakeMore, kept_of}
-use Rattle.groups.specs.Groups.{kept}
+use Rattle.groups.specs.Groups.{kept, rows_over}
 use Rattle.groups.specs.Partials.{Stands, StandsEach, rows_of}
 use Rattle.groups.specs.Pools.{AreCounted, AreSources, HaveFiner, IsPool, has_all, has_finer, sets_of}
 use Rattle.groups.specs.declared.aggregation.Aggregation.{Aggregation}
@@ -161,3 +164,28 @@ module _ {H : Type 0} where
         each = subst (λ a. StandsEach hash a plan.sets rows tries) same
             (subst (λ s. StandsEach hash aggregations s rows tries) (are ∙ ap (λ (p : PlanTree). p.sets) folds.planned) each);
       }
+
+  -- the plan of a folding that may end asks for its aggregates
+  pub end_asked : (folding : Folding H) (aggregations : List Aggregation) → aggregations ≡ folding.aggregations.items → MayEnd folding → aggregations ≡ aggregations_of folding.plan.now.items
+  end_asked folding aggregations is may = is ∙ (may.folds).aggregations ∙ ap (λ (p : PlanTree). aggregations_of p.items) (sym (may.folds).planned)
+
+  pub rows_end : (folding : Folding H) (aggregations : List Aggregation) (made : List (List Total)) (plan : PlanTree) (rows : List RowValue) → aggregations ≡ folding.aggregations.items →
+      Folds plan rows folding → ((kept : List RowValue) → IsPool aggregations kept folding.sources.items → made ≡ rows_over folding.plan.now kept) → made ≡ rows_over plan rows
+  rows_end folding aggregations made plan rows is folds all =
+      all rows (rw (is, folds.aggregations) folds.covers) ∙ ap (λ (p : PlanTree). rows_over p rows) folds.planned
+
+-- the order of rows does not count
+pub folds_any_order : (H : Type 0) (plan : PlanTree) (xs ys : List RowValue) (folding : Folding H) → IsPermutation xs ys → Folds plan xs folding → Folds plan ys folding
+folds_any_order H plan xs ys folding moved folds = record {
+  planned = folds.planned;
+  aggregations = folds.aggregations;
+  finer = folds.finer;
+  among = folds.among;
+  covers = record {
+    each = all_through _ _ (λ (f : SetBag H) covers. record {
+      parts = covers.parts;
+      each = covers.each;
+      all = IsPermutation-trans ys xs (joined covers.parts) (IsPermutation-sym xs ys moved) covers.all;
+    }) folding.sources.items (folds.covers).each;
+  };
+}

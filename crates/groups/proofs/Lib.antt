@@ -2,6 +2,7 @@ pub mod AccumulatorsLemmas
 pub mod CoarseningLemmas
 pub mod FinishLemmas
 pub mod BagLemmas
+pub mod BagJoinLemmas
 pub mod FoldsLemmas
 pub mod GroupingLemmas
 pub mod JoinLemmas
@@ -16,7 +17,9 @@ pub mod ColumnarLemmas
 pub mod RangesLemmas
 pub mod KeepingLemmas
 pub mod PoolLemmas
+pub mod PoolRowsLemmas
 pub mod ReportLemmas
+pub mod RisingLemmas
 pub mod SetTuplesLemmas
 pub mod SourcesLemmas
 pub mod TuplesLemmas

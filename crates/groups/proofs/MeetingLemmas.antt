@@ -1,22 +1,24 @@
 -- The sources of two foldings put together.
-use Rattle.std.specs.Prelude.{◌≡◌, ◌+◌, ◌≤◌, sum_by, true, List, [], ◌∷◌, ◌++◌, refl}
+use Rattle.std.specs.Prelude.{◌≡◌, ◌+◌, ◌<◌, ◌≤◌, sum_by, true, List, [], ◌∷◌, ◌++◌, nat_eq, take, refl}
+use Rattle.std.specs.Cmp.Lexicographic.{pointwise}
 use Rattle.std.specs.List.{AllByRecursion, AllZip, Contains}
 use Rattle.std.specs.List.Sorted.{IsPermutation}
-use Rattle.std.proofs.Common.{ℕ, length, ap₂, sym, ◌∙◌, subst, arith}
-use Rattle.std.proofs.lemmas.List.{append_assoc, append-nil, length-append, nil_from_length}
+use Rattle.std.proofs.Common.{get_or, ℕ, length, ap, ap₂, sym, ◌∙◌, subst, arith}
+use Rattle.std.proofs.lemmas.List.{append_assoc, append-nil, get_or-map, length-append, length-map, nil_from_length, take_all, take_more_same}
 use Rattle.std.proofs.lemmas.List.Sums.{sum_by-cons}
 use Rattle.std.proofs.lemmas.List.Concat.{flat_map-append}
 use Rattle.std.proofs.lemmas.List.Sorted.{IsPermutation-append_left, IsPermutation-append_right, IsPermutation-trans, length_permutation}
 use Rattle.aggs.specs.Room.{cell_limit}
 use Rattle.cells.specs.Values.{RowValue}
 use Rattle.groups.specs.Accumulators.{aggregations_of}
-use Rattle.groups.specs.Bags.{AreParts, Covers, Group, joined}
+use Rattle.groups.specs.Bags.{AreParts, CanJoin, Covers, Group, HasBoth, joined}
 use Rattle.groups.specs.Folds.{Folds, MayJoin, MayTakeOthers, TakesOthers, group_count}
 use Rattle.groups.specs.Pools.{HaveFiner, IsPool, MayCoarsen, MayCoarsenAll, has_finer, sets_of}
 use Rattle.groups.specs.declared.aggregation.Aggregation.{Aggregation}
 use Rattle.groups.specs.declared.folding.Folding.{Folding}
 use Rattle.groups.specs.declared.pool.SetBag.{SetBag}
 use Rattle.groups.proofs.FoldsLemmas.{finer_by_sets}
+use Rattle.groups.proofs.PoolLemmas.{same_set}
 use Rattle.groups.proofs.TuplesLemmas.{all_at, all_through}
 use Rattle.query.specs.Plans.{PlanTree}
 
@@ -158,3 +160,81 @@ module _ {H : Type 0} where
     among = two.among;
     covers = no_rows_in (aggregations_of plan.items) rows more plan.sets first.sources.items second.sources.items one.finer two.among one.covers none two.covers;
   }
+
+-- ---- sources of the same sets
+module _ {H : Type 0} where
+  -- the sets of the first sources are those of the others
+  pub record SameTo (at : ℕ) (sources others : List (SetBag H)) : Type 0 where
+    pub same : take at (sets_of others) ≡ take at (sets_of sources)
+
+  pub same_none : (sources others : List (SetBag H)) → SameTo 0 sources others
+  same_none sources others = record { same = refl }
+
+  pub same_more : (at : ℕ) (sources others : List (SetBag H)) (s o : SetBag H) (x y : List ℕ) → length sources ≡ length others → at < length sources → x ≡ (get_or sources at s).set.items →
+      y ≡ (get_or others at o).set.items → pointwise nat_eq x y ≡ true → SameTo at sources others → SameTo (at + 1) sources others
+  same_more at sources others s o x y count h p q e now =
+      let n : at < length (sets_of sources) = omega (arith, h, length-map sources (λ (f : SetBag H). f.set.items)) in
+      let m : at < length (sets_of others) = omega (arith, h, count, length-map others (λ (f : SetBag H). f.set.items)) in
+      let within : at < length others = omega (arith, h, count) in
+      record {
+        same = take_more_same (sets_of others) (sets_of sources) at [] m n now.same
+            (get_or-map (λ (f : SetBag H). f.set.items) others at o [] within ∙ sym q ∙ sym (same_set x y e) ∙ p
+            ∙ sym (get_or-map (λ (f : SetBag H). f.set.items) sources at s [] h));
+      }
+
+  pub same_all : (at : ℕ) (sources others : List (SetBag H)) → length sources ≡ length others → length sources ≤ at → SameTo at sources others → sets_of others ≡ sets_of sources
+  same_all at sources others count past now =
+      sym (take_all at (sets_of others) (omega (arith, past, count, length-map others (λ (f : SetBag H). f.set.items)))) ∙ now.same
+      ∙ take_all at (sets_of sources) (omega (arith, past, length-map sources (λ (f : SetBag H). f.set.items)))
+
+  -- the last of the others are beside the sources that are left
+  pub record AreBeside (others left lasts : List (SetBag H)) : Type 0 where
+    pub may : AllByRecursion (MayTakeOthers others) left
+    pub sets : sets_of lasts ≡ sets_of left
+    pub inside : (aggregations : List Aggregation) (rows : List RowValue) → IsPool aggregations rows others → IsPool aggregations rows lasts
+
+  pub beside_first : (others sources left lasts : List (SetBag H)) → left ≡ sources → lasts ≡ others → AllByRecursion (MayTakeOthers others) sources → sets_of others ≡ sets_of sources →
+      AreBeside others left lasts
+  beside_first others sources left lasts p q may same = rw (p, q) (record { may = may; sets = same; inside = λ aggregations rows pool. pool })
+
+  module _ (others old left lasts later : List (SetBag H)) (source other : SetBag H) (next : old ≡ source ∷ left) (after : lasts ≡ other ∷ later) (now : AreBeside others old lasts) where
+    here : AreBeside others (source ∷ left) (other ∷ later)
+    here = subst (λ l. AreBeside others l (other ∷ later)) next (subst (AreBeside others old) after now)
+
+    its_set : other.set.items ≡ source.set.items
+    its_set = ap (first_or other.set.items) (here.sets)
+      where
+        first_or : List ℕ → List (List ℕ) → List ℕ
+        first_or d [] = d
+        first_or d (s ∷ sets) = s
+
+    its_rows : (aggregations : List Aggregation) (rows : List RowValue) → IsPool aggregations rows others → Covers aggregations source.set.items rows other.bag
+    its_rows aggregations rows pool = subst (λ s. Covers aggregations s rows other.bag) its_set ((here.inside aggregations rows pool).each).0
+
+    pub beside_next : AreBeside others left later
+    beside_next = record {
+      may = (here.may).1;
+      sets = ap rest_of here.sets;
+      inside = λ aggregations rows pool. record { each = ((here.inside aggregations rows pool).each).1 };
+    }
+      where
+        rest_of : List (List ℕ) → List (List ℕ)
+        rest_of [] = []
+        rest_of (s ∷ sets) = sets
+
+    pub beside_join : CanJoin source.bag other.bag
+    beside_join = let may = (here.may).0 in record {
+      aggregations = may.aggregations;
+      columns = source.set.items;
+      rows = may.rows;
+      more = may.more;
+      firsts = may.covers;
+      seconds = its_rows may.aggregations may.more may.pool;
+      few = may.few;
+    }
+
+    pub beside_takes : (made : SetBag H) → made.set.items ≡ source.set.items → HasBoth source.bag other.bag made.bag → TakesOthers others source made
+    beside_takes made stays both = record {
+      set_stays = stays;
+      serves = λ aggregations rows more covers pool. both.serves aggregations source.set.items rows more covers (its_rows aggregations more pool);
+    }

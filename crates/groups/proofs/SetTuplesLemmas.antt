@@ -223,7 +223,7 @@ stands_short hash aggregations set rows es rising stands =
     omega (arith, fewer, tuples_short set rows, length-map es (λ e. e.0))
 
 -- ---- tuples that are lent
-keys_lent : {H : Type 0} (xs : List (Bor (List Cell) × Bor (List (Acc H)))) → keys_of (lent xs) ≡ map (λ e. e.0.now) xs
+pub keys_lent : {H : Type 0} (xs : List (Bor (List Cell) × Bor (List (Acc H)))) → keys_of (lent xs) ≡ map (λ e. e.0.now) xs
 keys_lent [] = refl
 keys_lent (x ∷ xs) = ap (λ l. x.0.now ∷ l) (keys_lent xs)
 

@@ -1,5 +1,5 @@
 -- Bags of groups: a list of groups that rows go into, of which several may have one tuple.
-use Rattle.std.specs.Prelude.{◌≡◌, ℕ, ◌<◌, ◌≤◌, false, ◌⊎◌, List, [], ◌∷◌, ◌++◌, length, map, set, slice_index_or}
+use Rattle.std.specs.Prelude.{◌≡◌, ℕ, ◌+◌, ◌<◌, ◌≤◌, false, ◌⊎◌, List, [], ◌∷◌, ◌++◌, length, map, set, slice_index_or}
 use Rattle.std.specs.List.{AllByRecursion, AllZip, flat_map}
 use Rattle.std.specs.List.Sorted.{IsPermutation}
 use Rattle.aggs.specs.Room.{cell_limit}
@@ -73,3 +73,20 @@ module _ {H : Type 0} (aggregations : List Aggregation) where
     pub rows : List RowValue
     pub covers : Covers aggregations columns rows groups
     pub few : length rows ≤ cell_limit
+
+-- ---- two bags
+module _ {H : Type 0} where
+  -- rows went into both, and they are few enough together
+  pub record CanJoin (first second : List (Group H)) : Type 0 where
+    pub aggregations : List Aggregation
+    pub columns : List ℕ
+    pub rows : List RowValue
+    pub more : List RowValue
+    pub firsts : Covers aggregations columns rows first
+    pub seconds : Covers aggregations columns more second
+    pub few : length rows + length more ≤ cell_limit
+
+  -- whatever rows went into both went into the new groups
+  pub record HasBoth (first second new : List (Group H)) : Type 0 where
+    pub serves : (aggregations : List Aggregation) (columns : List ℕ) (rows more : List RowValue) → Covers aggregations columns rows first → Covers aggregations columns more second →
+        Covers aggregations columns (rows ++ more) new

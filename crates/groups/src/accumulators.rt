@@ -101,4 +101,20 @@ impl<H: KeyHash<Cell>> Accumulators<H> {
         }
         Ok(Accumulators { accs })
     }
+
+    /// Makes them the accumulators of their rows and of the other's, as far as both go. After a refusal some of them have the
+    /// other's rows and others have not: they stand for no rows.
+    pub fn add(&mut self, alloc: Global, other: &Accumulators<H>) -> Result<(), AllocError>
+        requires { AllFit self.old other.now }
+        ensures { IfOk result (λ _. self.new ≡ accs_together self.old other.now) }
+    {
+        self.accs.truncate(other.accs.len());
+        for (i, second) in other.accs.iter().enumerate() {
+            let Some(first) = self.accs.get_mut(i) else {
+                return Ok(());
+            };
+            *first = first.join(alloc, second)?;
+        }
+        Ok(())
+    }
 }

@@ -4,11 +4,11 @@ ghost use Rattle.std.specs.List.{AllByRecursion};
 ghost use Rattle.cells.specs.declared.cell.Cell.{Cell};
 ghost use Rattle.groups.specs.Accumulators.{AllFit};
 ghost use Rattle.groups.specs.Coarsening.{JoinsGroup, TakesGroup};
-ghost use Rattle.groups.specs.Bags.{CanTake, Takes, picked};
+ghost use Rattle.groups.specs.Bags.{CanJoin, CanTake, HasBoth, Takes, picked};
 
 use crate::accumulators::Accumulators;
 use crate::aggregation::Aggregation;
-use crate::tuples::{hash_of, is_tuple_of, tuple_of};
+use crate::tuples::{hash_of, hash_of_all, is_tuple_of, tuple_of};
 use cells::{Cell, KeyHash, Row, Tuple};
 use std::alloc::{AllocError, Global};
 use std::collections::HashMap;
@@ -128,6 +128,67 @@ impl<H: KeyHash<Cell>> Bag<H> {
         Ok(Bag { groups, by_hash })
     }
 
+    /// The groups of both: each of the second is put into one of its tuple, or behind the first's. None is copied.
+    pub fn join(self, alloc: Global, more: Bag<H>) -> Result<Bag<H>, AllocError>
+        requires { CanJoin self more }
+        ensures { IfOk result (HasBoth self more) }
+    {
+        let mut all = self.noted()?;
+        let Bag { groups, .. } = more;
+        for (tuple, accumulators) in groups {
+            all.put(alloc, tuple, accumulators)?;
+        }
+        Ok(all)
+    }
+
+    /// The same groups, which are now found by their hashes: those of rows are as they come, and those of columns are not.
+    fn noted(self) -> Result<Bag<H>, AllocError>
+        ensures { IfOk result (λ bag. bag ≡ self) }
+    {
+        if !self.by_hash.is_empty() {
+            return Ok(self);
+        }
+        let Bag {
+            groups,
+            mut by_hash,
+        } = self;
+        for index in 0..groups.len() {
+            let hash = hash_of_all(groups[index].0.cells());
+            let _ = by_hash.insert(hash, index)?;
+        }
+        Ok(Bag { groups, by_hash })
+    }
+
+    /// Puts a group into one of its tuple, or adds it.
+    fn put(
+        &mut self,
+        alloc: Global,
+        tuple: Tuple,
+        accumulators: Accumulators<H>,
+    ) -> Result<(), AllocError>
+        requires { AllByRecursion (λ g. AllFit g.1 accumulators) self.old }
+        ensures { IfOk result (λ _. TakesGroup tuple accumulators self.old self.new) }
+    {
+        let hash = hash_of_all(tuple.cells());
+        if let Some(index) = self.find_tuple(hash, &tuple) {
+            return self.join_at(alloc, index, &accumulators);
+        }
+        self.add(hash, tuple, accumulators)
+    }
+
+    /// The index of a group of the tuple, if one is found. It takes no memory.
+    fn find_tuple(&self, hash: u64, tuple: &Tuple) -> Option<usize>
+        ensures within { IfSome result (λ i. i < length self.now) }
+        ensures found { IfSome result (λ i. (slice_index_or self.now i (tuple.now, [])).0 ≡ tuple.now) }
+    {
+        let index = *self.by_hash.get(&hash)?;
+        if self.groups[index].0 == *tuple {
+            Some(index)
+        } else {
+            None
+        }
+    }
+
     /// The index of a group of the cells of these indexes, if one is found. It takes no memory.
     fn find(&self, hash: u64, cells: &[Cell], indexes: &[usize]) -> Option<usize>
         ensures within { IfSome result (λ i. i < length self.now) }
@@ -153,8 +214,7 @@ impl<H: KeyHash<Cell>> Bag<H> {
         ensures { (tuple : List Cell) → (slice_index_or self.old index (tuple, [])).0 ≡ tuple →
             IfOk result (λ _. JoinsGroup tuple accumulators.now self.old self.new) }
     {
-        let both = self.groups[index].1.join(alloc, accumulators)?;
-        self.groups[index].1 = both;
+        self.groups[index].1.add(alloc, accumulators)?;
         Ok(())
     }
 

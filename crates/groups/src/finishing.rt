@@ -7,13 +7,18 @@ ghost use Rattle.std.specs.Vec.Iter.{into_iter_items};
 ghost use Rattle.cells.specs.TupleOrder.{tuple_cmp};
 ghost use Rattle.cells.specs.Values.{RowValue};
 ghost use Rattle.groups.specs.Accumulators.{aggregations_of};
+ghost use Rattle.groups.specs.Bags.{Covers, IsCounted};
 ghost use Rattle.groups.specs.Finishing.{rows_by};
 ghost use Rattle.groups.specs.Groups.{holds, set_rows, shown};
 ghost use Rattle.groups.specs.Partials.{StandsAt};
 ghost use Rattle.trie.specs.Holding.{lent};
 
 use crate::accumulators::Accumulators;
+use crate::aggregation::Aggregation;
+use crate::bag::Bag;
+use crate::laying::trie_of;
 use crate::report_row::{ReportRow, row_of};
+use crate::rising::{in_order, rise};
 use cells::{Cell, KeyHash, Total, Tuple};
 use itertools::Itertools;
 use query::{GroupSet, Plan, Truth};
@@ -100,4 +105,48 @@ pub(crate) fn add_rows_of_set<H: KeyHash<Cell> + KeyHash<Tuple>>(
     groups.keys_rise();
     let rising = by_tuple(alloc, groups)?;
     add_rows(alloc, rows, plan, set.columns.as_slice(), rising)
+}
+
+/// The report's rows for a grouping set behind those of others, for each list of rows that went into its bag. Where each
+/// group has a tuple of its own they are made straight from the groups.
+pub(crate) fn add_rows_of_bag<H: KeyHash<Cell> + KeyHash<Tuple>>(
+    alloc: Global,
+    rows: &mut Vec<ReportRow>,
+    plan: &Plan,
+    set: &GroupSet,
+    aggregations: &[Aggregation],
+    bag: &Bag<H>,
+) -> Result<(), AllocError>
+    requires counted { IsCounted aggregations.now set.now bag.now }
+    requires asked { aggregations.now ≡ aggregations_of plan.now.items }
+    ensures { (kept : List RowValue) → Covers aggregations.now set.now kept bag.now →
+        IfOk result (λ _. rows.new.items ≡ rows.old.items ++ set_rows plan.now set.now kept) }
+{
+    let columns = set.columns.as_slice();
+    if columns.is_empty() {
+        return add_rows_by_trie(alloc, rows, plan, set, aggregations, bag);
+    }
+    let groups = in_order(alloc, bag.groups())?;
+    if !rise(groups.as_slice()) {
+        return add_rows_by_trie(alloc, rows, plan, set, aggregations, bag);
+    }
+    add_rows(alloc, rows, plan, columns, groups.into_iter())
+}
+
+/// The same by a trie, which puts groups of one tuple together, and has the group of the empty set also of no rows.
+fn add_rows_by_trie<H: KeyHash<Cell> + KeyHash<Tuple>>(
+    alloc: Global,
+    rows: &mut Vec<ReportRow>,
+    plan: &Plan,
+    set: &GroupSet,
+    aggregations: &[Aggregation],
+    bag: &Bag<H>,
+) -> Result<(), AllocError>
+    requires counted { IsCounted aggregations.now set.now bag.now }
+    requires asked { aggregations.now ≡ aggregations_of plan.now.items }
+    ensures { (kept : List RowValue) → Covers aggregations.now set.now kept bag.now →
+        IfOk result (λ _. rows.new.items ≡ rows.old.items ++ set_rows plan.now set.now kept) }
+{
+    let trie = trie_of(alloc, bag, set.columns.as_slice(), aggregations)?;
+    add_rows_of_set(alloc, rows, plan, set, &trie)
 }

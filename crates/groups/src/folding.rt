@@ -3,7 +3,7 @@ ghost use Rattle.std.specs.Prelude.{◌≡◌, [], List, ◌++◌, IfOk, IfSome}
 ghost use Rattle.cells.specs.Values.{RowValue};
 ghost use Rattle.columns.specs.Columns.{Hold};
 ghost use Rattle.groups.specs.Folds.{group_count, FillsSources, Folds, MayFillSources, MayEnd, MayJoin, MayTakeMore};
-ghost use Rattle.groups.specs.Groups.{kept};
+ghost use Rattle.groups.specs.Groups.{kept, rows_over};
 ghost use Rattle.groups.specs.Keeping.{HaveRange};
 ghost use Rattle.groups.specs.Partials.{Stands, rows_of};
 ghost use Rattle.groups.specs.Ranges.{rows_from};
@@ -14,8 +14,10 @@ use crate::keeping::kept_rows;
 use crate::meeting::all_with_others;
 use crate::partial::Partial;
 use crate::pool::SetBag;
+use crate::pool_rows::rows_of_sources;
 use crate::pool_tries::tries_of;
 use crate::ranges::sources_from;
+use crate::report_row::ReportRow;
 use crate::sources::sources_of;
 use crate::visiting::{KeptRows, fill_source};
 use cells::{Cell, KeyHash, Row, Tuple};
@@ -118,8 +120,8 @@ impl<'a, H: KeyHash<Cell> + KeyHash<Tuple>> Folding<'a, H> {
     }
 
     /// The rows that went into another folding of the same plan, behind those that are there: at most 4,294,967,296
-    /// together. Where none went in here, it is the other one; else the groups of both are copied, and those of one tuple
-    /// put together. The only error is that a growth was refused.
+    /// together. Where none went in here, it is the other one; else the other's groups are moved here, and those of one
+    /// tuple put together. The only error is that a growth was refused.
     pub fn join(self, alloc: Global, other: Folding<'a, H>) -> Result<Folding<'a, H>, AllocError>
         requires { MayJoin self other }
         ensures { (plan : PlanTree) (xs ys : List RowValue) → Folds plan xs self.entry → Folds plan ys other.entry →
@@ -133,7 +135,11 @@ impl<'a, H: KeyHash<Cell> + KeyHash<Tuple>> Folding<'a, H> {
             aggregations,
             sources,
         } = self;
-        let sources = all_with_others(alloc, sources, other.sources.as_slice())?;
+        let Folding {
+            sources: others,
+            ..
+        } = other;
+        let sources = all_with_others(alloc, sources, others)?;
         Ok(Folding {
             plan,
             aggregations,
@@ -154,6 +160,21 @@ impl<'a, H: KeyHash<Cell> + KeyHash<Tuple>> Folding<'a, H> {
         } = self;
         let tries = tries_of(alloc, plan.sets(), aggregations.as_slice(), sources)?;
         Ok(Partial { tries })
+    }
+
+    /// The rows of the report over all rows that were taken, as [`Partial::finish`] gives them: set by set in the plan's
+    /// order, and within a set by the tuples' cells. They are made straight from the groups, with no partial result between.
+    pub fn into_rows(self, alloc: Global) -> Result<Vec<ReportRow>, AllocError>
+        requires { MayEnd self }
+        ensures { (plan : PlanTree) (rows : List RowValue) → Folds plan rows self.entry →
+            IfOk result (λ v. v.items ≡ rows_over plan rows) }
+    {
+        let Folding {
+            plan,
+            aggregations,
+            sources,
+        } = self;
+        rows_of_sources(alloc, plan, aggregations.as_slice(), sources)
     }
 }
 

@@ -4,9 +4,11 @@ ghost use Rattle.std.specs.List.Sorted.{IsPermutation};
 ghost use Rattle.aggs.specs.declared.acc.Acc.{Acc};
 ghost use Rattle.cells.specs.Values.{RowValue, Table};
 ghost use Rattle.cells.specs.declared.cell.Cell.{Cell};
+ghost use Rattle.groups.specs.Folds.{Folds};
 ghost use Rattle.groups.specs.Groups.{item_value, report_rows, shown};
 ghost use Rattle.groups.specs.Names.{shown_where};
 ghost use Rattle.groups.specs.Partials.{Stands};
+ghost use Rattle.groups.specs.declared.folding.Folding.{Folding};
 ghost use Rattle.groups.specs.Worked.{by_having, by_region, by_two, nothing_by_region, sales, sales_by_having, sales_by_region, sales_by_two, sales_of_regions, sales_table};
 ghost use Rattle.query.specs.Having.{having_of};
 ghost use Rattle.query.specs.Plans.{PlanTree, checked, plan_of};
@@ -20,11 +22,13 @@ ghost use Rattle.query.specs.declared.test.Test.{Test};
 use cells::{Cell, KeyHash, Tuple};
 use query::{truth_by_names, worked_query};
 
-/// The order of the rows does not count: the report is the same, and what stands for rows stands for them in any order.
+/// The order of the rows does not count: the report is the same, and what stands for rows stands for them in any order, as what
+/// they went into is of them in any order.
 pub fn any_order<H: KeyHash<Cell> + KeyHash<Tuple>>()
     ensures report { (plan : PlanTree) (xs ys : List RowValue) → IsPermutation xs ys → report_rows plan xs ≡ report_rows plan ys }
     ensures stands { (plan : PlanTree) (xs ys : List RowValue) (partial : List (List (List Cell × List (Acc H)))) →
         IsPermutation xs ys → Stands H.KeyHash-2.hash_of plan xs partial → Stands H.KeyHash-2.hash_of plan ys partial }
+    ensures folds { (plan : PlanTree) (xs ys : List RowValue) (folding : Folding H) → IsPermutation xs ys → Folds plan xs folding → Folds plan ys folding }
 {}
 
 /// Worked reports, computed by the definitions: four sales by ROLLUP of their region, which is NULL in one of them, the

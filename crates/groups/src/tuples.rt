@@ -56,6 +56,15 @@ pub fn hash_of(cells: &[Cell], indexes: &[usize]) -> u64 {
     hash ^ (hash >> 32)
 }
 
+/// The hash that these cells have as those of all indexes. It takes no memory.
+pub fn hash_of_all(cells: &[Cell]) -> u64 {
+    let mut hash = 0u64;
+    for cell in cells {
+        hash = with_cell(hash, cell);
+    }
+    hash ^ (hash >> 32)
+}
+
 /// The hash with a cell after what it has. A word for the cell's kind comes first, or NULL would have the hash of some
 /// integer that is easily met; that of a text tells its length, too, or the bytes of two texts beside each other might be
 /// shared out in two ways.

@@ -1,10 +1,17 @@
 //! The answer of a plan on a snapshot.
-ghost use Rattle.std.specs.Prelude.{◌≡◌, ◌≤◌, ◌⊎◌, IfErr, IfOk, IfSome};
+ghost use Rattle.std.specs.Prelude.{◌≡◌, ◌≤◌, ◌⊎◌, List, IfErr, IfOk, IfSome, length};
 ghost use Rattle.std.specs.FinMap.{len};
+ghost use Rattle.aggs.specs.Room.{cell_limit};
 ghost use Rattle.board.specs.Beside.{AreColumnsOf};
 ghost use Rattle.board.specs.Limits.{row_limit};
+ghost use Rattle.cells.specs.Values.{RowValue};
 ghost use Rattle.cells.specs.declared.refused.Refused.TheVariants as Refused;
-ghost use Rattle.report.specs.Standing.{StandsForEdition};
+ghost use Rattle.columns.specs.Columns.{Hold};
+ghost use Rattle.crew.specs.Gathering.{rows_in};
+ghost use Rattle.crew.specs.Limits.{piece_limit};
+ghost use Rattle.crew.specs.Ranging.{MayGatherRows};
+ghost use Rattle.groups.specs.Groups.{report_rows};
+ghost use Rattle.report.specs.Standing.{AreRowsFor};
 ghost use Rattle.report.specs.Waiting.{IsReportText};
 
 use crate::limits::COLUMNS_FROM;
@@ -14,13 +21,13 @@ use crate::want::Want;
 use board::{Root, Snapshot};
 use cells::{Cell, KeyHash, Refused, Row, Tuple};
 use columns::Columns;
-use crew::{Gate, columns_of, gather, gather_rows};
-use groups::{Partial, any_order};
+use crew::{Gate, columns_of, gather_pieces, gather_rows};
+use groups::{ReportRow, any_order};
 use query::Plan;
 use std::alloc::{AllocError, Global};
 use std::sync::Wait;
 use std::thread::Threads;
-use trie::{Cutting, a_map_has_its_entries};
+use trie::{Cutting, Piece, a_map_has_its_entries};
 
 /// The text of the plan's report over the rows of the snapshot, in whatever order they came and however they are cut
 /// into pieces. As many workers as the smaller of `workers`, taken as 1 at least and
@@ -95,46 +102,69 @@ impl<'a, R: Threads + Wait, G: Gate> Answering<'a, R, G> {
         // These do nothing: the order of rows does not count, and a list of an edition's rows has those of its map.
         any_order::<H>();
         a_map_has_its_entries::<Cell, Row>();
-        let partial = self.partial(snapshot, plan)?;
-        let rows = Partial::finish(self.alloc, plan, partial)?;
+        let rows = self.rows(snapshot, plan)?;
         Ok(text(self.alloc, plan, rows.as_slice())?)
     }
 
-    /// The partial result of the plan on the snapshot: by its columns, where it has so many rows and that goes, and else of
-    /// the pieces that its rows are cut into.
-    fn partial<H: KeyHash<Cell> + KeyHash<Tuple> + Send + Sync>(
+    /// The rows of the plan's report over those of the snapshot: by its columns, where it has so many rows and that goes, and else
+    /// by the pieces that its rows are cut into.
+    fn rows<H: KeyHash<Cell> + KeyHash<Tuple> + Send + Sync>(
         &self,
         snapshot: &Snapshot<H>,
         plan: &Plan,
-    ) -> Result<Partial<H>, Want>
-        ensures { IfOk result (StandsForEdition H.KeyHash-2.hash_of snapshot.now.rows plan.now) }
+    ) -> Result<Vec<ReportRow>, Want>
+        ensures { IfOk result (λ v. AreRowsFor snapshot.now.rows plan.now v.items) }
     {
         if snapshot.root().len() >= self.columns_from {
-            let made = self.partial_by_columns(snapshot, plan)?;
-            if let Some(partial) = made {
-                return Ok(partial);
+            let made = self.rows_by_columns(snapshot, plan)?;
+            if let Some(rows) = made {
+                return Ok(rows);
             }
         }
         let pieces = pieces_of(self.alloc, snapshot.root(), &self.cutting)?;
-        let partial = gather(
-            self.rt,
-            self.alloc,
-            plan,
-            pieces.as_slice(),
-            self.workers,
-            self.gate,
-        )?;
-        Ok(partial)
+        self.rows_by_pieces(plan, pieces.as_slice())
     }
 
-    /// The partial result of the plan on the snapshot, by its columns. None where there are no columns, as at the first call for
-    /// an edition, or where the plan can't be answered by them: then the rows are to be folded.
-    fn partial_by_columns<H: KeyHash<Cell> + KeyHash<Tuple> + Send + Sync>(
+    /// The rows of the plan's report over those of the pieces.
+    fn rows_by_pieces<H: KeyHash<Cell> + KeyHash<Tuple> + Send + Sync>(
+        &self,
+        plan: &Plan,
+        pieces: &[Piece<Cell, Row, H>],
+    ) -> Result<Vec<ReportRow>, Want>
+        requires rows { length (rows_in pieces.now) ≤ cell_limit }
+        requires pieces { length pieces.now ≤ piece_limit }
+        ensures { IfOk result (λ v. v.items ≡ report_rows plan.now (rows_in pieces.now)) }
+    {
+        let folding = gather_pieces(self.rt, self.alloc, plan, pieces, self.workers, self.gate)?;
+        Ok(folding.into_rows(self.alloc)?)
+    }
+
+    /// The rows of the plan's report over `count` rows, which these columns hold. None where the plan can't be answered by them.
+    fn rows_over_columns<H: KeyHash<Cell> + KeyHash<Tuple> + Send + Sync>(
+        &self,
+        plan: &Plan,
+        columns: &Columns<H>,
+        count: u64,
+    ) -> Result<Option<Vec<ReportRow>>, Want>
+        requires { MayGatherRows columns.now count }
+        ensures { (rows : List RowValue) → Hold rows columns.now → length rows ≡ count →
+            IfOk result (λ made. IfSome made (λ v. v.items ≡ report_rows plan.now rows)) }
+    {
+        let gathered = gather_rows(self.rt, self.alloc, plan, columns, count, self.workers)?;
+        let Some(folding) = gathered else {
+            return Ok(None);
+        };
+        Ok(Some(folding.into_rows(self.alloc)?))
+    }
+
+    /// The rows of the plan's report over those of the snapshot, by its columns. None where there are no columns, as at the first
+    /// call for an edition, or where the plan can't be answered by them: then the rows are to be folded.
+    fn rows_by_columns<H: KeyHash<Cell> + KeyHash<Tuple> + Send + Sync>(
         &self,
         snapshot: &Snapshot<H>,
         plan: &Plan,
-    ) -> Result<Option<Partial<H>>, Want>
-        ensures { IfOk result (λ made. IfSome made (StandsForEdition H.KeyHash-2.hash_of snapshot.now.rows plan.now)) }
+    ) -> Result<Option<Vec<ReportRow>>, Want>
+        ensures { IfOk result (λ made. IfSome made (λ v. AreRowsFor snapshot.now.rows plan.now v.items)) }
     {
         let root = snapshot.root();
         let width = snapshot.schema().columns().len();
@@ -158,8 +188,7 @@ impl<'a, R: Threads + Wait, G: Gate> Answering<'a, R, G> {
             return Ok(None);
         };
         let rows = root.len();
-        let made = gather_rows(rt, alloc, plan, &columns, rows, workers)?;
-        Ok(made)
+        self.rows_over_columns(plan, &columns, rows)
     }
 }
 

@@ -1,6 +1,5 @@
 use Rattle.std.proofs.Common.{◌≡◌, [], ◌∷◌, arith, sym, subst}
 use Rattle.std.proofs.lemmas.List.{nil_from_length}
-use Rattle.std.proofs.lemmas.Result.{IfOk-weaker}
 use Rattle.std.specs.Vec.Iter.{into_iter_items}
 use Rattle.crew.specs.Gathering.{AreMadeOf}
 use Rattle.crew.proofs.PartsLemmas.{last_one, may_end, may_join, two_joined, with_none}
@@ -27,18 +26,18 @@ loop-folding-preserved g c = λ rows made.
     (subst (λ left. AreMadeOf (Folds plan) rows (c.loop-folding.all ∷ left)) c.in-Some.ensures.steps.0 (c.loop-folding.invariant rows made))
     (c.in_ok-all-2.ensures plan)
 
-pub into_partial-requires : goal.into_partial-requires
-into_partial-requires g c =
+pub returns-clause-folds : goal.returns-clause-folds
+returns-clause-folds g c = λ rows made.
+    let plan = c.args.plan.now in
+    let iterator = c.loop-folding.folding-iterator in
+    let none : into_iter_items iterator ≡ [] = nil_from_length (into_iter_items iterator) (omega (arith, iterator.rest.ok, c.in-None.ensures.steps.0)) in
+    let it = last_one (Folds plan) rows c.loop-folding.all (subst (λ left. AreMadeOf (Folds plan) rows (c.loop-folding.all ∷ left)) none (c.loop-folding.invariant rows made)) in
+    c.any_order.ensures.folds plan it.rows rows c.loop-folding.all it.order it.held
+
+pub returns-clause-end : goal.returns-clause-end
+returns-clause-end g c =
     let plan = c.args.plan.now in
     let may = c.requires in
     let iterator = c.loop-folding.folding-iterator in
     let none : into_iter_items iterator ≡ [] = nil_from_length (into_iter_items iterator) (omega (arith, iterator.rest.ok, c.in-None.ensures.steps.0)) in
     may_end plan may.rows may.few c.loop-folding.all (subst (λ left. AreMadeOf (Folds plan) may.rows (c.loop-folding.all ∷ left)) none (c.loop-folding.invariant may.rows may.made))
-
-pub returns : goal.returns
-returns g c = λ rows made.
-    let plan = c.args.plan.now in
-    let iterator = c.loop-folding.folding-iterator in
-    let none : into_iter_items iterator ≡ [] = nil_from_length (into_iter_items iterator) (omega (arith, iterator.rest.ok, c.in-None.ensures.steps.0)) in
-    let it = last_one (Folds plan) rows c.loop-folding.all (subst (λ left. AreMadeOf (Folds plan) rows (c.loop-folding.all ∷ left)) none (c.loop-folding.invariant rows made)) in
-    IfOk-weaker c.into_partial.result _ _ (λ partial stands. c.any_order.ensures.stands plan it.rows rows partial it.order stands) (c.into_partial.ensures plan it.rows it.held)

@@ -12,9 +12,9 @@ joined-requires g c =
     let is = subst (λ some. IfSome some (λ all. made ≡ map Some all.items)) c.in-Some.is c.in_ok-foldings-2.ensures in
     ranges_may_be_joined ranged c.requires.rows made c.in-Some.foldings.items is c.in_ok-foldings.ensures.shared
 
-pub returns-clause-stands : goal.returns-clause-stands
-returns-clause-stands g c = λ rows held counted.
+pub returns-clause-folds : goal.returns-clause-folds
+returns-clause-folds g c = λ rows held counted.
     let ranged : Ranged = record { plan = c.args.plan.now; columns = c.args.columns.now; count = c.args.count } in
     let made = c.in_ok-foldings.foldings.items in
     let is = subst (λ some. IfSome some (λ all. made ≡ map Some all.items)) c.in-Some.is c.in_ok-foldings-2.ensures in
-    c.in_ok-joined.ensures (kept ranged.plan.condition rows) (ranges_folded ranged rows held counted made c.in-Some.foldings.items is c.in_ok-foldings.ensures.shared)
+    c.in_ok-joined.ensures.folds (kept ranged.plan.condition rows) (ranges_folded ranged rows held counted made c.in-Some.foldings.items is c.in_ok-foldings.ensures.shared)

@@ -3,12 +3,10 @@ use Rattle.groups.proofs.MeetingLemmas.{folds_join, joins_nothing, may_take_othe
 use Rattle.groups.proofs.folding.Folding.join.Goals as goal
 
 pub all_with_others-requires : goal.all_with_others-requires
-all_with_others-requires g c =
-    may_take_others c.args.self c.args.other c.as_slice.result.now c.as_slice.ensures.value c.requires
+all_with_others-requires g c = may_take_others c.args.self c.args.other _ refl c.requires
 
 pub returns : goal.returns
-returns g c = λ plan rows more one two.
-    folds_join plan rows more c.args.self c.args.other _ one two refl refl c.as_slice.result.now c.as_slice.ensures.value c.in_ok-sources.ensures
+returns g c = λ plan rows more one two. folds_join plan rows more c.args.self c.args.other _ one two refl refl _ refl c.in_ok-sources.ensures
 
 pub returns-then-groups-eq0 : goal.returns-then-groups-eq0
 returns-then-groups-eq0 g c = joins_nothing c.args.self c.args.other (sym c.groups.ensures ∙ c.if-groups-eq0.true)

@@ -7,8 +7,7 @@ pub returns : goal.returns
 returns g c = record {
   is = λ rs left same.
       let plan = c.args.plan.now in
-      let all = c.in_ok-partial.ensures in
+      let all = c.in_ok-rows.ensures in
       let moved = listed_as c.a_map_has_its_entries.ensures _ _ rs all.all left same in
-      let found = c.in_ok-rows.ensures _ all.stands in
-      c.in_ok-text.ensures.text ∙ ap (report_text plan) (c.as_slice.ensures.value ∙ found ∙ c.any_order.ensures.report plan _ rs moved);
+      c.in_ok-text.ensures.text ∙ ap (report_text plan) (c.as_slice.ensures.value ∙ all.are ∙ c.any_order.ensures.report plan _ rs moved);
 }

@@ -4,7 +4,7 @@ use Rattle.std.specs.List.{AllByRecursion}
 use Rattle.std.specs.Vec.Iter.{into_iter_items}
 use Rattle.groups.specs.Folds.{MayTakeOthers}
 use Rattle.groups.proofs.MeetingLemmas.{goes_first, goes_last, goes_more}
-use Rattle.groups.proofs.meeting.all_with_others.Goals as goal
+use Rattle.groups.proofs.meeting.each_with_others.Goals as goal
 
 pub loop-source-init : goal.loop-source-init
 loop-source-init g c =
