@@ -4,14 +4,14 @@ ghost use Rattle.cells.specs.Values.{RowValue};
 ghost use Rattle.cells.specs.declared.refused.Refused.TheVariants as Refused;
 ghost use Rattle.columns.specs.Columns.{Hold};
 ghost use Rattle.crew.specs.Limits.{workers_of};
-ghost use Rattle.crew.specs.Ranging.{FoldsRanges, MayGatherRows, range_count, range_rows};
+ghost use Rattle.crew.specs.Ranging.{FoldsRanges, MayGatherRows, range_count, range_rows, range_size};
 ghost use Rattle.crew.specs.Shares.{AreShared};
 ghost use Rattle.crew.specs.Tasks.{MayTake};
 ghost use Rattle.groups.specs.Folds.{Folds, MayEnd};
 ghost use Rattle.groups.specs.Groups.{kept};
 
 use crate::gathering::joined;
-use crate::sharing::share_out;
+use crate::sharing::{share_out, workers_of};
 use crate::task::Task;
 use cells::{Cell, KeyHash, Refused, Tuple};
 use columns::Columns;
@@ -22,13 +22,17 @@ use std::marker::Model;
 use std::sync::Wait;
 use std::thread::Threads;
 
-// So many that what is made of the groups of each range costs little beside its rows.
-const RANGE_ROWS: u64 = 524_288;
+// So many at least that what is made of the groups of each range costs little beside its rows.
+const FEWEST_ROWS: u64 = 65_536;
+
+// So many at most that what is noted of each row of a range takes little memory.
+const MOST_ROWS: u64 = 4_194_304;
 
 /// The folding of those rows for which the plan's WHERE is true, of `count` rows whose columns are at hand, which are
-/// at most 4,294,967,296. The rows are cut into ranges, which as many workers as the smaller of `workers`, taken as 1 at
-/// least and [`MAX_SEATS`](crate::MAX_SEATS) at most, and the number of ranges draw until none are left, each in a thread of
-/// its own; which worker takes which range has no effect. It owns what it keeps.
+/// at most 4,294,967,296. The rows are cut into as many ranges as there are workers, but none of them has fewer than 65,536 rows,
+/// up to the last one, nor more than 4,194,304. As many workers as the smaller of `workers`, taken as 1 at least and
+/// [`MAX_SEATS`](crate::MAX_SEATS) at most, and the number of ranges draw these until none are left, each in a thread of its own;
+/// which worker takes which range has no effect. It owns what it keeps.
 ///
 /// None where a column that the plan needs was left out, or groups are too many for a table: then the rows are to be
 /// gathered from their pieces.
@@ -53,6 +57,7 @@ pub fn gather_rows<'a, H: KeyHash<Cell> + KeyHash<Tuple> + Send + Sync, R: Threa
         plan,
         columns,
         count,
+        size: range_size(count, workers),
     };
     let foldings = range_foldings(rt, alloc, &ranging, workers)?;
     let Some(foldings) = all_of(alloc, foldings)? else {
@@ -69,12 +74,22 @@ fn range_foldings<'a, H: KeyHash<Cell> + KeyHash<Tuple> + Send + Sync, R: Thread
     ranging: &Ranging<'a, H>,
     workers: u64,
 ) -> Result<Vec<Option<Folding<'a, H>>>, Refused>
-    ensures shared { IfOk result (λ v. AreShared (FoldsRanges ranging.now) (range_count ranging.now.count) v.items) }
-    ensures workers { IfOk result (λ v. vec_len v ≡ min (workers_of workers) (range_count ranging.now.count)) }
+    ensures shared { IfOk result (λ v. AreShared (FoldsRanges ranging.now) (range_count ranging.now.count ranging.now.size) v.items) }
+    ensures workers { IfOk result (λ v. vec_len v ≡ min (workers_of workers) (range_count ranging.now.count ranging.now.size)) }
     ensures refused { IfErr result (λ e. (e ≡ Refused.NoWorker) ⊎ (e ≡ Refused.OutOfMemory)) }
 {
     ranging.rows_are_few();
     share_out(rt, alloc, ranging.ranges(), workers, ranging)
+}
+
+/// How many rows a range has, where so many rows are shared by so many workers.
+fn range_size(count: u64, workers: u64) -> u64
+    ensures { result ≡ range_size count workers }
+{
+    count
+        .div_ceil(workers_of(workers))
+        .min(MOST_ROWS)
+        .max(FEWEST_ROWS)
 }
 
 /// The work on all ranges: each worker folds those that it draws into groups of its own.
@@ -84,10 +99,13 @@ struct Ranging<'a, H: KeyHash<Cell>> {
     columns: &'a Columns<H>,
     // how many rows the columns hold
     count: u64,
+    // how many rows a range has
+    size: u64,
 }
 
 impl<'a, H: KeyHash<Cell>> Model for Ranging<'a, H> {
     ghost use Rattle.std.specs.Coded.{codes};
+    ghost use Rattle.std.specs.Prelude.{◌<◌};
     ghost use Rattle.cells.specs.Codes.{coded_cell};
     ghost use Rattle.crew.specs.Ranging.{MayGatherRows, Ranged};
     ghost use Rattle.query.specs.Codes.{coded_predicate};
@@ -96,35 +114,37 @@ impl<'a, H: KeyHash<Cell>> Model for Ranging<'a, H> {
 
     ghost coded = { Prim.hlevel (codes, coded_cell, coded_predicate) };
 
-    ghost view = { λ r. record { plan = r.plan.now; columns = r.columns.now; count = r.count } };
+    ghost view = { λ r. record { plan = r.plan.now; columns = r.columns.now; count = r.count; size = r.size } };
 
-    ghost invariant = { λ r. MayGatherRows r.columns.now r.count };
+    ghost invariant = { λ r. MayGatherRows r.columns.now r.count × (0 < r.size) };
 }
 
 impl<'a, H: KeyHash<Cell> + KeyHash<Tuple>> Ranging<'a, H> {
-    /// It does nothing: that the columns hold so many rows, which are few enough, is known of each value.
+    /// It does nothing: that the columns hold so many rows, which are few enough, and that a range has a row is known of each
+    /// value.
     fn rows_are_few(&self)
-        ensures { MayGatherRows self.now.columns self.now.count }
+        ensures held { MayGatherRows self.now.columns self.now.count }
+        ensures some { 0 < self.now.size }
     {
         let _ = &self.plan;
     }
 
     /// How many ranges there are.
     fn ranges(&self) -> u64
-        ensures { result ≡ range_count self.now.count }
+        ensures { result ≡ range_count self.now.count self.now.size }
     {
-        self.count.div_ceil(RANGE_ROWS)
+        self.count.div_ceil(self.size)
     }
 
     /// The folding of the range at the place; None where it can't be folded from the columns.
     fn range(&self, alloc: Global, place: u64) -> Result<Option<Folding<'a, H>>, AllocError>
-        requires { place < range_count self.now.count }
+        requires { place < range_count self.now.count self.now.size }
         ensures { (rows : List RowValue) → Hold rows self.now.columns →
-            IfOk result (λ made. IfSome made (Folds self.now.plan (kept self.now.plan.condition (range_rows self.now.count rows place)))) }
+            IfOk result (λ made. IfSome made (Folds self.now.plan (kept self.now.plan.condition (range_rows self.now.count self.now.size rows place)))) }
     {
         self.rows_are_few();
-        let first = place * RANGE_ROWS;
-        let count = (self.count - first).min(RANGE_ROWS);
+        let first = place * self.size;
+        let count = (self.count - first).min(self.size);
         Folding::of_rows(
             alloc,
             self.plan,
@@ -141,7 +161,7 @@ impl<'a, H: KeyHash<Cell> + KeyHash<Tuple>> Ranging<'a, H> {
         before: Folding<'a, H>,
         place: u64,
     ) -> Result<Option<Folding<'a, H>>, AllocError>
-        requires { MayTake (FoldsRanges self.now) (range_count self.now.count) (Some before) place }
+        requires { MayTake (FoldsRanges self.now) (range_count self.now.count self.now.size) (Some before) place }
         ensures { (places : List ℕ) → FoldsRanges self.now places (Some before.entry) → IfOk result (FoldsRanges self.now (places ++ place ∷ [])) }
     {
         self.rows_are_few();
@@ -157,7 +177,7 @@ impl<'a, H: KeyHash<Cell> + KeyHash<Tuple> + Send + Sync> Task for Ranging<'a, H
 
     type Made = Option<Folding<'a, H>>;
 
-    ghost count = { λ r. range_count r.count };
+    ghost count = { λ r. range_count r.count r.size };
 
     ghost makes = { λ r places made. FoldsRanges r places made };
 

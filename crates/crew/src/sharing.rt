@@ -51,7 +51,7 @@ pub fn share_out<K: Task, R: Threads + Wait>(
 }
 
 // As many workers as are asked for, but one at least, and no more than there are seats.
-fn workers_of(workers: u64) -> u64
+pub(crate) fn workers_of(workers: u64) -> u64
     ensures { result ≡ workers_of workers }
 {
     workers.max(1).min(MAX_SEATS)

@@ -9,13 +9,13 @@ use Rattle.crew.proofs.ranging.Ranging.with_range.Goals as goal
 pub join-requires : goal.join-requires
 join-requires g c =
     let ranged = c.args.self.now in
-    let it = c.rows_are_few.ensures in
-    let folds = subst (λ made. IfSome made (Folds ranged.plan (kept ranged.plan.condition (range_rows ranged.count it.rows c.args.place)))) c.in-Some.is (c.in_ok-range.ensures it.rows it.held) in
-    range_meets ranged c.args.before c.in-Some.range c.args.place it c.requires folds
+    let it = c.rows_are_few.ensures.held in
+    let folds = subst (λ made. IfSome made (Folds ranged.plan (kept ranged.plan.condition (range_rows ranged.count ranged.size it.rows c.args.place)))) c.in-Some.is (c.in_ok-range.ensures it.rows it.held) in
+    range_meets ranged c.rows_are_few.ensures.some c.args.before c.in-Some.range c.args.place it c.requires folds
 
 pub returns : goal.returns
 returns g c = λ places firsts.
     let ranged = c.args.self.now in
-    took_range ranged c.args.before c.in-Some.range c.in_ok-join.field-0 places c.args.place firsts
-    (λ rows held. subst (λ made. IfSome made (Folds ranged.plan (kept ranged.plan.condition (range_rows ranged.count rows c.args.place)))) c.in-Some.is (c.in_ok-range.ensures rows held))
+    took_range ranged c.rows_are_few.ensures.some c.args.before c.in-Some.range c.in_ok-join.field-0 places c.args.place firsts
+    (λ rows held. subst (λ made. IfSome made (Folds ranged.plan (kept ranged.plan.condition (range_rows ranged.count ranged.size rows c.args.place)))) c.in-Some.is (c.in_ok-range.ensures rows held))
     (c.in_ok-join.ensures ranged.plan)
