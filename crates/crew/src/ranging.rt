@@ -34,8 +34,7 @@ const MOST_ROWS: u64 = 4_194_304;
 /// [`MAX_SEATS`](crate::MAX_SEATS) at most, and the number of ranges draw these until none are left, each in a thread of its own;
 /// which worker takes which range has no effect. It owns what it keeps.
 ///
-/// None where a column that the plan needs was left out, or groups are too many for a table: then the rows are to be
-/// gathered from their pieces.
+/// None where a column that the plan needs was left out: then the rows are to be gathered from their pieces.
 ///
 /// [`Refused::NoWorker`] where a thread could not be started; otherwise [`Refused::OutOfMemory`] where there was no
 /// memory, here or for a worker. All threads that were started are joined before this returns, however it ends.
