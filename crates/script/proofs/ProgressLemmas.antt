@@ -23,7 +23,6 @@ use Rattle.script.specs.declared.ended.Ended.{Ended}
 use Rattle.script.specs.declared.finish.Finish.{Finish}
 use Rattle.script.specs.declared.finish.Finish.TheVariants.{Stopped, Through}
 use Rattle.script.specs.declared.on_refusal.OnRefusal.{OnRefusal}
-use Rattle.script.specs.declared.on_refusal.OnRefusal.TheVariants as on_refusal
 use Rattle.script.proofs.BlocksLemmas.{reversed_onto}
 use Rattle.script.proofs.SaysLemmas.{EachAnswered}
 use Rattle.script.proofs.StepsLemmas.{does_so}

@@ -1,5 +1,5 @@
 -- Where a run stops after a refused line.
-use Rattle.std.proofs.Common.{◌≡◌, ◌⊎◌, ◌∙◌, ◌+◌, ℕ, Bool, true, false, cond, Result, Ok, Err, List, [], ◌∷◌, ◌++◌, inl, inr, length, reverse, refl, sym, ap, subst, append_assoc}
+use Rattle.std.proofs.Common.{◌≡◌, ◌⊎◌, ◌∙◌, ◌+◌, ℕ, Bool, true, false, cond, Result, Ok, Err, List, [], ◌∷◌, ◌++◌, inl, inr, length, refl, sym, ap, subst, append_assoc}
 use Rattle.cells.specs.Values.{RowValue}
 use Rattle.cells.specs.Updates.{Update, puts}
 use Rattle.cells.specs.declared.cell.Cell.{Cell}

@@ -3,7 +3,6 @@ use Rattle.std.proofs.lemmas.Result.{err_from_is_err_and}
 use Rattle.std.specs.Str.Lines.{lines}
 use Rattle.script.specs.Givens.{givens}
 use Rattle.script.specs.Viewers.{asked_of}
-use Rattle.script.specs.declared.finish.Finish.TheVariants.{Stopped, Through}
 use Rattle.script.proofs.EndingsLemmas.{ends_unwritten}
 use Rattle.script.proofs.ProgressLemmas.{all_written, partly_written}
 use Rattle.script.proofs.TailsLemmas.{begins_tailed, may_want, so_early, so_stopped, so_tailed}

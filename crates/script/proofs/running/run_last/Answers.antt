@@ -1,5 +1,4 @@
 use Rattle.script.specs.Givens.{givens}
-use Rattle.script.specs.Hows.{hash_of_choice}
 use Rattle.script.specs.Viewers.{asked_of}
 use Rattle.script.proofs.TailsLemmas.{ends_going_on}
 use Rattle.script.proofs.running.run_last.Goals as goal
