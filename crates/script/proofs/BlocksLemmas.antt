@@ -19,7 +19,7 @@ Lines = List (List ℕ)
 -- ---- each line has a block, and so each script an output
 
 module _ (each : EachAnswered) (hash : Cell → ℕ) (givens : Givens) where
-  some_answer : (before : Lines) (r : Result Deed Fault) → (bytes : List ℕ) × IsAnswer hash givens before r bytes
+  pub some_answer : (before : Lines) (r : Result Deed Fault) → (bytes : List ℕ) × IsAnswer hash givens before r bytes
   some_answer before (Ok Nothing) = (_, refl)
   some_answer before (Ok (Declares t)) = (_, refl)
   some_answer before (Ok (Loads t listing)) = (_, refl)

@@ -1,6 +1,6 @@
 -- Why a run ends early.
 use Rattle.std.proofs.Common.{◌≡◌, Result, Err, ℕ, List, Option, ap, refl}
-use Rattle.std.specs.Prelude.{◌<◌}
+use Rattle.std.specs.Prelude.{◌<◌, MatchResult}
 use Rattle.report.specs.declared.unwritten.Unwritten.{Unwritten}
 use Rattle.report.specs.declared.unwritten.Unwritten.TheVariants as unwritten
 use Rattle.report.specs.declared.want.Want.{Want}
@@ -9,6 +9,10 @@ use Rattle.script.specs.Endings.{BeginsToWrite, Delivers, Ends, ended_for, ended
 use Rattle.script.specs.declared.ended.Ended.{Ended}
 use Rattle.script.specs.declared.unstarted.Unstarted.{Unstarted}
 use Rattle.script.specs.declared.unstarted.Unstarted.TheVariants as unstarted
+
+-- an error is what it is said to be
+pub match_err : {T E : Type 0} (A : T → Type 0) (B : E → Type 0) (r : Result T E) (e : E) → r ≡ Err e → B e → MatchResult r A B
+match_err A B r e met b = rw met b
 
 module _ {W T : Type 0} (taken : W → Option (List ℕ)) (faults : W → ℕ) (old new : W) (IsWhole : List ℕ → Type 0) (e : Ended) (result : Result T Ended)
     (met : result ≡ Err e) (beginning : BeginsToWrite IsWhole (taken old) (taken new)) where

@@ -5,9 +5,11 @@ pub mod GalleryLemmas
 pub mod LinesLemmas
 pub mod ListingsLemmas
 pub mod ProgressLemmas
+pub mod RefusalsLemmas
 pub mod SaysLemmas
 pub mod StatementsLemmas
 pub mod StepsLemmas
+pub mod StopsLemmas
 pub mod TailsLemmas
 pub mod WorkedLemmas
 pub mod WorkedQueriesLemmas

@@ -10,18 +10,23 @@ use Rattle.std.specs.Prelude.{◌==◌, slice_index}
 use Rattle.std.specs.Str.Lines.{lines, lines_of_parts, strip_carriage_return}
 use Rattle.board.specs.Editions.{Editions}
 use Rattle.cells.specs.declared.cell.Cell.{Cell}
-use Rattle.script.specs.Blocks.{Foretells, IsAsked, Steps}
+use Rattle.script.specs.Blocks.{Foretells, IsAsked, Steps, is_refused}
 use Rattle.script.specs.Deeds.{deed}
 use Rattle.script.specs.Endings.{AsksForWorkers, BeginsToWrite, Delivers, HasWorkers, Writes}
 use Rattle.script.specs.Givens.{Givens, givens}
 use Rattle.script.specs.Limits.{script_limit}
-use Rattle.script.specs.Output.{AreBlocks, IsBlock, deed_behind, edition, is_publish, line_first, no_line}
+use Rattle.script.specs.Output.{IsBlock, deed_behind, edition, is_publish}
+use Rattle.script.specs.Stops.{AreBlocksUpTo, GoesOver, HoweverFinished, StopsAfter, Tells, last_line, line_first, no_line, stops}
 use Rattle.script.specs.Desks.{Publishable, IsBehind, schema_of_desk}
 use Rattle.script.specs.declared.block.Block.{Block}
 use Rattle.script.specs.declared.ended.Ended.{Ended}
-use Rattle.script.proofs.BlocksLemmas.{reversed_onto, some_blocks}
+use Rattle.script.specs.declared.finish.Finish.{Finish}
+use Rattle.script.specs.declared.finish.Finish.TheVariants.{Stopped, Through}
+use Rattle.script.specs.declared.on_refusal.OnRefusal.{OnRefusal}
+use Rattle.script.proofs.BlocksLemmas.{reversed_onto}
 use Rattle.script.proofs.SaysLemmas.{EachAnswered}
 use Rattle.script.proofs.StepsLemmas.{does_so}
+use Rattle.script.proofs.StopsLemmas.{goes_after, some_blocks_up_to, stops_after, stops_or_goes}
 use Rattle.report.specs.Laws.{takes_beginning, takes_last}
 use Rattle.report.specs.Taken.{TakesBeginning}
 use Rattle.report.specs.Waiting.{Awaits, GoesOn, Waits, text_alone}
@@ -35,37 +40,37 @@ last_first-more yielded line = rw (map-append, reverse-append) refl
 
 -- the lines before were run, and the rest of the script is to be run: behind what was taken and what waits, any blocks of
 -- the rest are the script's; where a report is under way, the script has a line that asked for it
-pub record Reached (old new : Option (List ℕ)) (hash : Cell → ℕ) (givens : Givens) (before rest script : List (List ℕ)) (desk : Option Editions) (waits : Waits) (number : ℕ) : Type 0 where
+pub record Reached (old new : Option (List ℕ)) (hash : Cell → ℕ) (givens : Givens) (on : OnRefusal) (before rest script : List (List ℕ)) (desk : Option Editions) (waits : Waits) (number : ℕ) : Type 0 where
   pub parted : script ≡ reverse before ++ rest
   pub front : List ℕ
   pub taken : Appends old new front
   pub waiting : List ℕ
   pub awaits : Awaits waits waiting
   pub asked : 0 < length waits.reports → AsksForWorkers givens script
-  pub blocks : (bytes : List ℕ) → AreBlocks hash givens before rest bytes → AreBlocks hash givens [] script (front ++ (waiting ++ bytes))
+  pub blocks : (finish : Finish) (bytes : List ℕ) → AreBlocksUpTo hash givens on before rest finish bytes → AreBlocksUpTo hash givens on [] script finish (front ++ (waiting ++ bytes))
   pub stands : IsBehind givens before desk
   pub number_is : number ≡ length before
   pub short : length before + length rest ≤ script_limit + 1
   pub narrow : AllByRecursion (λ line. length line ≤ script_limit) rest
 
-pub reached_start : (told : Option (List ℕ)) (hash : Cell → ℕ) (givens : Givens) (script : List (List ℕ)) → length script ≤ script_limit + 1 → AllByRecursion (λ line. length line ≤ script_limit) script →
-    Reached told told hash givens [] script script None (record { reports = []; after = [] }) 0
-reached_start told hash givens script short narrow = record {
+pub reached_start : (told : Option (List ℕ)) (hash : Cell → ℕ) (givens : Givens) (on : OnRefusal) (script : List (List ℕ)) → length script ≤ script_limit + 1 → AllByRecursion (λ line. length line ≤ script_limit) script →
+    Reached told told hash givens on [] script script None (record { reports = []; after = [] }) 0
+reached_start told hash givens on script short narrow = record {
   parted = refl;
   front = [];
   taken = Appends-nil told;
   waiting = [];
   awaits = text_alone;
   asked = λ some. absurd (omega (arith, some));
-  blocks = λ bytes are. are;
+  blocks = λ finish bytes are. are;
   stands = refl;
   number_is = refl;
   short = omega arith;
   narrow = narrow;
 }
 
-module _ (old new : Option (List ℕ)) (hash : Cell → ℕ) (givens : Givens) (before left script : List (List ℕ)) (desk : Option Editions) (waits : Waits) (number : ℕ)
-    (reached : Reached old new hash givens before left script desk waits number) where
+module _ (old new : Option (List ℕ)) (hash : Cell → ℕ) (givens : Givens) (on : OnRefusal) (before left script : List (List ℕ)) (desk : Option Editions) (waits : Waits) (number : ℕ)
+    (reached : Reached old new hash givens on before left script desk waits number) where
   -- no line that is left is longer than a script may be
   pub narrow_left : (line : List ℕ) (rest : List (List ℕ)) → left ≡ line ∷ rest → (length line ≤ script_limit) × AllByRecursion (λ l. length l ≤ script_limit) rest
   narrow_left line rest is = subst (AllByRecursion (λ l. length l ≤ script_limit)) is reached.narrow
@@ -82,86 +87,134 @@ module _ (old new : Option (List ℕ)) (hash : Cell → ℕ) (givens : Givens) (
 
   module _ {H : Type 0} (line : List ℕ) (rest : List (List ℕ)) (after : Option Editions) (block : Block H) (is : left ≡ line ∷ rest) (steps : Steps hash givens line (number + 1) desk after block) where
     -- what the line's block will be
-    pub told : Foretells (IsBlock hash givens before line) block
+    pub told : Foretells (number + 1) (IsBlock hash givens before line) block
     told = steps.foretells before reached.stands (ap (λ n. n + 1) reached.number_is)
 
-    -- it comes next
-    next_text : (bytes : List ℕ) → AreBlocks hash givens (line ∷ before) rest bytes → AreBlocks hash givens [] script (reached.front ++ (reached.waiting ++ (told.text ++ bytes)))
-    next_text bytes are = reached.blocks (told.text ++ bytes) (subst (λ ls. AreBlocks hash givens before ls (told.text ++ bytes)) (sym is) (line_first told.text bytes told.is are))
+    -- whether it is refused
+    told_refused : Tells (is_refused block) (length before + 1) told.text
+    told_refused = subst (λ n. Tells (is_refused block) n told.text) (ap (λ n. n + 1) reached.number_is) told.tells
 
-    -- one line more
-    pub reached_more : {T : Type 0} (newer : Option (List ℕ)) (newer_waits : Waits) (x : T) → GoesOn {T = T} new newer newer_waits (reached.waiting ++ told.text) (Ok x) →
-        (0 < length newer_waits.reports → (0 < length waits.reports) ⊎ IsAsked block) →
-        Reached old newer hash givens (line ∷ before) rest script after newer_waits (number + 1)
-    reached_more newer newer_waits x on more =
-        let p = on.front.taken in record {
-          parted = reached.parted ∙ ap (λ ls. reverse before ++ ls) is ∙ reversed_onto line before rest;
-          front = reached.front ++ p.front;
-          taken = Appends-trans old new newer reached.front p.front reached.taken p.taken;
-          waiting = on.front.rest;
-          awaits = on.front.awaits;
-          asked = λ some. elim (more some) [ inl earlier ↦ reached.asked earlier | inr asked ↦ asks line rest is (steps.asks asked) ];
-          blocks = λ bytes are. subst (AreBlocks hash givens [] script)
-              (ap (λ t. reached.front ++ t)
-              (sym (append_assoc reached.waiting told.text bytes) ∙ ap (λ t. t ++ bytes) p.whole_is ∙ append_assoc p.front on.front.rest bytes)
-              ∙ sym (append_assoc reached.front p.front (on.front.rest ++ bytes)))
-              (next_text bytes are);
-          stands = steps.stands before reached.stands;
-          number_is = omega (arith, reached.number_is);
-          short = omega (arith, reached.short, ap length is);
-          narrow = (narrow_left line rest is).1;
-        }
+    -- it comes next
+    next_text : (StopsAfter on (length before + 1) told.text → ⊥) → (finish : Finish) (bytes : List ℕ) → AreBlocksUpTo hash givens on (line ∷ before) rest finish bytes →
+        AreBlocksUpTo hash givens on [] script finish (reached.front ++ (reached.waiting ++ (told.text ++ bytes)))
+    next_text goes finish bytes are =
+        reached.blocks finish (told.text ++ bytes) (subst (λ ls. AreBlocksUpTo hash givens on before ls finish (told.text ++ bytes)) (sym is) (line_first told.text bytes told.is goes are))
+
+    -- or it is the last one
+    last_text : StopsAfter on (length before + 1) told.text → AreBlocksUpTo hash givens on [] script Stopped (reached.front ++ (reached.waiting ++ told.text))
+    last_text stop = reached.blocks Stopped told.text (subst (λ ls. AreBlocksUpTo hash givens on before ls Stopped told.text) (sym is) (last_line told.is stop))
+
+    module _ {T : Type 0} (newer : Option (List ℕ)) (newer_waits : Waits) (x : T) (goes_on : GoesOn {T = T} new newer newer_waits (reached.waiting ++ told.text) (Ok x))
+        (more : 0 < length newer_waits.reports → (0 < length waits.reports) ⊎ IsAsked block) where
+      asked_more : 0 < length newer_waits.reports → AsksForWorkers givens script
+      asked_more some = elim (more some) [ inl earlier ↦ reached.asked earlier | inr asked ↦ asks line rest is (steps.asks asked) ]
+
+      -- one line more
+      pub reached_more : stops on (is_refused block) ≡ false → Reached old newer hash givens on (line ∷ before) rest script after newer_waits (number + 1)
+      reached_more goes =
+          let p = goes_on.front.taken in record {
+            parted = reached.parted ∙ ap (λ ls. reverse before ++ ls) is ∙ reversed_onto line before rest;
+            front = reached.front ++ p.front;
+            taken = Appends-trans old new newer reached.front p.front reached.taken p.taken;
+            waiting = goes_on.front.rest;
+            awaits = goes_on.front.awaits;
+            asked = asked_more;
+            blocks = λ finish bytes are. subst (AreBlocksUpTo hash givens on [] script finish)
+                (ap (λ t. reached.front ++ t)
+                (sym (append_assoc reached.waiting told.text bytes) ∙ ap (λ t. t ++ bytes) p.whole_is ∙ append_assoc p.front goes_on.front.rest bytes)
+                ∙ sym (append_assoc reached.front p.front (goes_on.front.rest ++ bytes)))
+                (next_text (goes_after on (is_refused block) (length before + 1) told.text goes told_refused) finish bytes are);
+            stands = steps.stands before reached.stands;
+            number_is = omega (arith, reached.number_is);
+            short = omega (arith, reached.short, ap length is);
+            narrow = (narrow_left line rest is).1;
+          }
+
+      -- the run stops
+      pub stopped : stops on (is_refused block) ≡ true → GoesOver old newer hash givens on script after newer_waits Stopped
+      stopped stop =
+          let p = goes_on.front.taken in record {
+            front = reached.front ++ p.front;
+            taken = Appends-trans old new newer reached.front p.front reached.taken p.taken;
+            waiting = goes_on.front.rest;
+            awaits = goes_on.front.awaits;
+            blocks = subst (AreBlocksUpTo hash givens on [] script Stopped)
+                (ap (λ t. reached.front ++ t) p.whole_is ∙ sym (append_assoc reached.front p.front goes_on.front.rest))
+                (last_text (stops_after on (is_refused block) (length before + 1) told.text stop told_refused));
+            asked = asked_more;
+            stands = λ through. absurd cc;
+          }
 
     -- a beginning of what comes next
-    pub reached_beginning : EachAnswered → (newer : Option (List ℕ)) → TakesBeginning new newer (reached.waiting ++ told.text) → BeginsToWrite (AreBlocks hash givens [] script) old newer
-    reached_beginning each newer beginning =
-        let (bytes, are) = some_blocks each hash givens rest (line ∷ before) in
-        let whole = reached.front ++ (reached.waiting ++ (told.text ++ bytes)) in
-        record {
-          whole = whole;
-          is_whole = next_text bytes are;
-          beginning = takes_beginning old new newer whole (reached.waiting ++ told.text) bytes
-              (record { front = reached.front; whole_is = ap (λ t. reached.front ++ t) (sym (append_assoc reached.waiting told.text bytes)); taken = reached.taken }) beginning;
-        }
+    pub reached_beginning : EachAnswered → (newer : Option (List ℕ)) → TakesBeginning new newer (reached.waiting ++ told.text) → BeginsToWrite (HoweverFinished (AreBlocksUpTo hash givens on [] script)) old newer
+    reached_beginning each newer beginning = go (stops_or_goes on (is_refused block) (length before + 1) told.text told_refused) where
+      go : StopsAfter on (length before + 1) told.text ⊎ (StopsAfter on (length before + 1) told.text → ⊥) → BeginsToWrite (HoweverFinished (AreBlocksUpTo hash givens on [] script)) old newer
+      go (inl stop) =
+          let whole = reached.front ++ (reached.waiting ++ told.text) in
+          record {
+            whole = whole;
+            is_whole = record { finish = Stopped; is = last_text stop };
+            beginning = takes_last old new newer whole (reached.waiting ++ told.text) (record { front = reached.front; whole_is = refl; taken = reached.taken }) beginning;
+          }
+      go (inr goes) =
+          let some = some_blocks_up_to each hash givens on rest (line ∷ before) in
+          let whole = reached.front ++ (reached.waiting ++ (told.text ++ some.bytes)) in
+          record {
+            whole = whole;
+            is_whole = record { finish = some.finish; is = next_text goes some.finish some.bytes some.are };
+            beginning = takes_beginning old new newer whole (reached.waiting ++ told.text) some.bytes
+                (record { front = reached.front; whole_is = ap (λ t. reached.front ++ t) (sym (append_assoc reached.waiting told.text some.bytes)); taken = reached.taken }) beginning;
+          }
 
     -- a line whose report, or an earlier one, wants a worker
     pub asked_for_workers : IsAsked block → AsksForWorkers givens script
     asked_for_workers asked = asks line rest is (steps.asks asked)
 
   -- what was written so far
-  pub reached_so_far : EachAnswered → BeginsToWrite (AreBlocks hash givens [] script) old new
+  pub reached_so_far : EachAnswered → BeginsToWrite (HoweverFinished (AreBlocksUpTo hash givens on [] script)) old new
   reached_so_far each =
-      let (bytes, are) = some_blocks each hash givens left before in
+      let some = some_blocks_up_to each hash givens on left before in
       record {
-        whole = reached.front ++ (reached.waiting ++ bytes);
-        is_whole = reached.blocks bytes are;
-        beginning = record { rest = reached.waiting ++ bytes; up_to = record { front = reached.front; whole_is = refl; taken = reached.taken } };
+        whole = reached.front ++ (reached.waiting ++ some.bytes);
+        is_whole = record { finish = some.finish; is = reached.blocks some.finish some.bytes some.are };
+        beginning = record { rest = reached.waiting ++ some.bytes; up_to = record { front = reached.front; whole_is = refl; taken = reached.taken } };
       }
 
   -- no line is left, and what waits is all
-  all_blocks : left ≡ [] → AreBlocks hash givens [] script (reached.front ++ reached.waiting)
-  all_blocks is = subst (λ t. AreBlocks hash givens [] script (reached.front ++ t)) (append-nil reached.waiting) (reached.blocks [] (subst (λ ls. AreBlocks hash givens before ls []) (sym is) no_line))
-
-  -- where it stands then
-  pub stands_end : left ≡ [] → IsBehind givens (reverse script) desk
-  stands_end is =
-      let same : reverse script ≡ before = ap reverse (reached.parted ∙ ap (λ ls. reverse before ++ ls) is ∙ append-nil (reverse before)) ∙ reverse-reverse before in
-      subst (λ ls. IsBehind givens ls desk) (sym same) reached.stands
-
-  pub reached_end : (newer : Option (List ℕ)) → left ≡ [] → Appends new newer reached.waiting → Writes (AreBlocks hash givens [] script) old newer
-  reached_end newer is last = record {
-    whole = reached.front ++ reached.waiting;
-    is_whole = all_blocks is;
-    taken = Appends-trans old new newer reached.front reached.waiting reached.taken last;
+  pub gone_through : left ≡ [] → GoesOver old new hash givens on script desk waits Through
+  gone_through is = record {
+    front = reached.front;
+    taken = reached.taken;
+    waiting = reached.waiting;
+    awaits = reached.awaits;
+    blocks = subst (λ t. AreBlocksUpTo hash givens on [] script Through (reached.front ++ t)) (append-nil reached.waiting)
+        (reached.blocks Through [] (subst (λ ls. AreBlocksUpTo hash givens on before ls Through []) (sym is) no_line));
+    asked = reached.asked;
+    stands = λ through.
+        let same : reverse script ≡ before = ap reverse (reached.parted ∙ ap (λ ls. reverse before ++ ls) is ∙ append-nil (reverse before)) ∙ reverse-reverse before in
+        subst (λ ls. IsBehind givens ls desk) (sym same) reached.stands;
   }
 
-  pub reached_late : (newer : Option (List ℕ)) → left ≡ [] → TakesBeginning new newer reached.waiting → BeginsToWrite (AreBlocks hash givens [] script) old newer
-  reached_late newer is late =
-      let whole = reached.front ++ reached.waiting in
+-- ---- behind the lines
+
+module _ (old new newer : Option (List ℕ)) (hash : Cell → ℕ) (givens : Givens) (on : OnRefusal) (script : List (List ℕ)) (desk : Option Editions) (waits : Waits) (finish : Finish)
+    (over : GoesOver old new hash givens on script desk waits finish) where
+  -- what waited was written
+  pub all_written : Appends new newer over.waiting → Writes (AreBlocksUpTo hash givens on [] script finish) old newer
+  all_written last = record {
+    whole = over.front ++ over.waiting;
+    is_whole = over.blocks;
+    taken = Appends-trans old new newer over.front over.waiting over.taken last;
+  }
+
+  -- or a beginning of it
+  pub partly_written : TakesBeginning new newer over.waiting → BeginsToWrite (HoweverFinished (AreBlocksUpTo hash givens on [] script)) old newer
+  partly_written late =
+      let whole = over.front ++ over.waiting in
       record {
         whole = whole;
-        is_whole = all_blocks is;
-        beginning = takes_last old new newer whole reached.waiting (record { front = reached.front; whole_is = refl; taken = reached.taken }) late;
+        is_whole = record { finish = finish; is = over.blocks };
+        beginning = takes_last old new newer whole over.waiting (record { front = over.front; whole_is = refl; taken = over.taken }) late;
       }
 
 -- ---- how a run ends

@@ -1,5 +1,5 @@
 -- Over a table's rows each text says one thing.
-use Rattle.std.proofs.Common.{◌≡◌, ◌⊎◌, ℕ, false, true, Option, Some, None, Result, Ok, Err, List, inl, inr, refl, sym, ap, ◌∙◌}
+use Rattle.std.proofs.Common.{◌≡◌, ◌⊎◌, ℕ, false, true, Option, Some, None, Result, Ok, Err, List, inl, inr, refl, sym, ap, subst, ◌∙◌}
 use Rattle.std.specs.Prelude.{Vec}
 use Rattle.std.specs.declared.alloc.Global.{Global}
 use Rattle.cells.specs.Refusals.{Reads}
@@ -12,8 +12,10 @@ use Rattle.script.specs.Blocks.{WillReport, WillReportPlan}
 use Rattle.script.specs.Output.{IsReport, refusal, report}
 use Rattle.script.specs.Says.{GivesPlan, IsRefused, MeansPlan, Says, answer, answer_of, no_plan, no_query}
 use Rattle.script.specs.declared.block.Block.{Block}
-use Rattle.script.specs.declared.block.Block.TheVariants.{Text}
+use Rattle.script.specs.declared.block.Block.TheVariants.{Refusal}
 use Rattle.script.specs.declared.fault.Fault.TheVariants.{Line}
+use Rattle.script.specs.Stops.{Tells}
+use Rattle.script.proofs.RefusalsLemmas.{no_refusal_headed}
 use Rattle.query.specs.Checks.{fault_of}
 use Rattle.query.specs.Plans.{PlanTree, checked, checked_by, plan_of}
 use Rattle.query.specs.Queries.{FirstFault, IsAnswered, IsQuery, a_fault, a_query}
@@ -93,10 +95,10 @@ checked_text t text q result is reads = go (fault_of t q) refl result reads wher
 
 -- the block of a refused report
 pub answers_refused : {H : Type 0} (k : Editions) (number : ℕ) (query : List ℕ) (fault : Refused) (bytes : Vec ℕ Global) →
-    IsRefused (keeper.schema k) query fault → (Line fault ≡ Line OutOfMemory → false ≡ true) → bytes.items ≡ refusal number (Line fault) → WillReport {H = H} k number query (Text bytes)
+    IsRefused (keeper.schema k) query fault → (Line fault ≡ Line OutOfMemory → false ≡ true) → bytes.items ≡ refusal number (Line fault) → WillReport {H = H} k number query (Refusal bytes)
 answers_refused k number query fault bytes (inl wanting) memory is = absurd (let bad : false ≡ true = memory (ap Line wanting) in cc)
 answers_refused k number query fault bytes (inr says) memory is = record {
-  is = λ rs left same. record { text = refusal number (Line fault); is = record { said = Err fault; says = says rs; is = refl }; will = is };
+  is = λ rs left same. record { text = refusal number (Line fault); is = record { said = Err fault; says = says rs; is = refl }; will = is; tells = record { fault = Line fault; is = refl } };
 }
 
 -- the block of a report that is answered
@@ -107,5 +109,6 @@ answers_plan k number query plan block asks answers = record {
     text = report number (keeper.edition k) (Ok (answer_of plan rs));
     is = record { said = Ok (answer_of plan rs); says = asks rs; is = refl };
     will = answers.is rs left same;
+    tells = subst (λ b. Tells b number (report number (keeper.edition k) (Ok (answer_of plan rs)))) (sym answers.accepted) (no_refusal_headed number (keeper.edition k) (answer_of plan rs));
   };
 }

@@ -16,7 +16,7 @@ use Rattle.cells.specs.declared.refused.Refused.TheVariants.{OutOfMemory, TooMan
 use Rattle.trie.specs.Shapes.{shape_of}
 use Rattle.board.specs.Editions.{Begins, ChangesDraft, Editions}
 use Rattle.board.specs.Editions as keeper
-use Rattle.script.specs.Blocks.{WillReport, Steps}
+use Rattle.script.specs.Blocks.{WillReport, Steps, quiet, quiet_by}
 use Rattle.script.specs.Deeds.{Declares, Deed, Loads, Nothing, Publishes, Reports, Shapes, Updates, deed, deed_of, declares, is_comment, command_of}
 use Rattle.script.specs.Endings.{HasWorkers, reports}
 use Rattle.script.specs.Givens.{Givens}
@@ -25,11 +25,13 @@ use Rattle.script.specs.Output.{IsAnswer, IsBlock, IsReport, added, declared, de
 use Rattle.script.specs.Output.{keys as keys_of_rows}
 use Rattle.script.specs.Desks.{Executes, Keeps, LaysOrOverflows, LoadsRows, PutsRow, IsBehind, Stays, schema_of_desk}
 use Rattle.script.specs.declared.block.Block.{Block}
-use Rattle.script.specs.declared.block.Block.TheVariants.{Text}
+use Rattle.script.specs.Stops.{IsQuiet, IsRefusal}
+use Rattle.script.specs.declared.block.Block.TheVariants.{Refusal, Text}
 use Rattle.script.specs.declared.command.Command.{Command}
 use Rattle.script.specs.declared.command.Command.TheVariants as command
 use Rattle.script.specs.declared.fault.Fault.{Fault}
 use Rattle.script.specs.declared.fault.Fault.TheVariants.{Line}
+use Rattle.script.proofs.RefusalsLemmas.{no_refusal}
 
 abbrev Lines : Type 0
 Lines = List (List ℕ)
@@ -125,23 +127,59 @@ left_published givens (line ∷ before) = either (is_publish (deed (declared giv
   either true earlier = record { updates = updates givens before; is = refl }
   either false earlier = earlier
 
--- a line whose block is this text
+-- an accepted line whose block is this text
 pub steps_text : {H : Type 0} (hash : Cell → ℕ) (givens : Givens) (line : List ℕ) (number : ℕ) (old new : Option Editions) (bytes : Vec ℕ Global)
-    → Executes hash givens line number old new bytes.items → Steps {H = H} hash givens line number old new (Text bytes)
-steps_text hash givens line number old new bytes executes = record {
-  foretells = λ before stands n. record { text = bytes.items; is = executes.block before stands n; will = refl };
+    → (IsRefusal number bytes.items → ⊥) → Executes hash givens line number old new bytes.items → Steps {H = H} hash givens line number old new (Text bytes)
+steps_text hash givens line number old new bytes accepted executes = record {
+  foretells = λ before stands n. record { text = bytes.items; is = executes.block before stands n; will = refl; tells = accepted };
   stands = executes.stands;
   stays = executes.stays;
   asks = λ asked. absurd asked;
 }
 
+-- a refused one
+steps_refusal : {H : Type 0} (hash : Cell → ℕ) (givens : Givens) (line : List ℕ) (number : ℕ) (old new : Option Editions) (bytes : Vec ℕ Global)
+    → IsRefusal number bytes.items → Executes hash givens line number old new bytes.items → Steps {H = H} hash givens line number old new (Refusal bytes)
+steps_refusal hash givens line number old new bytes refused executes = record {
+  foretells = λ before stands n. record { text = bytes.items; is = executes.block before stands n; will = refl; tells = refused };
+  stands = executes.stands;
+  stays = executes.stays;
+  asks = λ asked. absurd asked;
+}
+
+-- one that writes nothing, or is refused
+quiet_nothing : {H : Type 0} (bytes : Vec ℕ Global) → bytes.items ≡ [] → quiet {H = H} bytes ≡ Text bytes
+quiet_nothing bytes none = ap (λ t. quiet_by t bytes) none
+
+quiet_refused : {H : Type 0} (bytes : Vec ℕ Global) (number : ℕ) (fault : Fault) → bytes.items ≡ refusal number fault → quiet {H = H} bytes ≡ Refusal bytes
+quiet_refused bytes number fault is = ap (λ t. quiet_by t bytes) is
+
+pub steps_quiet : {H : Type 0} (hash : Cell → ℕ) (givens : Givens) (line : List ℕ) (number : ℕ) (old new : Option Editions) (bytes : Vec ℕ Global)
+    → IsQuiet number bytes.items → Executes hash givens line number old new bytes.items → Steps {H = H} hash givens line number old new (quiet bytes)
+steps_quiet {H} hash givens line number old new bytes (inl none) executes =
+    subst (λ b. Steps {H = H} hash givens line number old new b) (sym (quiet_nothing bytes none)) (steps_text hash givens line number old new bytes (no_refusal number bytes.items none) executes)
+steps_quiet {H} hash givens line number old new bytes (inr refused) executes =
+    subst (λ b. Steps {H = H} hash givens line number old new b) (sym (quiet_refused bytes number refused.fault refused.is)) (steps_refusal hash givens line number old new bytes refused executes)
+
+pub steps_nothing : {H : Type 0} (hash : Cell → ℕ) (givens : Givens) (line : List ℕ) (number : ℕ) (desk : Option Editions) (bytes : Vec ℕ Global)
+    → deed (schema_of_desk desk) line ≡ Ok Nothing → bytes.items ≡ [] → Steps {H = H} hash givens line number desk desk (Text bytes)
+steps_nothing hash givens line number desk bytes does none =
+    steps_text hash givens line number desk desk bytes (no_refusal number bytes.items none) (executes_nothing hash givens line number desk bytes.items does none)
+
 -- the same where the text may be wanting
 pub steps_as_text : {H E F : Type 0} (hash : Cell → ℕ) (givens : Givens) (line : List ℕ) (number : ℕ) (old new : Option Editions) (text : Result (Vec ℕ Global) E) (block : Result (Block H) F) (f : F)
-    → IfOk text (λ bytes. block ≡ Ok (Text bytes)) → IfErr text (λ _. block ≡ Err f) → IfOk text (λ bytes. Executes hash givens line number old new bytes.items)
+    → IfOk text (λ bytes. block ≡ Ok (Text bytes)) → IfErr text (λ _. block ≡ Err f) → IfOk text (λ bytes. IsRefusal number bytes.items → ⊥) → IfOk text (λ bytes. Executes hash givens line number old new bytes.items)
     → IfOk block (Steps {H = H} hash givens line number old new)
-steps_as_text {H} hash givens line number old new (Ok bytes) block f is same executes =
-    subst (λ b. IfOk b (Steps {H = H} hash givens line number old new)) (sym is) (steps_text hash givens line number old new bytes executes)
-steps_as_text {H} hash givens line number old new (Err e) block f is same executes = subst (λ b. IfOk b (Steps {H = H} hash givens line number old new)) (sym same) tt
+steps_as_text {H} hash givens line number old new (Ok bytes) block f is same accepted executes =
+    subst (λ b. IfOk b (Steps {H = H} hash givens line number old new)) (sym is) (steps_text hash givens line number old new bytes accepted executes)
+steps_as_text {H} hash givens line number old new (Err e) block f is same accepted executes = subst (λ b. IfOk b (Steps {H = H} hash givens line number old new)) (sym same) tt
+
+pub steps_as_quiet : {H E F : Type 0} (hash : Cell → ℕ) (givens : Givens) (line : List ℕ) (number : ℕ) (old new : Option Editions) (text : Result (Vec ℕ Global) E) (block : Result (Block H) F) (f : F)
+    → IfOk text (λ bytes. block ≡ Ok (quiet bytes)) → IfErr text (λ _. block ≡ Err f) → IfOk text (λ bytes. IsQuiet number bytes.items) → IfOk text (λ bytes. Executes hash givens line number old new bytes.items)
+    → IfOk block (Steps {H = H} hash givens line number old new)
+steps_as_quiet {H} hash givens line number old new (Ok bytes) block f is same silent executes =
+    subst (λ b. IfOk b (Steps {H = H} hash givens line number old new)) (sym is) (steps_quiet hash givens line number old new bytes silent executes)
+steps_as_quiet {H} hash givens line number old new (Err e) block f is same silent executes = subst (λ b. IfOk b (Steps {H = H} hash givens line number old new)) (sym same) tt
 
 -- what an answer has where it is Ok, and what it tells then
 pub both_ok : {T E : Type 0} (r : Result T E) (A : Type 0) (B C : T → Type 0) → ((x : T) → A → B x → C x) → OnOk r A → IfOk r B → IfOk r C
@@ -167,6 +205,7 @@ steps_report hash givens line number k query block does answers =
                 (subst (λ m. IsReport m (edition givens before) (keeper.schema k) (published givens before) query told.text) n
                 (subst (λ e. IsReport number e (keeper.schema k) (published givens before) query told.text) stands.edition told.is));
             will = told.will;
+            tells = told.tells;
           };
       stands = λ before stands. stands_left givens before line (Some k) (leaves_at givens before line r (does_so givens before line (Some k) r stands does) refl refl refl) stands;
       stays = same_stays (Some k);

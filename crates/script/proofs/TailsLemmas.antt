@@ -5,7 +5,7 @@ use Rattle.std.proofs.lemmas.List.{append-nil, length-map}
 use Rattle.std.proofs.lemmas.Option.{slice_get-get_or, slice_get-map, slice_get_within}
 use Rattle.std.specs.Io.KnownBytes.{Appends}
 use Rattle.std.specs.List.{AllByRecursion, flat_map, slice_get}
-use Rattle.std.specs.Prelude.{◌⊎◌, IfErr, IsErrOf, Vec, option_map}
+use Rattle.std.specs.Prelude.{◌⊎◌, IfErr, IfOk, IsErrOf, OnOk, Vec, option_map}
 use Rattle.std.specs.Str.Lines.{lines}
 use Rattle.std.specs.declared.alloc.Global.{Global}
 use Rattle.board.specs.Editions.{Editions, Known}
@@ -23,23 +23,30 @@ use Rattle.query.specs.Values.{QueryTree}
 use Rattle.report.specs.Laws.{takes_beginning, takes_last, takes_more, takes_start}
 use Rattle.report.specs.Taken.{TakesBeginning}
 use Rattle.report.specs.Watching.{GoUpTo, IsShot, Sight, Watch, at_last, before_last, watch_from}
-use Rattle.script.specs.Endings.{AsksForWorkers, BeginsToWrite, Delivers, Writes}
+use Rattle.script.specs.Endings.{AsksForWorkers, BeginsToWrite, Delivers, Ends, Writes}
 use Rattle.script.specs.Givens.{Givens, givens}
 use Rattle.script.specs.Limits.{part_limit, script_limit}
-use Rattle.script.specs.Output.{AreBlocks, InTwo, IsOutput, IsTooMuch, deed_behind, declared, edition, editions, is_publish, refusal, updates}
+use Rattle.script.specs.Output.{InTwo, IsOutput, IsTooMuch, deed_behind, declared, edition, editions, is_publish, refusal, updates}
 use Rattle.script.specs.Output.{of_lines as output_of_lines, too_much as output_too_much}
 use Rattle.script.specs.Tails.{of_lines as tail_of_lines, too_much as tail_too_much}
 use Rattle.script.specs.Says.{MeansPlan, Says, answer, answer_of, no_plan, no_query}
 use Rattle.script.specs.Tails.{AreViewers, AreViews, IsTailBehind, IsView, Viewing, last_view, no_viewer, turned_away, undeclared, view_first, view_heading, viewed, viewer_first, viewers_refused}
 use Rattle.script.specs.Desks.{IsBehind, Keeps, Stays}
-use Rattle.script.specs.Viewers.{Attend, HasAttended, HasViewers, IsStarted, IsTailOf, IsWritten, MayAttend, MayWant, begun, expected, too_much_text, turned, view_block}
+use Rattle.script.specs.Stops.{AreBlocksUpTo, HoweverFinished, finish_of_refused}
+use Rattle.script.specs.Viewers.{AreWritten, Attend, EndsBy, EndsLines, EndsRun, EndsSo, HasAttended, HasViewers, IsRunBy, IsStarted, IsStrict, IsTailAfter, IsTailOf, IsWritten, MayAttend, MayWant, begun, expected, too_much_by, too_much_text, turned, view_block}
+use Rattle.script.specs.Viewers.{of_lines as strict_of_lines, too_much as strict_too_much}
 use Rattle.script.specs.declared.ended.Ended.{Ended}
-use Rattle.script.specs.declared.ended.Ended.TheVariants.{WriteFailed}
+use Rattle.script.specs.declared.ended.Ended.TheVariants.{NoWorker, NotShown, WriteFailed}
+use Rattle.script.specs.declared.finish.Finish.{Finish}
+use Rattle.script.specs.declared.finish.Finish.TheVariants.{Stopped, Through}
+use Rattle.script.specs.declared.on_refusal.OnRefusal.{OnRefusal}
+use Rattle.script.specs.declared.on_refusal.OnRefusal.TheVariants.{GoesOn, Stops}
 use Rattle.script.specs.declared.fault.Fault.TheVariants.{Line}
 use Rattle.script.specs.declared.stage.Stage.{Stage}
 use Rattle.script.specs.declared.stage.Stage.TheVariants.{Begun, Expected, Turned}
 use Rattle.script.proofs.ProgressLemmas.{delivers_as}
 use Rattle.script.proofs.SaysLemmas.{EachAnswered}
+use Rattle.script.proofs.StopsLemmas.{all_blocks}
 
 abbrev Lines : Type 0
 Lines = List (List ℕ)
@@ -163,6 +170,11 @@ some_tail each givens before (Some viewing) = by_table (declared givens before) 
   by_table None is = (viewers_refused NoTable, undeclared is)
   by_table (Some t) is = by_text t is (each viewing.query)
 
+-- ---- errors of results of two types
+
+same_error : {S T : Type 0} (e f : Ended) → IsErrOf {T = S} (Err e) f → IsErrOf {T = T} (Err e) f
+same_error e f late = let same : e ≡ f = cc in ap Err same
+
 -- ---- two parts, one after the other
 
 module _ (First Second : List ℕ → Type 0) (a b c : Option (List ℕ)) where
@@ -189,21 +201,6 @@ module _ (First Second : List ℕ → Type 0) (a b c : Option (List ℕ)) where
     is_whole = record { first = p.whole; second = q.whole; is_first = p.is_whole; is_second = q.is_whole; joined = refl };
     taken = Appends-trans a b c p.whole q.whole p.taken q.taken;
   }
-
-pub delivers_two : {W T : Type 0} (taken : W → Option (List ℕ)) (faults : W → ℕ) (old middle new : W) (First Second : List ℕ → Type 0) (result : Result T Ended) →
-    Writes First (taken old) (taken middle) → faults middle ≡ faults old → Delivers taken faults middle new Second result → Delivers taken faults old new (InTwo First Second) result
-delivers_two taken faults old middle new First Second (Ok x) first sound second = record {
-  output = writes_two First Second (taken old) (taken middle) (taken new) first second.output;
-  beginning = tt;
-  fault = λ late. absurd cc;
-  sound = second.sound ∙ sound;
-}
-delivers_two taken faults old middle new First Second (Err e) first sound second = record {
-  output = tt;
-  beginning = begins_later First Second (taken old) (taken middle) (taken new) first second.beginning;
-  fault = λ late. let failed = second.fault late in omega (arith, failed, sound);
-  sound = tt;
-}
 
 -- ---- how far viewers are
 
@@ -265,50 +262,196 @@ pub has_want : (givens : Givens) (asked : Option Viewing) (script : Lines) → H
 has_want givens None script has = absurd has
 has_want givens (Some viewing) script has = tt
 
+-- some tail comes behind a run that is so finished
+some_tail_after : EachAnswered → (finish : Finish) (givens : Givens) (before : Lines) (asked : Option Viewing) → (bytes : List ℕ) × IsTailAfter finish givens asked before bytes
+some_tail_after each Through givens before asked = some_tail each givens before asked
+some_tail_after each Stopped givens before asked = ([], refl)
+
 -- what was written, and some tail behind it
-pub begins_tailed : EachAnswered → (hash : Cell → ℕ) (givens : Givens) (asked : Option Viewing) (script : Lines) (a b : Option (List ℕ)) → BeginsToWrite (AreBlocks hash givens [] script) a b →
-    BeginsToWrite (InTwo (AreBlocks hash givens [] script) (IsTailOf givens asked (reverse script))) a b
-begins_tailed each hash givens asked script a b p =
-    let (bytes, is) = some_tail each givens (reverse script) asked in
-    begins_two (AreBlocks hash givens [] script) (IsTailOf givens asked (reverse script)) a b b p bytes is
+pub begins_tailed : EachAnswered → (hash : Cell → ℕ) (givens : Givens) (on : OnRefusal) (asked : Option Viewing) (script : Lines) (a b : Option (List ℕ)) →
+    BeginsToWrite (HoweverFinished (AreBlocksUpTo hash givens on [] script)) a b → BeginsToWrite (HoweverFinished (AreWritten hash givens on asked script)) a b
+begins_tailed each hash givens on asked script a b p =
+    let finish = p.is_whole.finish in
+    let (bytes, is) = some_tail_after each finish givens (reverse script) asked in
+    let two = begins_two (AreBlocksUpTo hash givens on [] script finish) (IsTailAfter finish givens asked (reverse script)) a b b
+    (record { whole = p.whole; is_whole = p.is_whole.is; beginning = p.beginning }) bytes is in
+    record { whole = two.whole; is_whole = record { finish = finish; is = two.is_whole }; beginning = two.beginning }
+
+-- ---- how a run ends by how it is finished
+
+module _ {W : Type 0} (taken : W → Option (List ℕ)) (faults : W → ℕ) (old new : W) (Asks Views : Type 0) (result : Result Finish Ended) where
+  -- early
+  pub so_early : (Is : Finish → List ℕ → Type 0) (e : Ended) → result ≡ Err e → Ends {T = Finish} taken faults old new (HoweverFinished Is) Asks Views (Err e) → EndsSo taken faults old new Is Asks Views result
+  so_early Is e met early = rw met (record { ends = early; wrote = tt })
+
+  -- or not
+  pub so_finished : (Is : Finish → List ℕ → Type 0) (finish : Finish) → result ≡ Ok finish → Writes (Is finish) (taken old) (taken new) → faults new ≡ faults old → EndsSo taken faults old new Is Asks Views result
+  so_finished Is finish met wrote sound = rw met (record {
+    ends = record {
+      delivered = record {
+        output = record { whole = wrote.whole; is_whole = record { finish = finish; is = wrote.is_whole }; taken = wrote.taken };
+        beginning = tt;
+        fault = λ late. absurd cc;
+        sound = sound;
+      };
+      worker = λ late. absurd cc;
+      place = λ late. absurd cc;
+    };
+    wrote = wrote;
+  })
+
+-- what was written is so, since what it was said to be is
+however : (Is IsWhole : Finish → List ℕ → Type 0) → ((finish : Finish) (bytes : List ℕ) → Is finish bytes → IsWhole finish bytes) → (bytes : List ℕ) → HoweverFinished Is bytes → HoweverFinished IsWhole bytes
+however Is IsWhole so bytes p = record { finish = p.finish; is = so p.finish bytes p.is }
+
+wrote_as : (a b : Option (List ℕ)) (Is IsWhole : Finish → List ℕ → Type 0) (result : Result Finish Ended) → ((finish : Finish) (bytes : List ℕ) → Is finish bytes → IsWhole finish bytes) →
+    IfOk result (λ finish. Writes (Is finish) a b) → IfOk result (λ finish. Writes (IsWhole finish) a b)
+wrote_as a b Is IsWhole (Ok finish) so wrote = record { whole = wrote.whole; is_whole = so finish wrote.whole wrote.is_whole; taken = wrote.taken }
+wrote_as a b Is IsWhole (Err e) so wrote = tt
+
+ends_so_as : {W : Type 0} (taken : W → Option (List ℕ)) (faults : W → ℕ) (old new : W) (Asks Views : Type 0) (result : Result Finish Ended) (Is IsWhole : Finish → List ℕ → Type 0) →
+    ((finish : Finish) (bytes : List ℕ) → Is finish bytes → IsWhole finish bytes) → EndsSo taken faults old new Is Asks Views result → EndsSo taken faults old new IsWhole Asks Views result
+ends_so_as taken faults old new Asks Views result Is IsWhole so e = record {
+  ends = record {
+    delivered = delivers_as taken faults old new _ _ result (however Is IsWhole so) e.ends.delivered;
+    worker = e.ends.worker;
+    place = e.ends.place;
+  };
+  wrote = wrote_as (taken old) (taken new) Is IsWhole result so e.wrote;
+}
+
+-- a run that went through writes its tail
+pub so_tailed : {W T : Type 0} (taken : W → Option (List ℕ)) (faults : W → ℕ) (old middle new : W) (hash : Cell → ℕ) (givens : Givens) (on : OnRefusal) (asked : Option Viewing) (script : Lines) (tail : Result T Ended) (result : Result Finish Ended) →
+    Writes (AreBlocksUpTo hash givens on [] script Through) (taken old) (taken middle) → faults middle ≡ faults old →
+    Delivers taken faults middle new (IsTailOf givens asked (reverse script)) tail → IfErr tail (λ _. HasViewers asked) →
+    IfOk tail (λ _. result ≡ Ok Through) → IfErr tail (λ e. result ≡ Err e) →
+    EndsSo taken faults old new (AreWritten hash givens on asked script) (MayWant givens asked script) (HasViewers asked) result
+so_tailed taken faults old middle new hash givens on asked script (Ok x) result first sound second has ok early =
+    so_finished taken faults old new (MayWant givens asked script) (HasViewers asked) result (AreWritten hash givens on asked script) Through ok
+    (writes_two (AreBlocksUpTo hash givens on [] script Through) (IsTailOf givens asked (reverse script)) (taken old) (taken middle) (taken new) first second.output)
+    (second.sound ∙ sound)
+so_tailed taken faults old middle new hash givens on asked script (Err e) result first sound second has ok early =
+    let late = begins_later (AreBlocksUpTo hash givens on [] script Through) (IsTailOf givens asked (reverse script)) (taken old) (taken middle) (taken new) first second.beginning in
+    so_early taken faults old new (MayWant givens asked script) (HasViewers asked) result (AreWritten hash givens on asked script) e early (record {
+      delivered = record {
+        output = tt;
+        beginning = record { whole = late.whole; is_whole = record { finish = Through; is = late.is_whole }; beginning = late.beginning };
+        fault = λ writer. let failed = second.fault (same_error e WriteFailed writer) in omega (arith, failed, sound);
+        sound = tt;
+      };
+      worker = λ wanted. has_want givens asked script has;
+      place = λ wanted. has;
+    })
+
+-- one that stopped writes none
+pub so_stopped : {W : Type 0} (taken : W → Option (List ℕ)) (faults : W → ℕ) (old new : W) (hash : Cell → ℕ) (givens : Givens) (on : OnRefusal) (asked : Option Viewing) (script : Lines) (result : Result Finish Ended) →
+    Writes (AreBlocksUpTo hash givens on [] script Stopped) (taken old) (taken new) → faults new ≡ faults old → result ≡ Ok Stopped →
+    EndsSo taken faults old new (AreWritten hash givens on asked script) (MayWant givens asked script) (HasViewers asked) result
+so_stopped taken faults old new hash givens on asked script result wrote sound met =
+    so_finished taken faults old new (MayWant givens asked script) (HasViewers asked) result (AreWritten hash givens on asked script) Stopped met
+    (record {
+      whole = wrote.whole;
+      is_whole = record { first = wrote.whole; second = []; is_first = wrote.is_whole; is_second = refl; joined = sym (append-nil wrote.whole) };
+      taken = wrote.taken;
+    })
+    sound
 
 -- ---- what a run writes as a whole
 
-module _ {W T : Type 0} (taken : W → Option (List ℕ)) (faults : W → ℕ) (old new : W) (hash : Cell → ℕ) (rows : ℕ) (parts : List (Vec ℕ Global)) (script : List ℕ) (result : Result T Ended) where
+module _ (hash : Cell → ℕ) (rows : ℕ) (parts : List (Vec ℕ Global)) (script : List ℕ) (asked : Option Viewing) where
   counted : length (givens rows parts).parts ≡ length parts
   counted = length-map parts (λ p. p.items)
 
-  pub delivers_too_much : (asked : Option Viewing) → (script_limit < length script) ⊎ (part_limit < length parts) → Delivers taken faults old new (λ bytes. bytes ≡ too_much_text asked) result →
-      Delivers taken faults old new (IsWritten hash (givens rows parts) asked script) result
-  delivers_too_much asked much d = delivers_as taken faults old new _ _ result (whole asked) d where
-    beyond : (script_limit < length script) ⊎ (part_limit < length parts) → IsTooMuch (givens rows parts) script
-    beyond (inl long) = inl long
-    beyond (inr many) = inr (omega (arith, many, counted))
+  beyond : (script_limit < length script) ⊎ (part_limit < length parts) → IsTooMuch (givens rows parts) script
+  beyond (inl long) = inl long
+  beyond (inr many) = inr (omega (arith, many, counted))
 
-    whole : (asked : Option Viewing) (bytes : List ℕ) → bytes ≡ too_much_text asked → IsWritten hash (givens rows parts) asked script bytes
-    whole None bytes is = subst (IsOutput hash (givens rows parts) script) (sym is) (output_too_much (beyond much))
-    whole (Some viewing) bytes is = record {
-      first = refusal 0 (Line Limit);
-      second = viewers_refused NoTable;
-      is_first = output_too_much (beyond much);
-      is_second = tail_too_much (beyond much);
-      joined = is;
-    }
+  -- a script beyond a limit
+  too_much_written : IsTooMuch (givens rows parts) script → (asked : Option Viewing) (bytes : List ℕ) → bytes ≡ too_much_text asked → IsWritten hash (givens rows parts) asked script bytes
+  too_much_written much None bytes is = subst (IsOutput hash (givens rows parts) script) (sym is) (output_too_much much)
+  too_much_written much (Some viewing) bytes is = record {
+    first = refusal 0 (Line Limit);
+    second = viewers_refused NoTable;
+    is_first = output_too_much much;
+    is_second = tail_too_much much;
+    joined = is;
+  }
 
-  pub delivers_lines : (asked : Option Viewing) → length script ≤ script_limit → length parts ≤ part_limit →
-      Delivers taken faults old new (InTwo (AreBlocks hash (givens rows parts) [] (lines script)) (IsTailOf (givens rows parts) asked (reverse (lines script)))) result →
-      Delivers taken faults old new (IsWritten hash (givens rows parts) asked script) result
-  delivers_lines asked short few d = delivers_as taken faults old new _ _ result (whole asked) d where
-    whole : (asked : Option Viewing) (bytes : List ℕ) → InTwo (AreBlocks hash (givens rows parts) [] (lines script)) (IsTailOf (givens rows parts) asked (reverse (lines script))) bytes → IsWritten hash (givens rows parts) asked script bytes
-    whole None bytes two = subst (IsOutput hash (givens rows parts) script) (sym (two.joined ∙ ap (λ t. two.first ++ t) two.is_second ∙ append-nil two.first))
-        (output_of_lines short (omega (arith, few, counted)) two.is_first)
-    whole (Some viewing) bytes two = record {
-      first = two.first;
-      second = two.second;
-      is_first = output_of_lines short (omega (arith, few, counted)) two.is_first;
-      is_second = tail_of_lines short (omega (arith, few, counted)) two.is_second;
-      joined = two.joined;
-    }
+  pub too_much_by_run : (on : OnRefusal) → (script_limit < length script) ⊎ (part_limit < length parts) → (bytes : List ℕ) → bytes ≡ too_much_by on asked →
+      IsRunBy on hash (givens rows parts) asked script (finish_of_refused on) bytes
+  too_much_by_run GoesOn much bytes is = too_much_written (beyond much) asked bytes is
+  too_much_by_run Stops much bytes is = subst (IsStrict hash (givens rows parts) asked script Stopped) (sym is) (strict_too_much (beyond much))
+
+  -- one within them
+  all_written : length script ≤ script_limit → length (givens rows parts).parts ≤ part_limit → (asked : Option Viewing) (finish : Finish) (bytes : List ℕ) →
+      AreWritten hash (givens rows parts) GoesOn asked (lines script) finish bytes → IsRunBy GoesOn hash (givens rows parts) asked script finish bytes
+  all_written short few None Through bytes two = subst (IsOutput hash (givens rows parts) script) (sym (two.joined ∙ ap (λ t. two.first ++ t) two.is_second ∙ append-nil two.first))
+      (output_of_lines short few (all_blocks two.is_first).1)
+  all_written short few (Some viewing) Through bytes two = record {
+    first = two.first;
+    second = two.second;
+    is_first = output_of_lines short few (all_blocks two.is_first).1;
+    is_second = tail_of_lines short few two.is_second;
+    joined = two.joined;
+  }
+  all_written short few asked Stopped bytes two = let bad : Stopped ≡ Through = (all_blocks two.is_first).0 in absurd cc
+
+  pub written_by_run : (on : OnRefusal) → length script ≤ script_limit → length parts ≤ part_limit → (finish : Finish) (bytes : List ℕ) →
+      AreWritten hash (givens rows parts) on asked (lines script) finish bytes → IsRunBy on hash (givens rows parts) asked script finish bytes
+  written_by_run GoesOn short few finish bytes two = all_written short (omega (arith, few, counted)) asked finish bytes two
+  written_by_run Stops short few finish bytes two = strict_of_lines short (omega (arith, few, counted)) two
+
+  module _ {W : Type 0} (taken : W → Option (List ℕ)) (faults : W → ℕ) (old new : W) (result : Result Finish Ended) (on : OnRefusal) where
+    pub ends_too_much : (script_limit < length script) ⊎ (part_limit < length parts) → Ends taken faults old new (λ bytes. bytes ≡ too_much_by on asked) ⊥ ⊥ result → IfOk result (λ finish. finish ≡ finish_of_refused on) →
+        EndsBy on hash taken faults old new (givens rows parts) asked script result
+    ends_too_much much ends finish = record {
+      ends = record {
+        delivered = delivers_as taken faults old new _ _ result (λ bytes is. record { finish = finish_of_refused on; is = too_much_by_run on much bytes is }) ends.delivered;
+        worker = λ late. absurd (ends.worker late);
+        place = λ late. absurd (ends.place late);
+      };
+      wrote = wrote result ends.delivered.output finish;
+    } where
+      wrote : (r : Result Finish Ended) → OnOk r (Writes (λ bytes. bytes ≡ too_much_by on asked) (taken old) (taken new)) → IfOk r (λ finish. finish ≡ finish_of_refused on) →
+          IfOk r (λ finish. Writes (IsRunBy on hash (givens rows parts) asked script finish) (taken old) (taken new))
+      wrote (Ok finish) w is = rw is (record { whole = w.whole; is_whole = too_much_by_run on much w.whole w.is_whole; taken = w.taken })
+      wrote (Err e) w is = tt
+
+    pub ends_within : length script ≤ script_limit → length parts ≤ part_limit → EndsLines on hash taken faults old new (givens rows parts) asked (lines script) result →
+        EndsBy on hash taken faults old new (givens rows parts) asked script result
+    ends_within short few ends = ends_so_as taken faults old new _ _ result _ _ (written_by_run on short few) ends
+
+-- a run that goes on writes what the script does
+went_on : (hash : Cell → ℕ) (givens : Givens) (asked : Option Viewing) (script bytes : List ℕ) → HoweverFinished (IsRunBy GoesOn hash givens asked script) bytes → IsWritten hash givens asked script bytes
+went_on hash givens asked script bytes p = go p.finish p.is where
+  go : (finish : Finish) → IsRunBy GoesOn hash givens asked script finish bytes → IsWritten hash givens asked script bytes
+  go Through is = is
+  go Stopped is = absurd is
+
+pub ends_going_on : {W : Type 0} (on : OnRefusal) (hash : Cell → ℕ) (taken : W → Option (List ℕ)) (faults : W → ℕ) (old new : W) (givens : Givens) (asked : Option Viewing) (script : List ℕ) (result : Result Finish Ended) → on ≡ GoesOn →
+    EndsBy on hash taken faults old new givens asked script result → EndsRun hash taken faults old new givens asked script result
+ends_going_on GoesOn hash taken faults old new givens asked script result goes e = record {
+  delivered = delivers_as taken faults old new _ _ result (went_on hash givens asked script) e.ends.delivered;
+  worker = e.ends.worker;
+  place = e.ends.place;
+}
+ends_going_on Stops hash taken faults old new givens asked script result goes e = absurd cc
+
+-- whoever asks for its end alone
+module _ {W S T : Type 0} (taken : W → Option (List ℕ)) (faults : W → ℕ) (old new : W) (IsWhole : List ℕ → Type 0) (Asks Views : Type 0) (result : Result S Ended) where
+  pub ends_ok : (x : S) (y : T) → result ≡ Ok x → Ends taken faults old new IsWhole Asks Views result → Ends {T = T} taken faults old new IsWhole Asks Views (Ok y)
+  ends_ok x y met e = let ends = rw met at e in record {
+    delivered = record { output = ends.delivered.output; beginning = tt; fault = λ late. absurd cc; sound = ends.delivered.sound };
+    worker = λ late. absurd cc;
+    place = λ late. absurd cc;
+  }
+
+  pub ends_err : (why : Ended) → result ≡ Err why → Ends taken faults old new IsWhole Asks Views result → Ends {T = T} taken faults old new IsWhole Asks Views (Err why)
+  ends_err why met e = let ends = rw met at e in record {
+    delivered = record { output = tt; beginning = ends.delivered.beginning; fault = λ late. ends.delivered.fault (same_error why WriteFailed late); sound = tt };
+    worker = λ late. ends.worker (same_error why NoWorker late);
+    place = λ late. ends.place (same_error why NotShown late);
+  }
 
 -- ---- how a tail is delivered
 

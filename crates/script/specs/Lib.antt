@@ -11,5 +11,6 @@ pub mod Listings
 pub mod Output
 pub mod Says
 pub mod Statements
+pub mod Stops
 pub mod Tails
 pub mod Viewers

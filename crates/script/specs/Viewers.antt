@@ -1,5 +1,5 @@
 -- A run that may have viewers beside it.
-use Rattle.std.specs.Prelude.{◌≡◌, ℕ, List, [], ◌++◌, Option, Some, None, Result, Err, ⊤, length, reverse}
+use Rattle.std.specs.Prelude.{◌≡◌, ◌≤◌, ℕ, List, [], ◌++◌, IfOk, Option, Some, None, Result, Err, ⊤, length, reverse}
 use Rattle.std.specs.Borrow.{Bor}
 use Rattle.std.specs.List.{AllByRecursion}
 use Rattle.std.specs.Str.Lines.{lines}
@@ -11,13 +11,20 @@ use Rattle.script.specs.declared.fault.Fault.TheVariants.{Line}
 use Rattle.board.specs.Editions.{Editions}
 use Rattle.board.specs.Editions as keeper
 use Rattle.query.specs.Plans.{PlanTree}
+use Rattle.report.specs.Waiting.{Waits}
 use Rattle.report.specs.Watching.{Sight, Watch}
-use Rattle.script.specs.Endings.{AsksForWorkers, Ends}
+use Rattle.script.specs.Endings.{AsksForWorkers, Ends, Writes}
 use Rattle.script.specs.Givens.{Givens}
-use Rattle.script.specs.Output.{AreBlocks, InTwo, IsOutput, refusal}
+use Rattle.script.specs.Limits.{part_limit, script_limit}
+use Rattle.script.specs.Output.{InTwo, IsOutput, IsTooMuch, refusal}
 use Rattle.script.specs.Says.{MeansPlan, Says}
+use Rattle.script.specs.Stops.{AreBlocksUpTo, GoesOver, HoweverFinished}
 use Rattle.script.specs.Tails.{IsLive, IsTailBehind, Viewing, view_heading, viewers_refused}
 use Rattle.script.specs.declared.ended.Ended.{Ended}
+use Rattle.script.specs.declared.finish.Finish.{Finish}
+use Rattle.script.specs.declared.finish.Finish.TheVariants.{Stopped, Through}
+use Rattle.script.specs.declared.on_refusal.OnRefusal.{OnRefusal}
+use Rattle.script.specs.declared.on_refusal.OnRefusal.TheVariants.{GoesOn, Stops}
 use Rattle.script.specs.declared.stage.Stage.{Stage}
 use Rattle.script.specs.declared.stage.Stage.TheVariants.{Begun, Expected, Turned}
 use Rattle.script.specs.declared.viewing.Viewing.{Viewing as Asked}
@@ -89,12 +96,61 @@ abbrev pub EndsRun : {W T : Type 0} → (Cell → ℕ) → (W → Option (List �
 EndsRun hash taken faults old new givens asked script result =
     Ends taken faults old new (IsWritten hash givens asked script) (MayWant givens asked (lines script)) (HasViewers asked) result
 
+-- what comes behind the blocks of a run that is so finished: nothing, where it stopped
+abbrev pub IsTailAfter : Finish → Givens → Option Viewing → List (List ℕ) → List ℕ → Type 0
+IsTailAfter Through givens asked before bytes = IsTailOf givens asked before bytes
+IsTailAfter Stopped givens asked before bytes = bytes ≡ []
+
+-- what a run of these lines writes that is so finished
+abbrev pub AreWritten : (Cell → ℕ) → Givens → OnRefusal → Option Viewing → List (List ℕ) → Finish → List ℕ → Type 0
+AreWritten hash givens on asked script finish bytes = InTwo (AreBlocksUpTo hash givens on [] script finish) (IsTailAfter finish givens asked (reverse script)) bytes
+
+-- what a strict run writes that is so finished: its last line is the first that is refused; a script beyond a limit is
+-- refused as a whole
+pub data IsStrict (hash : Cell → ℕ) (givens : Givens) (asked : Option Viewing) (script : List ℕ) : Finish → List ℕ → Type 0 where
+  too_much : IsTooMuch givens script → IsStrict hash givens asked script Stopped (refusal 0 (Line Limit))
+  of_lines : {finish : Finish} {bytes : List ℕ} → length script ≤ script_limit → length givens.parts ≤ part_limit →
+      AreWritten hash givens Stops asked (lines script) finish bytes → IsStrict hash givens asked script finish bytes
+
+-- what a run writes as a whole that is so finished: one that is not strict goes through
+abbrev pub IsRunBy : OnRefusal → (Cell → ℕ) → Givens → Option Viewing → List ℕ → Finish → List ℕ → Type 0
+IsRunBy GoesOn hash givens asked script Through bytes = IsWritten hash givens asked script bytes
+IsRunBy GoesOn hash givens asked script Stopped bytes = ⊥
+IsRunBy Stops hash givens asked script finish bytes = IsStrict hash givens asked script finish bytes
+
+-- how a run ends that writes this, by how it is finished
+pub record EndsSo {W : Type 0} (taken : W → Option (List ℕ)) (faults : W → ℕ) (old new : W) (Is : Finish → List ℕ → Type 0) (Asks Views : Type 0) (result : Result Finish Ended) : Type 0 where
+  pub ends : Ends taken faults old new (HoweverFinished Is) Asks Views result
+  pub wrote : IfOk result (λ finish. Writes (Is finish) (taken old) (taken new))
+
+-- how a run ends, strict or not
+abbrev pub EndsBy : {W : Type 0} → OnRefusal → (Cell → ℕ) → (W → Option (List ℕ)) → (W → ℕ) → W → W → Givens → Option Viewing → List ℕ → Result Finish Ended → Type 0
+EndsBy on hash taken faults old new givens asked script result =
+    EndsSo taken faults old new (IsRunBy on hash givens asked script) (MayWant givens asked (lines script)) (HasViewers asked) result
+
 -- how a run of these lines ends: with their blocks, and what comes behind them
-abbrev pub EndsLines : {W T : Type 0} → (Cell → ℕ) → (W → Option (List ℕ)) → (W → ℕ) → W → W → Givens → Option Viewing → List (List ℕ) → Result T Ended → Type 0
-EndsLines hash taken faults old new givens asked script result =
-    Ends taken faults old new (InTwo (AreBlocks hash givens [] script) (IsTailOf givens asked (reverse script))) (MayWant givens asked script) (HasViewers asked) result
+abbrev pub EndsLines : {W : Type 0} → OnRefusal → (Cell → ℕ) → (W → Option (List ℕ)) → (W → ℕ) → W → W → Givens → Option Viewing → List (List ℕ) → Result Finish Ended → Type 0
+EndsLines on hash taken faults old new givens asked script result =
+    EndsSo taken faults old new (AreWritten hash givens on asked script) (MayWant givens asked script) (HasViewers asked) result
+
+-- how it ends early
+abbrev pub EndsEarly : {W : Type 0} → OnRefusal → (Cell → ℕ) → (W → Option (List ℕ)) → (W → ℕ) → W → W → Givens → Option Viewing → List (List ℕ) → Ended → Type 0
+EndsEarly on hash taken faults old new givens asked script e =
+    Ends {T = Finish} taken faults old new (HoweverFinished (AreWritten hash givens on asked script)) (MayWant givens asked script) (HasViewers asked) (Err e)
+
+-- the lines were gone over, with viewers beside them
+pub record GoesOverBeside {W : Type 0} (taken : W → Option (List ℕ)) (faults : W → ℕ) (old new : W) (hash : Cell → ℕ) (givens : Givens) (on : OnRefusal) (asked : Option Viewing) (script : List (List ℕ))
+    (desk : Option Editions) (waits : Waits) (stage : Stage) (watches : List Watch) (finish : Finish) : Type 0 where
+  pub over : GoesOver (taken old) (taken new) hash givens on script desk waits finish
+  pub attended : HasAttended asked desk stage watches
+  pub sound : faults new ≡ faults old
 
 -- what is written for a script beyond a limit
 abbrev pub too_much_text : Option Viewing → List ℕ
 too_much_text None = refusal 0 (Line Limit)
 too_much_text (Some viewing) = refusal 0 (Line Limit) ++ viewers_refused NoTable
+
+-- the same of a run that is strict or not: a strict one writes nothing behind a refusal
+abbrev pub too_much_by : OnRefusal → Option Viewing → List ℕ
+too_much_by GoesOn asked = too_much_text asked
+too_much_by Stops asked = refusal 0 (Line Limit)

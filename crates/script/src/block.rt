@@ -4,6 +4,7 @@ ghost use Rattle.std.specs.FinMap.{keys};
 ghost use Rattle.std.specs.List.{flat_map};
 ghost use Rattle.trie.specs.Shapes.{shape_of};
 ghost use Rattle.board.specs.Editions as editions;
+ghost use Rattle.script.specs.Blocks.{is_refused, quiet};
 ghost use Rattle.script.specs.Output.{heading, refusal, shape_line, shape_text};
 ghost use Rattle.script.specs.Tails.{viewers_refused};
 ghost use Rattle.script.specs.Viewers.{view_block};
@@ -20,8 +21,34 @@ use trie::Prefix;
 /// What a line gives: its block, or what its report asks.
 #[derive(Drop)]
 pub enum Block<H: KeyHash<Cell>> {
+    /// The block of an accepted line, which may be no text at all.
     Text(Vec<u8>),
+    /// That of a refused one.
+    Refusal(Vec<u8>),
     Report(Asked<H>),
+}
+
+impl<H: KeyHash<Cell>> Block<H> {
+    /// What a line gives that writes nothing where it is accepted. It takes no memory.
+    pub fn quiet(text: Vec<u8>) -> Block<H>
+        ensures { result ≡ quiet text }
+    {
+        if text.is_empty() {
+            return Block::Text(text);
+        }
+        Block::Refusal(text)
+    }
+
+    /// Whether the line is refused. It takes no memory.
+    pub fn is_refused(&self) -> bool
+        ensures { result ≡ is_refused self.now }
+    {
+        match self {
+            Block::Text(_) => false,
+            Block::Refusal(_) => true,
+            Block::Report(_) => false,
+        }
+    }
 }
 
 /// A report that is still to be answered: the heading of its block, the edition that stood published at its line, and

@@ -5,8 +5,11 @@ ghost use Rattle.cells.specs.declared.cell.Cell.{Cell as CellValue};
 ghost use Rattle.script.specs.Deeds.{Shapes};
 ghost use Rattle.script.specs.Givens.{Givens};
 ghost use Rattle.script.specs.Output.{AreBlocks, InThree, InTwo, IsBlock, IsOutput, deed_behind, text_of};
+ghost use Rattle.script.specs.Stops.{AreBlocksUpTo, StoppedAt};
 ghost use Rattle.script.specs.Tails.{IsLive, IsTail, Viewing};
 
+use crate::finish::Finish;
+use crate::on_refusal::OnRefusal;
 use query::{a_text_has_one_answer, each_text_has_an_answer};
 
 /// Each script has an output, and no other: what it writes is decided by its lines, its parts and the hash.
@@ -24,6 +27,15 @@ pub fn each_line_by_itself()
     ensures { (hash : CellValue → ℕ) (givens : Givens) (earlier : List (List ℕ)) (line : List ℕ) (later : List (List ℕ)) (bytes : List ℕ) →
         AreBlocks hash givens [] (earlier ++ line ∷ later) bytes →
         InThree (AreBlocks hash givens [] earlier) (IsBlock hash givens (reverse earlier) line) (AreBlocks hash givens (line ∷ reverse earlier) later) bytes }
+{}
+
+/// A strict run writes the blocks of the lines up to the first refused one, and with it; where no line is refused, the blocks
+/// of all lines.
+pub fn strict_stops_at_the_first_refused_line()
+    ensures through { (hash : CellValue → ℕ) (givens : Givens) (lines : List (List ℕ)) (bytes : List ℕ) →
+        AreBlocksUpTo hash givens OnRefusal.Stops [] lines Finish.Through bytes → AreBlocks hash givens [] lines bytes }
+    ensures stopped { (hash : CellValue → ℕ) (givens : Givens) (lines : List (List ℕ)) (bytes : List ℕ) →
+        AreBlocksUpTo hash givens OnRefusal.Stops [] lines Finish.Stopped bytes → StoppedAt hash givens [] lines bytes }
 {}
 
 /// The hash of keys decides the blocks of shapes alone: any other line has the same block under every

@@ -8,6 +8,7 @@ mod closing;
 mod command;
 mod ended;
 mod fault;
+mod finish;
 mod gallery;
 mod hash_choice;
 mod how;
@@ -16,6 +17,7 @@ mod limits;
 mod lines;
 mod listing;
 mod load_line;
+mod on_refusal;
 mod reporting;
 mod running;
 mod setup;
@@ -26,15 +28,17 @@ mod unstarted;
 mod viewing;
 
 pub use ended::Ended;
+pub use finish::Finish;
 pub use hash_choice::HashChoice;
 pub use how::How;
 pub use laws::{
     each_line_by_itself, each_script_has_one_output, hash_decides_shapes_alone,
-    live_writes_the_output_first, worked_scripts,
+    live_writes_the_output_first, strict_stops_at_the_first_refused_line, worked_scripts,
 };
 pub use limits::{
     DEPTH, Limits, MAX_PARTS, MAX_SCRIPT_BYTES, ROWS, SHOTS, SMALL, VIEWERS, WORKERS,
 };
+pub use on_refusal::OnRefusal;
 pub use running::{live, run, run_by, run_last};
 pub use setup::Setup;
 pub use viewing::Viewing;

@@ -23,7 +23,7 @@ pub fn execute_report<H: KeyHash<Cell>>(
         Ok(plan) => ask(alloc, keeper, plan, number),
         Err(fault) => {
             let block = refusal_block(alloc, number, Fault::Line(fault))?;
-            Ok(Block::Text(block))
+            Ok(Block::Refusal(block))
         }
     }
 }

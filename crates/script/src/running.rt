@@ -1,5 +1,5 @@
 //! Runs a script: one keeper, line after line, and a block of output for each line that has one.
-ghost use Rattle.std.specs.Prelude.{◌≡◌, ◌⊎◌, ◌+◌, ◌<◌, ◌≤◌, ◌^◌, [], length, IfOk, IsErrOf, OnOk};
+ghost use Rattle.std.specs.Prelude.{◌≡◌, ◌⊎◌, ◌+◌, ◌<◌, ◌≤◌, ◌^◌, [], length, Err, IfErr, IfOk, IsErrOf, MatchResult, Ok, OnOk};
 ghost use Rattle.std.specs.Str.Lines.{lines};
 ghost use Rattle.report.specs.Waiting.{AwaitsThen, WritesOn};
 ghost use Rattle.report.specs.declared.unwritten.Unwritten.TheVariants as unwritten;
@@ -12,18 +12,21 @@ ghost use Rattle.script.specs.Limits.{script_limit};
 ghost use Rattle.script.specs.Output.{IsOutput};
 ghost use Rattle.script.specs.Desks.{IsFresh};
 ghost use Rattle.script.specs.Tails.{IsLive};
-ghost use Rattle.script.specs.Viewers.{EndsLines, EndsRun, asked_of, too_much_text};
+ghost use Rattle.script.specs.Stops.{finish_of_refused};
+ghost use Rattle.script.specs.Viewers.{EndsBy, EndsEarly, EndsLines, EndsRun, GoesOverBeside, asked_of, too_much_by, too_much_text};
 ghost use Rattle.script.specs.declared.stage.Stage.TheVariants as Stage;
 
 use crate::block::{Asked, Block, refusal_block, viewers_refused_line};
 use crate::closing::Closing;
 use crate::ended::Ended;
 use crate::fault::Fault;
+use crate::finish::Finish;
 use crate::gallery::Gallery;
 use crate::hash_choice::HashChoice;
 use crate::how::How;
 use crate::limits::{MAX_PARTS, MAX_SCRIPT_BYTES};
 use crate::lines::lines_of;
+use crate::on_refusal::OnRefusal;
 use crate::setup::Setup;
 use crate::step::{Line, execute};
 use crate::viewing::Viewing;
@@ -78,9 +81,10 @@ pub fn run<
         how,
         parts,
         viewing: None,
+        on_refusal: OnRefusal::GoesOn,
         gate,
     };
-    run_whole::<H, O, G, R>(&setup, script, out, Closing::GivesBack)
+    run_through::<H, O, G, R>(&setup, script, out)
 }
 
 /// Runs a script with viewers beside it. Once a table is declared, `viewers` threads start, of which each takes a snapshot
@@ -128,9 +132,10 @@ pub fn live<
         how,
         parts,
         viewing: Some(viewing),
+        on_refusal: OnRefusal::GoesOn,
         gate,
     };
-    run_whole::<H, O, G, R>(&setup, script, out, Closing::GivesBack)
+    run_through::<H, O, G, R>(&setup, script, out)
 }
 
 /// [`run`] with the hash of this choice. Only the blocks of shapes depend on it.
@@ -155,16 +160,22 @@ pub fn run_by<O: Out, G: Gate, R: Threads + Wait + Sync>(
     }
 }
 
-/// [`run`] or [`live`], by what viewers are asked, with the hash of this choice, for a program that ends behind it, however the
+/// [`run`] or [`live`], by what viewers are asked, with the hash of this choice, for a program that ends after it, however the
 /// run ends: the table's memory is left to the system.
+///
+/// A run that stops at refusals ([`OnRefusal::Stops`]) is strict. Its last line is the first refused one: where it answers
+/// [`Finish::Stopped`], the bytes that the writer took are the blocks of the lines up to that one, and nothing of viewers.
+/// A script that is refused as a whole stops it, too. Where it answers [`Finish::Through`], no line was refused. Where it
+/// ends early, a beginning of such bytes was taken.
 pub fn run_last<O: Out, G: Gate, R: Threads + Wait + Sync>(
     setup: &Setup<'_, R, G>,
     hash: HashChoice,
     script: &[u8],
     out: &mut O,
-) -> Result<(), Ended>
+) -> Result<Finish, Ended>
     requires { O.faults out.old + 1 < 2 ^ 64 }
-    ensures { EndsRun (hash_of_choice hash) O.taken O.faults out.old out.new (givens setup.now.how.now.rows setup.now.parts.now) (asked_of setup.now.viewing) script.now result }
+    ensures by { EndsBy setup.now.on_refusal (hash_of_choice hash) O.taken O.faults out.old out.new (givens setup.now.how.now.rows setup.now.parts.now) (asked_of setup.now.viewing) script.now result }
+    ensures goes_on { setup.now.on_refusal ≡ OnRefusal.GoesOn → EndsRun (hash_of_choice hash) O.taken O.faults out.old out.new (givens setup.now.how.now.rows setup.now.parts.now) (asked_of setup.now.viewing) script.now result }
 {
     let closing = Closing::LeavesToSystem;
     match hash {
@@ -173,18 +184,35 @@ pub fn run_last<O: Out, G: Gate, R: Threads + Wait + Sync>(
     }
 }
 
-/// [`run`] or [`live`], by what viewers are asked, with what becomes of the table at the end.
+/// [`run`] or [`live`], by what viewers are asked.
+fn run_through<
+    H: KeyHash<Cell> + KeyHash<Tuple> + Send + Sync,
+    O: Out,
+    G: Gate,
+    R: Threads + Wait + Sync,
+>(setup: &Setup<'_, R, G>, script: &[u8], out: &mut O) -> Result<(), Ended>
+    requires faults { O.faults out.old + 1 < 2 ^ 64 }
+    requires goes_on { setup.now.on_refusal ≡ OnRefusal.GoesOn }
+    ensures { EndsRun H.KeyHash-1.hash_of O.taken O.faults out.old out.new (givens setup.now.how.now.rows setup.now.parts.now) (asked_of setup.now.viewing) script.now result }
+{
+    match run_whole::<H, O, G, R>(setup, script, out, Closing::GivesBack) {
+        Ok(_) => Ok(()),
+        Err(why) => Err(why),
+    }
+}
+
+/// [`run_last`], with what becomes of the table at the end.
 fn run_whole<
     H: KeyHash<Cell> + KeyHash<Tuple> + Send + Sync,
     O: Out,
     G: Gate,
     R: Threads + Wait + Sync,
->(setup: &Setup<'_, R, G>, script: &[u8], out: &mut O, closing: Closing) -> Result<(), Ended>
+>(setup: &Setup<'_, R, G>, script: &[u8], out: &mut O, closing: Closing) -> Result<Finish, Ended>
     requires { O.faults out.old + 1 < 2 ^ 64 }
-    ensures { EndsRun H.KeyHash-1.hash_of O.taken O.faults out.old out.new (givens setup.now.how.now.rows setup.now.parts.now) (asked_of setup.now.viewing) script.now result }
+    ensures { EndsBy setup.now.on_refusal H.KeyHash-1.hash_of O.taken O.faults out.old out.new (givens setup.now.how.now.rows setup.now.parts.now) (asked_of setup.now.viewing) script.now result }
 {
     if script.len() > MAX_SCRIPT_BYTES || setup.parts.len() > MAX_PARTS {
-        return write_too_much(setup, out);
+        return refuse_whole(setup, out);
     }
     run_lines::<H, O, G, R>(setup, script, out, closing)
 }
@@ -196,18 +224,18 @@ fn run_lines<
     O: Out,
     G: Gate,
     R: Threads + Wait + Sync,
->(setup: &Setup<'_, R, G>, script: &[u8], out: &mut O, closing: Closing) -> Result<(), Ended>
+>(setup: &Setup<'_, R, G>, script: &[u8], out: &mut O, closing: Closing) -> Result<Finish, Ended>
     requires faults { O.faults out.old + 1 < 2 ^ 64 }
     requires short { length script.now ≤ script_limit }
-    ensures { EndsLines H.KeyHash-1.hash_of O.taken O.faults out.old out.new (givens setup.now.how.now.rows setup.now.parts.now) (asked_of setup.now.viewing) (lines script.now) result }
+    ensures { EndsLines setup.now.on_refusal H.KeyHash-1.hash_of O.taken O.faults out.old out.new (givens setup.now.how.now.rows setup.now.parts.now) (asked_of setup.now.viewing) (lines script.now) result }
 {
     let (ended, _out) = thread::scope(
         thread::scope_env(),
         setup.rt,
-        move |scope| -> (Result<(), Ended>, &mut O)
+        move |scope| -> (Result<Finish, Ended>, &mut O)
             requires { (O.faults out.now + 1 < 2 ^ 64) × (length script.now ≤ script_limit) }
             ensures same { result.1.ghost_name ≡ out.entry.ghost_name }
-            ensures ends { EndsLines H.KeyHash-1.hash_of O.taken O.faults out.entry.now result.1.now (givens setup.entry.now.how.now.rows setup.entry.now.parts.now) (asked_of setup.entry.now.viewing) (lines script.entry.now) result.0 }
+            ensures ends { EndsLines setup.entry.now.on_refusal H.KeyHash-1.hash_of O.taken O.faults out.entry.now result.1.now (givens setup.entry.now.how.now.rows setup.entry.now.parts.now) (asked_of setup.entry.now.viewing) (lines script.entry.now) result.0 }
         {
             let starter = Starter {
                 scope,
@@ -250,12 +278,49 @@ fn run_beside<
     backlog: &mut Backlog<H>,
     gallery: &mut Gallery<H>,
     out: &mut O,
-) -> Result<(), Ended>
+) -> Result<Finish, Ended>
     requires faults { O.faults out.old + 1 < 2 ^ 64 }
     requires short { length script.now ≤ script_limit }
     requires fresh { IsFresh desk.old × (backlog.old ≡ record { reports = []; after = [] }) }
     requires nobody { (gallery.old.stage ≡ Stage.Expected) × (gallery.old.audience.watches ≡ []) }
-    ensures { EndsLines H.KeyHash-1.hash_of O.taken O.faults out.old out.new (givens setup.now.how.now.rows setup.now.parts.now) (asked_of setup.now.viewing) (lines script.now) result }
+    ensures { EndsLines setup.now.on_refusal H.KeyHash-1.hash_of O.taken O.faults out.old out.new (givens setup.now.how.now.rows setup.now.parts.now) (asked_of setup.now.viewing) (lines script.now) result }
+{
+    // The law by which what was written is a beginning of an output, where a report ends the run; it does
+    // nothing.
+    each_text_has_an_answer();
+    let gone = go_over(setup, starter, script, desk, backlog, gallery, out)?;
+    backlog.finish(setup.rt, out)?;
+    match gone {
+        Finish::Through => through(gallery.write_tail(setup, desk, out)),
+        Finish::Stopped => Ok(Finish::Stopped),
+    }
+}
+
+/// Goes over the lines: does what each says, and adds what it gives to what is written or waits. A refused line is the last
+/// where the run is strict.
+fn go_over<
+    's,
+    'e: 's,
+    H: KeyHash<Cell> + KeyHash<Tuple> + Send + Sync + 's,
+    O: Out,
+    G: Gate,
+    R: Threads + Wait + Sync,
+>(
+    setup: &Setup<'_, R, G>,
+    starter: &Starter<'_, 's, 'e, R, G>,
+    script: &[u8],
+    desk: &mut Option<Keeper<H>>,
+    backlog: &mut Backlog<H>,
+    gallery: &mut Gallery<H>,
+    out: &mut O,
+) -> Result<Finish, Ended>
+    requires faults { O.faults out.old + 1 < 2 ^ 64 }
+    requires short { length script.now ≤ script_limit }
+    requires fresh { IsFresh desk.old × (backlog.old ≡ record { reports = []; after = [] }) }
+    requires nobody { (gallery.old.stage ≡ Stage.Expected) × (gallery.old.audience.watches ≡ []) }
+    ensures { MatchResult result
+        (GoesOverBeside O.taken O.faults out.old out.new H.KeyHash-1.hash_of (givens setup.now.how.now.rows setup.now.parts.now) setup.now.on_refusal (asked_of setup.now.viewing) (lines script.now) desk.new backlog.new gallery.new.stage gallery.new.audience.watches)
+        (EndsEarly setup.now.on_refusal H.KeyHash-1.hash_of O.taken O.faults out.old out.new (givens setup.now.how.now.rows setup.now.parts.now) (asked_of setup.now.viewing) (lines script.now)) }
 {
     // The law by which what was written is a beginning of an output, where a line ends the run; it does
     // nothing.
@@ -265,10 +330,24 @@ fn run_beside<
         number += 1;
         let block = execute(setup, desk, Line { number, bytes })?;
         gallery.attend(setup, starter, desk)?;
+        let stops = setup.on_refusal.stops(block.is_refused());
         add(starter, backlog, out, block)?;
+        if stops {
+            return Ok(Finish::Stopped);
+        }
     }
-    backlog.finish(setup.rt, out)?;
-    gallery.write_tail(setup, desk, out)
+    Ok(Finish::Through)
+}
+
+/// The finish of a run that went through, and then wrote its tail.
+fn through(tail: Result<(), Ended>) -> Result<Finish, Ended>
+    ensures ok { IfOk tail (λ _. result ≡ Ok Finish.Through) }
+    ensures early { IfErr tail (λ e. result ≡ Err e) }
+{
+    match tail {
+        Ok(()) => Ok(Finish::Through),
+        Err(why) => Err(why),
+    }
 }
 
 /// What a line gave comes behind all that waits: its text, or the report that it asks for, which is started.
@@ -292,6 +371,7 @@ fn add<
 {
     match block {
         Block::Text(text) => backlog.say(out, text.as_slice()),
+        Block::Refusal(text) => backlog.say(out, text.as_slice()),
         Block::Report(asked) => {
             let Asked {
                 heading,
@@ -303,17 +383,36 @@ fn add<
     }
 }
 
-/// Delivers the output of a script that is too long, or of too many parts, and behind it the tail where there are viewers.
-#[tactic(auto, using(report::specs::Laws::takes_nothing))]
-fn write_too_much<O: Out, R, G: Gate>(setup: &Setup<'_, R, G>, out: &mut O) -> Result<(), Ended>
+/// Refuses a script that is too long, or of too many parts. A run that goes on has the tail of its viewers after the refusal.
+fn refuse_whole<O: Out, R, G: Gate>(setup: &Setup<'_, R, G>, out: &mut O) -> Result<Finish, Ended>
     requires { O.faults out.old + 1 < 2 ^ 64 }
-    ensures { Ends O.taken O.faults out.old out.new (λ bytes. bytes ≡ too_much_text (asked_of setup.now.viewing)) ⊥ ⊥ result }
+    ensures ends { Ends O.taken O.faults out.old out.new (λ bytes. bytes ≡ too_much_by setup.now.on_refusal (asked_of setup.now.viewing)) ⊥ ⊥ result }
+    ensures finish { IfOk result (λ finish. finish ≡ finish_of_refused setup.now.on_refusal) }
 {
-    let text = too_much_block(setup.alloc, setup.viewing)?;
+    let finish = setup.on_refusal.finish_of_refused();
+    match setup.on_refusal {
+        OnRefusal::GoesOn => write_too_much(setup.alloc, setup.viewing, finish, out),
+        OnRefusal::Stops => write_too_much(setup.alloc, None, finish, out),
+    }
+}
+
+/// Delivers the output of a script that is too long, or of too many parts, and after it the tail where there are viewers.
+#[tactic(auto, using(report::specs::Laws::takes_nothing))]
+fn write_too_much<O: Out>(
+    alloc: Global,
+    viewing: Option<Viewing<&str>>,
+    finish: Finish,
+    out: &mut O,
+) -> Result<Finish, Ended>
+    requires { O.faults out.old + 1 < 2 ^ 64 }
+    ensures ends { Ends O.taken O.faults out.old out.new (λ bytes. bytes ≡ too_much_text (asked_of viewing.entry)) ⊥ ⊥ result }
+    ensures finish { IfOk result (λ told. told ≡ finish) }
+{
+    let text = too_much_block(alloc, viewing)?;
     let Ok(()) = write_whole(out, text.as_slice()) else {
         return Err(Ended::WriteFailed);
     };
-    Ok(())
+    Ok(finish)
 }
 
 /// What is written for a script that is too long, or for too many parts.

@@ -1,12 +1,13 @@
 //! What a run is made with, beside its script and its writer.
 use crate::how::How;
+use crate::on_refusal::OnRefusal;
 use crate::viewing::Viewing;
 use crew::Gate;
 use report::Answering;
 use std::alloc::Global;
 
 /// What a run is made with: where the threads of reports, viewers and workers come from, where memory comes from, how the run
-/// is made, the parts that may be loaded, what viewers are asked where there are some, and who is told of each publish, of a
+/// is made, the parts that may be loaded, what viewers are asked where there are some, what comes after a refused line, and who is told of each publish, of a
 /// report's pieces, of a load's parts and of what viewers see.
 #[derive(Drop)]
 pub struct Setup<'a, R, G: Gate> {
@@ -15,6 +16,7 @@ pub struct Setup<'a, R, G: Gate> {
     pub how: &'a How,
     pub parts: &'a [Vec<u8>],
     pub viewing: Option<Viewing<&'a str>>,
+    pub on_refusal: OnRefusal,
     pub gate: &'a G,
 }
 

@@ -4,12 +4,13 @@ ghost use Rattle.std.specs.FinMap.{remove};
 ghost use Rattle.cells.specs.Fitting.{IsRowOf};
 ghost use Rattle.board.specs.Editions.{ChangesDraft, Publishes};
 ghost use Rattle.board.specs.Editions as editions;
-ghost use Rattle.script.specs.Blocks.{Steps};
+ghost use Rattle.script.specs.Blocks.{Steps, quiet};
 ghost use Rattle.script.specs.Deeds.{deed};
 ghost use Rattle.report.specs.declared.want.Want.TheVariants as want;
 ghost use Rattle.script.specs.Endings.{HasWorkers};
 ghost use Rattle.script.specs.Givens.{givens};
 ghost use Rattle.script.specs.Limits.{script_limit};
+ghost use Rattle.script.specs.Stops.{IsQuiet};
 ghost use Rattle.script.specs.Desks.{Executes, Publishable, PutsRow, schema_of_desk};
 
 use crate::block::{Block, refusal_block, shape_block};
@@ -51,7 +52,7 @@ pub fn execute<H: KeyHash<Cell> + Send + Sync, G: Gate, R: Threads + Wait>(
     }
     let (keeper, block) = execute_first(setup, line)?;
     *desk = keeper;
-    Ok(Block::Text(block))
+    Ok(Block::quiet(block))
 }
 
 /// The same before there is a table.
@@ -61,6 +62,7 @@ fn execute_first<H: KeyHash<Cell>, G: Gate, R>(
     line: Line<'_>,
 ) -> Result<(Option<Keeper<H>>, Vec<u8>), AllocError>
     ensures step { IfOk result (λ r. Executes H.hash_of (givens setup.now.how.now.rows setup.now.parts.now) line.entry.bytes.now line.entry.number None r.0 r.1.items) }
+    ensures writes { IfOk result (λ r. IsQuiet line.entry.number r.1.items) }
 {
     let alloc = setup.alloc;
     match read_first(alloc, line.bytes) {
@@ -77,7 +79,7 @@ fn execute_first<H: KeyHash<Cell>, G: Gate, R>(
 }
 
 /// The same once there is a table.
-#[tactic(auto, using(crate::proofs::StepsLemmas::executes_nothing, crate::proofs::StepsLemmas::steps_report, crate::proofs::StepsLemmas::steps_text))]
+#[tactic(auto, using(crate::proofs::StepsLemmas::steps_nothing, crate::proofs::StepsLemmas::steps_report))]
 fn execute_kept<H: KeyHash<Cell> + Send + Sync, G: Gate, R: Threads + Wait>(
     setup: &Setup<'_, R, G>,
     keeper: &mut Keeper<H>,
@@ -95,18 +97,18 @@ fn execute_kept<H: KeyHash<Cell> + Send + Sync, G: Gate, R: Threads + Wait>(
             // The law by which loaded rows are those of puts behind all that came before; it does nothing.
             later_puts_lie_over();
             let text = execute_load(setup, keeper, listing, line.number)?;
-            Ok(Block::Text(text))
+            Ok(Block::quiet(text))
         }
-        Ok(Statement::Put(row)) => text_block(put(alloc, keeper, row, line.number)),
-        Ok(Statement::Delete(key)) => text_block(delete(alloc, keeper, key)),
-        Ok(Statement::Publish) => text_block(publish(setup, keeper)),
+        Ok(Statement::Put(row)) => quiet_block(put(alloc, keeper, row, line.number)),
+        Ok(Statement::Delete(key)) => quiet_block(delete(alloc, keeper, key)),
+        Ok(Statement::Publish) => quiet_block(publish(setup, keeper)),
         Ok(Statement::Report(query)) => Ok(execute_report(alloc, keeper, query, line.number)?),
         Ok(Statement::Shape) => {
             // The law by which the block is that of the published rows; it does nothing.
             rows_have_the_shape_of_their_keys::<H>();
             text_block(shape_block(alloc, keeper, line.number))
         }
-        Err(fault) => text_block(refusal_block(alloc, line.number, fault)),
+        Err(fault) => quiet_block(refusal_block(alloc, line.number, fault)),
     }
 }
 
@@ -118,6 +120,18 @@ fn text_block<H: KeyHash<Cell>>(text: Result<Vec<u8>, AllocError>) -> Result<Blo
 {
     match text {
         Ok(bytes) => Ok(Block::Text(bytes)),
+        Err(AllocError) => Err(Want::Memory),
+    }
+}
+
+/// What a line gives that writes nothing where it is accepted.
+fn quiet_block<H: KeyHash<Cell>>(text: Result<Vec<u8>, AllocError>) -> Result<Block<H>, Want>
+    ensures found { IfOk text (λ bytes. result ≡ Ok (quiet bytes)) }
+    ensures memory { IfErr text (λ _. result ≡ Err want.Memory) }
+    ensures worker { IsErrOf result want.Worker → ⊥ }
+{
+    match text {
+        Ok(bytes) => Ok(Block::quiet(bytes)),
         Err(AllocError) => Err(Want::Memory),
     }
 }

@@ -1,4 +1,4 @@
-use Rattle.std.proofs.Common.{◌≡◌, ◌∙◌, ◌++◌, ap, sym}
+use Rattle.std.proofs.Common.{◌≡◌, ◌∙◌, ◌++◌, ap, refl, sym}
 use Rattle.board.specs.Editions as editions
 use Rattle.script.specs.Output.{heading}
 use Rattle.script.specs.Says.{answer_of}
@@ -14,4 +14,5 @@ returns g c = record {
         has = λ answer answers. answers.is rs left (c.in-Ok.ensures.rows ∙ same);
         joined = ap (λ text. text ++ answer_of c.args.plan rs) (sym named);
       };
+  accepted = refl;
 }

@@ -1,108 +1,43 @@
-use Rattle.std.proofs.Common.{◌≡◌, ◌∙◌, Err, ap, arith, refl}
-use Rattle.std.specs.Str.Lines.{lines}
+use Rattle.std.proofs.Common.{◌∙◌, Err, ap, arith, refl}
 use Rattle.std.proofs.lemmas.Result.{err_from_is_err_and}
+use Rattle.std.specs.Str.Lines.{lines}
 use Rattle.script.specs.Givens.{givens}
-use Rattle.script.specs.Limits.{script_limit}
 use Rattle.script.specs.Viewers.{asked_of}
-use Rattle.script.proofs.EndingsLemmas.{ends_for, ends_unstarted, ends_unwritten}
-use Rattle.script.proofs.ProgressLemmas.{asked_for_workers, asks, last_first, last_first-more, length-lines, narrow_left, narrow_lines, publishable, reached_beginning, reached_end, reached_late, reached_more, reached_so_far, reached_start, stands_end, told}
-use Rattle.script.proofs.TailsLemmas.{begins_tailed, delivers_two, first_attended, has_want, if_err_of, may_attend, may_want}
+use Rattle.script.proofs.EndingsLemmas.{ends_unwritten}
+use Rattle.script.proofs.ProgressLemmas.{all_written, partly_written}
+use Rattle.script.proofs.TailsLemmas.{begins_tailed, may_want, so_early, so_stopped, so_tailed}
 use Rattle.script.proofs.running.run_beside.Goals as goal
 
-pub loop-bytes-init : goal.loop-bytes-init
-loop-bytes-init g c =
-    let all : c.into_iter-bytes-iterator.result ≡ lines c.args.script.now = c.into_iter-bytes-iterator.ensures.into_iter_gives ∙ c.lines_of-bytes-items.ensures in
-    record {
-      reached = rw (all, c.requires.fresh.0, c.requires.fresh.1)
-          (reached_start _ _ _ _ (omega (arith, length-lines c.args.script.now, c.requires.short)) (narrow_lines c.args.script.now script_limit c.requires.short));
-      attended = first_attended (asked_of c.args.setup.now.viewing) c.args.desk.now c.args.gallery.now.stage c.args.gallery.now.audience.watches c.requires.fresh.0 c.requires.nobody.0 c.requires.nobody.1;
-      sound = refl;
-    }
-
-pub execute-requires-clause-publishable : goal.execute-requires-clause-publishable
-execute-requires-clause-publishable g c =
-    λ κs outlives. publishable (givens c.args.setup.now.how.now.rows c.args.setup.now.parts.now) (last_first c.loop-bytes.yielded) c.loop-bytes.desk c.loop-bytes.invariant.reached.stands (omega (arith, c.loop-bytes.invariant.reached.short))
-
-pub execute-requires-clause-short : goal.execute-requires-clause-short
-execute-requires-clause-short g c = λ κs outlives.
-    (narrow_left _ _ g.H.KeyHash-1.hash_of (givens c.args.setup.now.how.now.rows c.args.setup.now.parts.now) (last_first c.loop-bytes.yielded) c.loop-bytes.bytes-iterator (lines c.args.script.now) c.loop-bytes.desk c.loop-bytes.backlog c.loop-bytes.number
-    c.loop-bytes.invariant.reached c.in-Some.bytes.now c.next.new.self c.in-Some.ensures.steps).0
-
-pub returns-in_err-block : goal.returns-in_err-block
-returns-in_err-block g c =
+pub returns-in_err-gone : goal.returns-in_err-gone
+returns-in_err-gone g c =
     let p = err_from_is_err_and c.from_residual.result c.from_residual.ensures.1 in
-    ends_for g.O.Out.taken g.O.Out.faults _ _ _ _ c.from_residual.result p.1
-    (begins_tailed c.each_text_has_an_answer.ensures g.H.KeyHash-1.hash_of (givens c.args.setup.now.how.now.rows c.args.setup.now.parts.now) (asked_of c.args.setup.now.viewing) (lines c.args.script.now) _ _
-    (reached_so_far _ _ g.H.KeyHash-1.hash_of (givens c.args.setup.now.how.now.rows c.args.setup.now.parts.now) (last_first c.loop-bytes.yielded) c.loop-bytes.bytes-iterator (lines c.args.script.now) c.loop-bytes.desk c.loop-bytes.backlog c.loop-bytes.number
-    c.loop-bytes.invariant.reached c.each_text_has_an_answer.ensures))
-    _ _ _ p.2
-    (λ late. may_want (givens c.args.setup.now.how.now.rows c.args.setup.now.parts.now) (asked_of c.args.setup.now.viewing) (lines c.args.script.now)
-    (asks _ _ g.H.KeyHash-1.hash_of (givens c.args.setup.now.how.now.rows c.args.setup.now.parts.now) (last_first c.loop-bytes.yielded) c.loop-bytes.bytes-iterator (lines c.args.script.now) c.loop-bytes.desk c.loop-bytes.backlog c.loop-bytes.number
-    c.loop-bytes.invariant.reached c.in-Some.bytes.now c.next.new.self c.in-Some.ensures.steps (c.in_err-block.ensures.worker (ap Err late))))
-
-pub attend-requires-clause-attend : goal.attend-requires-clause-attend
-attend-requires-clause-attend g c = λ κs outlives.
-    may_attend (asked_of c.args.setup.now.viewing) c.loop-bytes.desk c.execute.new.desk c.loop-bytes.gallery.stage c.loop-bytes.gallery.audience.watches c.in_ok-block.ensures.step.stays c.loop-bytes.invariant.attended
-
-pub returns-in_err-attend : goal.returns-in_err-attend
-returns-in_err-attend g c =
-    let p = err_from_is_err_and c.from_residual-in_err-attend.result c.from_residual-in_err-attend.ensures.1 in
-    ends_unstarted g.O.Out.taken g.O.Out.faults _ _ _ _ c.from_residual-in_err-attend.result p.1
-    (begins_tailed c.each_text_has_an_answer.ensures g.H.KeyHash-1.hash_of (givens c.args.setup.now.how.now.rows c.args.setup.now.parts.now) (asked_of c.args.setup.now.viewing) (lines c.args.script.now) _ _
-    (reached_so_far _ _ g.H.KeyHash-1.hash_of (givens c.args.setup.now.how.now.rows c.args.setup.now.parts.now) (last_first c.loop-bytes.yielded) c.loop-bytes.bytes-iterator (lines c.args.script.now) c.loop-bytes.desk c.loop-bytes.backlog c.loop-bytes.number
-    c.loop-bytes.invariant.reached c.each_text_has_an_answer.ensures))
-    _ _ _ p.2 (has_want (givens c.args.setup.now.how.now.rows c.args.setup.now.parts.now) (asked_of c.args.setup.now.viewing) (lines c.args.script.now) c.in_err-attend.ensures.asked) c.in_err-attend.ensures.asked
-
-pub loop-bytes-preserved : goal.loop-bytes-preserved
-loop-bytes-preserved g c =
-    let next = told _ _ g.H.KeyHash-1.hash_of (givens c.args.setup.now.how.now.rows c.args.setup.now.parts.now) (last_first c.loop-bytes.yielded) c.loop-bytes.bytes-iterator (lines c.args.script.now) c.loop-bytes.desk c.loop-bytes.backlog c.loop-bytes.number
-    c.loop-bytes.invariant.reached c.in-Some.bytes.now c.next.new.self c.execute.new.desk c.in_ok-block.block c.in-Some.ensures.steps c.in_ok-block.ensures.step in
-    record {
-      reached = rw (last_first-more, c.in_ok-attend.ensures.same)
-          (reached_more _ _ g.H.KeyHash-1.hash_of (givens c.args.setup.now.how.now.rows c.args.setup.now.parts.now) (last_first c.loop-bytes.yielded) c.loop-bytes.bytes-iterator (lines c.args.script.now) c.loop-bytes.desk c.loop-bytes.backlog c.loop-bytes.number
-          c.loop-bytes.invariant.reached c.in-Some.bytes.now c.next.new.self c.execute.new.desk c.in_ok-block.block c.in-Some.ensures.steps c.in_ok-block.ensures.step _ c.add.new.backlog _
-          (c.in_ok-add.ensures.goes_on.written _ (record { waiting = c.loop-bytes.invariant.reached.waiting; more = next.text; awaits = c.loop-bytes.invariant.reached.awaits; is_more = next.will; joined = refl })) c.in_ok-add.ensures.asked);
-      attended = c.in_ok-attend.ensures.attended;
-      sound = c.in_ok-add.ensures.goes_on.sound ∙ c.loop-bytes.invariant.sound;
-    }
-
-pub returns-in_err-add : goal.returns-in_err-add
-returns-in_err-add g c =
-    let p = err_from_is_err_and c.from_residual-in_err-add.result c.from_residual-in_err-add.ensures.1 in
-    let next = told _ _ g.H.KeyHash-1.hash_of (givens c.args.setup.now.how.now.rows c.args.setup.now.parts.now) (last_first c.loop-bytes.yielded) c.loop-bytes.bytes-iterator (lines c.args.script.now) c.loop-bytes.desk c.loop-bytes.backlog c.loop-bytes.number
-    c.loop-bytes.invariant.reached c.in-Some.bytes.now c.next.new.self c.execute.new.desk c.in_ok-block.block c.in-Some.ensures.steps c.in_ok-block.ensures.step in
-    ends_unwritten g.O.Out.taken g.O.Out.faults _ _ _ _ c.from_residual-in_err-add.result p.1
-    (begins_tailed c.each_text_has_an_answer.ensures g.H.KeyHash-1.hash_of (givens c.args.setup.now.how.now.rows c.args.setup.now.parts.now) (asked_of c.args.setup.now.viewing) (lines c.args.script.now) _ _
-    (reached_beginning _ _ g.H.KeyHash-1.hash_of (givens c.args.setup.now.how.now.rows c.args.setup.now.parts.now) (last_first c.loop-bytes.yielded) c.loop-bytes.bytes-iterator (lines c.args.script.now) c.loop-bytes.desk c.loop-bytes.backlog c.loop-bytes.number
-    c.loop-bytes.invariant.reached c.in-Some.bytes.now c.next.new.self c.execute.new.desk c.in_ok-block.block c.in-Some.ensures.steps c.in_ok-block.ensures.step c.each_text_has_an_answer.ensures _
-    (c.in_err-add.ensures.goes_on.written _ (record { waiting = c.loop-bytes.invariant.reached.waiting; more = next.text; awaits = c.loop-bytes.invariant.reached.awaits; is_more = next.will; joined = refl })).beginning))
-    _ _ _ p.2 (λ writer. let failed = c.in_err-add.ensures.goes_on.fault (ap Err writer) in omega (arith, failed, c.loop-bytes.invariant.sound))
-    (λ late. may_want (givens c.args.setup.now.how.now.rows c.args.setup.now.parts.now) (asked_of c.args.setup.now.viewing) (lines c.args.script.now)
-    (asked_for_workers _ _ g.H.KeyHash-1.hash_of (givens c.args.setup.now.how.now.rows c.args.setup.now.parts.now) (last_first c.loop-bytes.yielded) c.loop-bytes.bytes-iterator (lines c.args.script.now) c.loop-bytes.desk c.loop-bytes.backlog c.loop-bytes.number
-    c.loop-bytes.invariant.reached c.in-Some.bytes.now c.next.new.self c.execute.new.desk c.in_ok-block.block c.in-Some.ensures.steps c.in_ok-block.ensures.step (c.in_err-add.ensures.worker (ap Err late))))
+    so_early g.O.Out.taken g.O.Out.faults _ _ _ _ c.from_residual.result _ p.0 p.1 (rw p.2 c.in_err-gone.ensures)
 
 pub returns-in_err-finish : goal.returns-in_err-finish
 returns-in_err-finish g c =
     let p = err_from_is_err_and c.from_residual-in_err-finish.result c.from_residual-in_err-finish.ensures.1 in
-    ends_unwritten g.O.Out.taken g.O.Out.faults _ _ _ _ c.from_residual-in_err-finish.result p.1
-    (begins_tailed c.each_text_has_an_answer.ensures g.H.KeyHash-1.hash_of (givens c.args.setup.now.how.now.rows c.args.setup.now.parts.now) (asked_of c.args.setup.now.viewing) (lines c.args.script.now) _ _
-    (reached_late _ _ g.H.KeyHash-1.hash_of (givens c.args.setup.now.how.now.rows c.args.setup.now.parts.now) (last_first c.loop-bytes.yielded) c.loop-bytes.bytes-iterator (lines c.args.script.now) c.loop-bytes.desk c.loop-bytes.backlog c.loop-bytes.number
-    c.loop-bytes.invariant.reached _ c.in-None.ensures.steps.0
-    (c.in_err-finish.ensures.whole.beginning c.loop-bytes.invariant.reached.waiting c.loop-bytes.invariant.reached.awaits)))
-    _ _ _ p.2 (λ writer. let failed = c.in_err-finish.ensures.whole.fault (ap Err writer) in omega (arith, failed, c.loop-bytes.invariant.sound))
-    (λ late. may_want (givens c.args.setup.now.how.now.rows c.args.setup.now.parts.now) (asked_of c.args.setup.now.viewing) (lines c.args.script.now) (c.loop-bytes.invariant.reached.asked (c.in_err-finish.ensures.worker (ap Err late))))
-
-pub returns : goal.returns
-returns g c =
-    let first = reached_end _ _ g.H.KeyHash-1.hash_of (givens c.args.setup.now.how.now.rows c.args.setup.now.parts.now) (last_first c.loop-bytes.yielded) c.loop-bytes.bytes-iterator (lines c.args.script.now) c.loop-bytes.desk c.loop-bytes.backlog c.loop-bytes.number
-    c.loop-bytes.invariant.reached _ c.in-None.ensures.steps.0
-    (c.in_ok-finish.ensures.whole.written c.loop-bytes.invariant.reached.waiting c.loop-bytes.invariant.reached.awaits) in
-    let stands = stands_end _ _ g.H.KeyHash-1.hash_of (givens c.args.setup.now.how.now.rows c.args.setup.now.parts.now) (last_first c.loop-bytes.yielded) c.loop-bytes.bytes-iterator (lines c.args.script.now) c.loop-bytes.desk c.loop-bytes.backlog c.loop-bytes.number c.loop-bytes.invariant.reached c.in-None.ensures.steps.0 in
-    record {
-      delivered = delivers_two g.O.Out.taken g.O.Out.faults _ _ _ _ _ c.write_tail.result first (c.in_ok-finish.ensures.whole.sound ∙ c.loop-bytes.invariant.sound) (c.write_tail.ensures.tail _ stands);
-      worker = λ late. has_want (givens c.args.setup.now.how.now.rows c.args.setup.now.parts.now) (asked_of c.args.setup.now.viewing) (lines c.args.script.now) (if_err_of c.write_tail.result _ _ c.write_tail.ensures.asked late);
-      place = λ late. if_err_of c.write_tail.result _ _ c.write_tail.ensures.asked late;
-    }
+    let over = c.in_ok-gone.ensures.over in
+    so_early g.O.Out.taken g.O.Out.faults _ _ _ _ c.from_residual-in_err-finish.result _ p.0 p.1
+    (ends_unwritten g.O.Out.taken g.O.Out.faults _ _ _ p.0 (Err p.0) refl
+    (begins_tailed c.each_text_has_an_answer.ensures g.H.KeyHash-1.hash_of (givens c.args.setup.now.how.now.rows c.args.setup.now.parts.now) c.args.setup.now.on_refusal (asked_of c.args.setup.now.viewing) (lines c.args.script.now) _ _
+    (partly_written _ _ _ g.H.KeyHash-1.hash_of (givens c.args.setup.now.how.now.rows c.args.setup.now.parts.now) c.args.setup.now.on_refusal (lines c.args.script.now) _ _ _ over (c.in_err-finish.ensures.whole.beginning over.waiting over.awaits)))
+    _ _ _ p.2 (λ writer. let failed = c.in_err-finish.ensures.whole.fault (ap Err writer) in omega (arith, failed, c.in_ok-gone.ensures.sound))
+    (λ late. may_want (givens c.args.setup.now.how.now.rows c.args.setup.now.parts.now) (asked_of c.args.setup.now.viewing) (lines c.args.script.now) (over.asked (c.in_err-finish.ensures.worker (ap Err late)))))
 
 pub write_tail-requires-clause-attended : goal.write_tail-requires-clause-attended
-write_tail-requires-clause-attended g c = λ κs outlives. c.loop-bytes.invariant.attended
+write_tail-requires-clause-attended g c = λ κs outlives. c.in_ok-gone.ensures.attended
+
+pub returns-in-Through : goal.returns-in-Through
+returns-in-Through g c =
+    let over = c.in_ok-gone.ensures.over in
+    so_tailed g.O.Out.taken g.O.Out.faults _ _ _ g.H.KeyHash-1.hash_of (givens c.args.setup.now.how.now.rows c.args.setup.now.parts.now) c.args.setup.now.on_refusal (asked_of c.args.setup.now.viewing) (lines c.args.script.now) c.write_tail.result c.through.result
+    (rw c.in-Through.is at (all_written _ _ _ g.H.KeyHash-1.hash_of (givens c.args.setup.now.how.now.rows c.args.setup.now.parts.now) c.args.setup.now.on_refusal (lines c.args.script.now) _ _ _ over (c.in_ok-finish.ensures.whole.written over.waiting over.awaits)))
+    (c.in_ok-finish.ensures.whole.sound ∙ c.in_ok-gone.ensures.sound)
+    (c.write_tail.ensures.tail _ (over.stands c.in-Through.is)) c.write_tail.ensures.asked c.through.ensures.ok c.through.ensures.early
+
+pub returns-in-Stopped : goal.returns-in-Stopped
+returns-in-Stopped g c =
+    let over = c.in_ok-gone.ensures.over in
+    so_stopped g.O.Out.taken g.O.Out.faults _ _ g.H.KeyHash-1.hash_of (givens c.args.setup.now.how.now.rows c.args.setup.now.parts.now) c.args.setup.now.on_refusal (asked_of c.args.setup.now.viewing) (lines c.args.script.now) _
+    (rw c.in-Stopped.is at (all_written _ _ _ g.H.KeyHash-1.hash_of (givens c.args.setup.now.how.now.rows c.args.setup.now.parts.now) c.args.setup.now.on_refusal (lines c.args.script.now) _ _ _ over (c.in_ok-finish.ensures.whole.written over.waiting over.awaits)))
+    (c.in_ok-finish.ensures.whole.sound ∙ c.in_ok-gone.ensures.sound) refl
