@@ -1,10 +1,11 @@
 //! Groups while rows are folded into them: how many there are, since no clause rests on how a group is found; and partial
 //! results behind a refusal.
-ghost use Rattle.std.specs.Prelude.{◌≤◌, IfOk, IsTrue, length};
+ghost use Rattle.std.specs.Prelude.{◌≡◌, ◌≤◌, IfOk, IsTrue, length};
 ghost use Rattle.groups.specs.Groups.{kept};
 ghost use Rattle.groups.specs.Partials.{MayMeet, Stands, rows_of};
 
 use cells::{Cell, KeyHash, Plain, Refused, Row, Schema, Total, Tuple};
+use columns::Columns;
 use groups::{Folding, Partial, ReportRow};
 use query::{Plan, check, read};
 use std::alloc::{AllocError, Global};
@@ -18,6 +19,10 @@ const QUERY: &str = "SELECT REGION, COUNT(*) FROM SALES GROUP BY REGION";
 const TUPLES: &str = "T (K INT KEY, N INT, S TEXT)";
 
 const BY_TUPLE: &str = "SELECT N, S, COUNT(*) FROM T GROUP BY N, S";
+
+const PAIRS: &str = "T (K INT KEY, A INT, B INT)";
+
+const BY_PAIR: &str = "SELECT A, B, COUNT(*) FROM T GROUP BY A, B";
 
 /// Tuples that differ, of an integer and a text; an empty field is NULL.
 const DIFFERENT: [[&str; 2]; 13] = [
@@ -146,6 +151,78 @@ fn two_tuples_in_turn_are_two_groups(rt: HostRuntime) -> Result<(), Fail> {
                 expected
             );
         }
+    }
+    Ok(())
+}
+
+/// A row of the key, whose columns have a value of a thousand.
+fn pair_row(alloc: Global, schema: &Schema, key: u64) -> Result<Row, Refused> {
+    let id = format!(in alloc; "{key}")?;
+    let value = format!(in alloc; "{}", key % 1_000)?;
+    Row::read(
+        alloc,
+        &[id.as_bytes(), value.as_bytes(), value.as_bytes()],
+        schema,
+    )
+}
+
+/// Two rows of each of a thousand pairs, where a table of all pairs of values would be too large for so few rows.
+fn pairs_twice(alloc: Global, schema: &Schema) -> Result<Vec<Piece<Cell, Row, Plain>>, Refused> {
+    let mut pairs = Vec::new(alloc);
+    for key in 0..2_000u64 {
+        let row = pair_row(alloc, schema, key)?;
+        pairs.push((row.key().clone()?, row))?;
+    }
+    let rows = Trie::from_pairs(alloc, pairs)?;
+    Ok(rows.split(alloc, &Cutting { depth: 0, small: 0 })?)
+}
+
+/// How many rows the piece has.
+fn row_count<H: KeyHash<Cell>>(
+    alloc: Global,
+    piece: &Piece<Cell, Row, H>,
+) -> Result<usize, AllocError>
+    ensures { IfOk result (λ count. count ≡ length piece.now) }
+{
+    Ok(piece.entries(alloc)?.len())
+}
+
+/// How many groups the rows of the piece have, of which the columns are laid out; 0 where that can't be told.
+fn groups_by_columns(
+    alloc: Global,
+    plan: &Plan,
+    piece: &Piece<Cell, Row, Plain>,
+) -> Result<u128, AllocError> {
+    let mut columns: Columns<Plain> = Columns::new(alloc, 3)?;
+    columns.take(piece)?;
+    let count = row_count(alloc, piece)?;
+    if count > 2_000 {
+        return Ok(0);
+    }
+    let Some(folding) = Folding::of_rows(alloc, plan, &columns, 0, count)? else {
+        return Ok(0);
+    };
+    Ok(folding.groups())
+}
+
+/// The same by both columns.
+fn counted_by_columns(
+    alloc: Global,
+    schema: &Schema,
+    piece: &Piece<Cell, Row, Plain>,
+) -> Result<u128, Refused> {
+    let plan = planned(alloc, schema, BY_PAIR)?;
+    Ok(groups_by_columns(alloc, &plan, piece)?)
+}
+
+/// A part of a group is found again in a table of hashes: else each row would make one more.
+#[test]
+fn two_rows_of_each_pair_are_one_group(rt: HostRuntime) -> Result<(), Fail> {
+    let schema = Schema::read(rt.alloc(), PAIRS)?;
+    let pieces = pairs_twice(rt.alloc(), &schema)?;
+    assert_eq!(rt; pieces.len(), 1);
+    for piece in &pieces {
+        assert_eq!(rt; counted_by_columns(rt.alloc(), &schema, piece)?, 1_000);
     }
     Ok(())
 }
