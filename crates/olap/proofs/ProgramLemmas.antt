@@ -1,13 +1,15 @@
 -- What the program wrote, from what its parts say.
 use Rattle.std.proofs.Common.{ℕ, List, [], Option, sym}
-use Rattle.std.specs.Prelude.{Result, Ok, Err, OnErr, OnOk}
+use Rattle.std.specs.Prelude.{◌≡◌, IfOk, Result, Ok, Err, OnErr, OnOk}
 use Rattle.std.proofs.lemmas.List.{append-nil}
 use Rattle.std.specs.Io.KnownBytes.{Appends, Keeps}
 use Rattle.std.proofs.KnownBytes.{Appends-kept}
 use Rattle.clap.specs.Words.{Text}
 use Rattle.script.specs.Endings.{BeginsToWrite, Writes}
 use Rattle.script.specs.Hows.{hash_of_choice}
-use Rattle.script.specs.Viewers.{IsWritten}
+use Rattle.script.specs.Stops.{HoweverFinished}
+use Rattle.script.specs.Viewers.{IsRunBy}
+use Rattle.script.specs.declared.finish.Finish.{Finish}
 use Rattle.olap.specs.Folders.{AreTold, Tells}
 use Rattle.olap.specs.Jobs.{Ask}
 use Rattle.olap.specs.Programs.{AskToWrite, IsOutputOfJob}
@@ -31,20 +33,30 @@ pub begins_closed : {T E : Type 0} (IsWhole : List ℕ → Type 0) (a b c : Opti
 begins_closed IsWhole a b c (Ok x) all part k = record { whole = all.whole; is_whole = all.is_whole; beginning = takes_kept a b c all.whole (takes_all a b all.whole all.taken) k }
 begins_closed IsWhole a b c (Err e) all part k = record { whole = part.whole; is_whole = part.is_whole; beginning = takes_kept a b c part.whole part.beginning k }
 
+-- what a run wrote where it was finished so
+pub wrote_finished : {E : Type 0} (Is : Finish → List ℕ → Type 0) (a b c : Option (List ℕ)) (ended : Result Finish E) (finish : Finish) → IfOk ended (λ f. Writes (Is f) a b) → ended ≡ Ok finish → Keeps b c → Writes (Is finish) a c
+wrote_finished Is a b c (Ok f) finish wrote is k =
+    let same : f ≡ finish = cc in
+    let w = rw same at wrote in
+    record { whole = w.whole; is_whole = w.is_whole; taken = Appends-kept a b c w.whole w.taken k }
+wrote_finished Is a b c (Err e) finish wrote is k = absurd cc
+
 -- the output of a job, from what was read
 pub output_of_job : (file : List ℕ → Option (List ℕ)) (job : Job) (script : List ℕ) (parts : List (List ℕ)) →
-    Tells (file job.script) script → AreTold file job.parts.items parts → (whole : List ℕ) →
-    IsWritten (hash_of_choice job.hash) (record { limit = job.how.rows; parts = parts }) job.live script whole → IsOutputOfJob file job whole
-output_of_job file job script parts s p whole is = record { script = script; script_told = s; parts = parts; parts_told = p; is_output = is }
+    Tells (file job.script) script → AreTold file job.parts.items parts → (finish : Finish) (whole : List ℕ) →
+    IsRunBy job.on_refusal (hash_of_choice job.hash) (record { limit = job.how.rows; parts = parts }) job.live script finish whole → IsOutputOfJob file job finish whole
+output_of_job file job script parts s p finish whole is = record { script = script; script_told = s; parts = parts; parts_told = p; is_output = is }
 
 -- the output that the words ask for, from that of their job
-pub asked : (file : List ℕ → Option (List ℕ)) (words : List Text) (job : Job) → Ask words job → (whole : List ℕ) → IsOutputOfJob file job whole → AskToWrite file words whole
-asked file words job a whole of = record { job = job; asked = a; output = of }
+pub asked : (file : List ℕ → Option (List ℕ)) (words : List Text) (job : Job) → Ask words job → (finish : Finish) (whole : List ℕ) → IsOutputOfJob file job finish whole → AskToWrite file words finish whole
+asked file words job a finish whole of = record { job = job; asked = a; output = of }
 
-module _ (Is IsWhole : List ℕ → Type 0) (a b : Option (List ℕ)) (so : (whole : List ℕ) → Is whole → IsWhole whole) where
-  -- what was written is so, since what it was said to be is
-  pub writes_as : Writes Is a b → Writes IsWhole a b
-  writes_as w = record { whole = w.whole; is_whole = so w.whole w.is_whole; taken = w.taken }
+-- what was written is so, since what it was said to be is
+pub writes_as : (Is IsWhole : List ℕ → Type 0) (a b : Option (List ℕ)) → ((whole : List ℕ) → Is whole → IsWhole whole) → Writes Is a b → Writes IsWhole a b
+writes_as Is IsWhole a b so w = record { whole = w.whole; is_whole = so w.whole w.is_whole; taken = w.taken }
 
-  pub begins_as : BeginsToWrite Is a b → BeginsToWrite IsWhole a b
-  begins_as w = record { whole = w.whole; is_whole = so w.whole w.is_whole; beginning = w.beginning }
+-- however it was finished
+pub begins_however : (Is IsWhole : Finish → List ℕ → Type 0) (a b : Option (List ℕ)) → ((finish : Finish) (whole : List ℕ) → Is finish whole → IsWhole finish whole) → BeginsToWrite (HoweverFinished Is) a b →
+    BeginsToWrite (HoweverFinished IsWhole) a b
+begins_however Is IsWhole a b so w =
+    record { whole = w.whole; is_whole = record { finish = w.is_whole.finish; is = so w.is_whole.finish w.whole w.is_whole.is }; beginning = w.beginning }

@@ -4,7 +4,8 @@ use Rattle.clap.specs.Words.{IsAmong, Text, fault_of}
 use Rattle.clap.specs.declared.error.kind.ErrorKind.TheVariants.{DisplayHelp, DisplayVersion}
 use Rattle.script.specs.Hows.{default_hash, default_settings, hash_of_choice}
 use Rattle.script.specs.Output.{IsOutput}
-use Rattle.script.specs.Viewers.{IsWritten}
+use Rattle.script.specs.Viewers.{IsRunBy}
+use Rattle.script.specs.declared.finish.Finish.{Finish}
 use Rattle.olap.specs.CommandLine.{olap}
 use Rattle.olap.specs.Folders.{AreTold, Tells}
 use Rattle.olap.specs.Jobs.{Ask}
@@ -14,19 +15,19 @@ use Rattle.olap.specs.declared.job.Job.{Job}
 abbrev pub AskForHelp : List Text → Type 0
 AskForHelp words = IsAmong DisplayHelp (fault_of olap words) ⊎ IsAmong DisplayVersion (fault_of olap words)
 
--- this is the output of a job, whose files hold what is told
-pub record IsOutputOfJob (file : Text → Option (List ℕ)) (job : Job) (whole : List ℕ) : Type 0 where
+-- this is the output of a job that is so finished, whose files hold what is told
+pub record IsOutputOfJob (file : Text → Option (List ℕ)) (job : Job) (finish : Finish) (whole : List ℕ) : Type 0 where
   pub script : List ℕ
   pub script_told : Tells (file job.script) script
   pub parts : List (List ℕ)
   pub parts_told : AreTold file job.parts.items parts
-  pub is_output : IsWritten (hash_of_choice job.hash) (record { limit = job.how.rows; parts = parts }) job.live script whole
+  pub is_output : IsRunBy job.on_refusal (hash_of_choice job.hash) (record { limit = job.how.rows; parts = parts }) job.live script finish whole
 
--- the words ask for a run over these files, and this is its output
-pub record AskToWrite (file : Text → Option (List ℕ)) (words : List Text) (whole : List ℕ) : Type 0 where
+-- the words ask for a run over these files, and this is its output where it is so finished
+pub record AskToWrite (file : Text → Option (List ℕ)) (words : List Text) (finish : Finish) (whole : List ℕ) : Type 0 where
   pub job : Job
   pub asked : Ask words job
-  pub output : IsOutputOfJob file job whole
+  pub output : IsOutputOfJob file job finish whole
 
 -- this is the output of the script that standard input holds, with the defaults and no parts
 pub record IsOutputOf (input : Option (List ℕ)) (whole : List ℕ) : Type 0 where

@@ -5,7 +5,8 @@ ghost use Rattle.std.specs.Io.KnownBytes.{Keeps};
 ghost use Rattle.script.specs.Endings.{BeginsToWrite, Writes};
 ghost use Rattle.script.specs.Givens.{givens};
 ghost use Rattle.script.specs.Hows.{hash_of_choice};
-ghost use Rattle.script.specs.Viewers.{IsWritten, asked_of};
+ghost use Rattle.script.specs.Stops.{HoweverFinished};
+ghost use Rattle.script.specs.Viewers.{IsRunBy, asked_of};
 ghost use Rattle.olap.specs.Jobs.{IsHelp};
 ghost use Rattle.olap.specs.Programs.{AskForHelp, AskToWrite, IsOutputOf, IsOutputOfJob};
 
@@ -15,7 +16,7 @@ use crate::job::{Job, WordsFault};
 use crate::words::job_of;
 use crew::Open;
 use report::Pour;
-use script::{HashChoice, How, Setup, Viewing, run_last};
+use script::{Finish, HashChoice, How, OnRefusal, Setup, Viewing, run_last};
 use std::alloc::Global;
 use std::io::{BufWriter, Read, Write};
 use std::sync::Wait;
@@ -25,9 +26,10 @@ use std::thread::Threads;
 /// program's status and the writer back. What a run writes goes to `out`, and so does help; why there
 /// is no run, or why it ended early, goes to `err`.
 ///
-/// At 0 the output of that run was written whole, or help was asked for; at 2 nothing was run, since
-/// the words are refused or a file can't be read; at 3 the run ended early. `rt` starts the threads of a
-/// report's workers.
+/// At 0 the output of that run was written whole, or help was asked for; where the run is strict, no line
+/// was refused. At 1 a strict run stopped after the first refused line, and its output up to that line was
+/// written. At 2 nothing was run, since the words are refused or a file can't be read; at 3 the run ended
+/// early. `rt` starts the threads of a report's workers.
 pub fn run_words<F: Folder, W: Write + Drop, E: Write, R: Threads + Wait + Sync>(
     rt: &R,
     alloc: Global,
@@ -36,13 +38,15 @@ pub fn run_words<F: Folder, W: Write + Drop, E: Write, R: Threads + Wait + Sync>
     out: BufWriter<W>,
     err: &mut E,
 ) -> (u8, BufWriter<W>)
-    ensures status { (result.0 ≡ 0) ⊎ ((result.0 ≡ 2) ⊎ (result.0 ≡ 3)) }
+    ensures status { (result.0 ≡ 0) ⊎ ((result.0 ≡ 1) ⊎ ((result.0 ≡ 2) ⊎ (result.0 ≡ 3))) }
     ensures written { result.0 ≡ 0 → AskForHelp (map string_bytes given.now)
-        ⊎ Writes (AskToWrite (F.file folder.now) (map string_bytes given.now)) (writer_contents W.contents out) (writer_contents W.contents result.1) }
+        ⊎ Writes (AskToWrite (F.file folder.now) (map string_bytes given.now) Finish.Through) (writer_contents W.contents out) (writer_contents W.contents result.1) }
+    ensures stopped { result.0 ≡ 1 → Writes (AskToWrite (F.file folder.now) (map string_bytes given.now) Finish.Stopped) (writer_contents W.contents out) (writer_contents W.contents result.1) }
     ensures flushed { result.0 ≡ 0 → AskForHelp (map string_bytes given.now) ⊎ (writer_buffer result.1 ≡ []) }
+    ensures flushed_stopped { result.0 ≡ 1 → writer_buffer result.1 ≡ [] }
     ensures nothing { result.0 ≡ 2 → Keeps (writer_contents W.contents out) (writer_contents W.contents result.1) }
     ensures beginning { result.0 ≡ 3
-        → BeginsToWrite (AskToWrite (F.file folder.now) (map string_bytes given.now)) (writer_contents W.contents out) (writer_contents W.contents result.1) }
+        → BeginsToWrite (HoweverFinished (AskToWrite (F.file folder.now) (map string_bytes given.now))) (writer_contents W.contents out) (writer_contents W.contents result.1) }
 {
     match job_of(alloc, given) {
         Ok(job) => run_job(rt, alloc, &job, folder, out, err),
@@ -60,11 +64,12 @@ fn run_job<F: Folder, W: Write + Drop, E: Write, R: Threads + Wait + Sync>(
     out: BufWriter<W>,
     err: &mut E,
 ) -> (u8, BufWriter<W>)
-    ensures status { (result.0 ≡ 0) ⊎ ((result.0 ≡ 2) ⊎ (result.0 ≡ 3)) }
-    ensures written { result.0 ≡ 0 → Writes (IsOutputOfJob (F.file folder.now) job.now) (writer_contents W.contents out) (writer_contents W.contents result.1) }
-    ensures flushed { result.0 ≡ 0 → writer_buffer result.1 ≡ [] }
+    ensures status { (result.0 ≡ 0) ⊎ ((result.0 ≡ 1) ⊎ ((result.0 ≡ 2) ⊎ (result.0 ≡ 3))) }
+    ensures written { result.0 ≡ 0 → Writes (IsOutputOfJob (F.file folder.now) job.now Finish.Through) (writer_contents W.contents out) (writer_contents W.contents result.1) }
+    ensures stopped { result.0 ≡ 1 → Writes (IsOutputOfJob (F.file folder.now) job.now Finish.Stopped) (writer_contents W.contents out) (writer_contents W.contents result.1) }
+    ensures flushed { (result.0 ≡ 0) ⊎ (result.0 ≡ 1) → writer_buffer result.1 ≡ [] }
     ensures nothing { result.0 ≡ 2 → Keeps (writer_contents W.contents out) (writer_contents W.contents result.1) }
-    ensures beginning { result.0 ≡ 3 → BeginsToWrite (IsOutputOfJob (F.file folder.now) job.now) (writer_contents W.contents out) (writer_contents W.contents result.1) }
+    ensures beginning { result.0 ≡ 3 → BeginsToWrite (HoweverFinished (IsOutputOfJob (F.file folder.now) job.now)) (writer_contents W.contents out) (writer_contents W.contents result.1) }
 {
     // Where there is no room for the parts, no file is read, and the first is named.
     let Ok(room) = Vec::with_capacity(alloc, job.parts.len()) else {
@@ -77,6 +82,7 @@ fn run_job<F: Folder, W: Write + Drop, E: Write, R: Threads + Wait + Sync>(
             &job.how,
             job.hash,
             job.viewing(),
+            job.on_refusal,
             &input,
             out,
             err,
@@ -113,6 +119,7 @@ pub fn run_standard_input<I: Read + Drop, W: Write + Drop, E: Write, R: Threads 
         &How::default(),
         HashChoice::default(),
         None,
+        OnRefusal::GoesOn,
         &input,
         out,
         err,
@@ -120,23 +127,27 @@ pub fn run_standard_input<I: Read + Drop, W: Write + Drop, E: Write, R: Threads 
 }
 
 /// Runs the script over the parts, with viewers beside it where there are some, flushes what it wrote, and gives the program's
-/// status and the writer back: 0 where the output was written whole and none of it waits in the buffer, and 3 where a
-/// beginning of it was written, and why it ended is on `err`. The memory of the run's table is left to the system.
+/// status and the writer back: 0 where the output was written whole, 1 where the run stopped after a refused line, and none of
+/// what it wrote waits in the buffer; and 3 where a beginning of it was written, and why it ended is on `err`. The memory of the
+/// run's table is left to the system.
 pub fn run_input<'a, W: Write + Drop, E: Write, R: Threads + Wait + Sync>(
     rt: &'a R,
     alloc: Global,
     how: &'a How,
     hash: HashChoice,
     viewing: Option<Viewing<&'a str>>,
+    on_refusal: OnRefusal,
     input: &'a Input,
     out: BufWriter<W>,
     err: &mut E,
 ) -> (u8, BufWriter<W>)
-    ensures status { (result.0 ≡ 0) ⊎ (result.0 ≡ 3) }
-    ensures written { result.0 ≡ 0 → Writes (IsWritten (hash_of_choice hash) (givens how.now.rows input.now.parts.items) (asked_of viewing.entry) input.now.script.items)
+    ensures status { (result.0 ≡ 0) ⊎ ((result.0 ≡ 1) ⊎ (result.0 ≡ 3)) }
+    ensures written { result.0 ≡ 0 → Writes (IsRunBy on_refusal (hash_of_choice hash) (givens how.now.rows input.now.parts.items) (asked_of viewing.entry) input.now.script.items Finish.Through)
         (writer_contents W.contents out) (writer_contents W.contents result.1) }
-    ensures flushed { result.0 ≡ 0 → writer_buffer result.1 ≡ [] }
-    ensures beginning { BeginsToWrite (IsWritten (hash_of_choice hash) (givens how.now.rows input.now.parts.items) (asked_of viewing.entry) input.now.script.items)
+    ensures stopped { result.0 ≡ 1 → Writes (IsRunBy on_refusal (hash_of_choice hash) (givens how.now.rows input.now.parts.items) (asked_of viewing.entry) input.now.script.items Finish.Stopped)
+        (writer_contents W.contents out) (writer_contents W.contents result.1) }
+    ensures flushed { (result.0 ≡ 0) ⊎ (result.0 ≡ 1) → writer_buffer result.1 ≡ [] }
+    ensures beginning { BeginsToWrite (HoweverFinished (IsRunBy on_refusal (hash_of_choice hash) (givens how.now.rows input.now.parts.items) (asked_of viewing.entry) input.now.script.items))
         (writer_contents W.contents out) (writer_contents W.contents result.1) }
     ensures quiet { result.0 ≡ 0 → err.new ≡ err.old }
 {
@@ -147,6 +158,7 @@ pub fn run_input<'a, W: Write + Drop, E: Write, R: Threads + Wait + Sync>(
         how,
         parts: input.parts.as_slice(),
         viewing,
+        on_refusal,
         gate: &Open,
     };
     let ended = run_last(&setup, hash, input.script.as_slice(), &mut pour);
