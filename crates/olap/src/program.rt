@@ -10,7 +10,7 @@ ghost use Rattle.script.specs.Viewers.{IsRunBy, asked_of};
 ghost use Rattle.olap.specs.Jobs.{IsHelp};
 ghost use Rattle.olap.specs.Programs.{AskForHelp, AskToWrite, IsOutputOf, IsOutputOfJob};
 
-use crate::close::{NOTHING_RUN, WRITTEN, close_run};
+use crate::close::{NOTHING_RUN, WRITTEN, close_finished};
 use crate::input::{Folder, Input, read_input};
 use crate::job::{Job, WordsFault};
 use crate::words::job_of;
@@ -163,7 +163,7 @@ pub fn run_input<'a, W: Write + Drop, E: Write, R: Threads + Wait + Sync>(
     };
     let ended = run_last(&setup, hash, input.script.as_slice(), &mut pour);
     let mut out = pour.into_inner();
-    let status = close_run(ended, &mut out, err);
+    let status = close_finished(ended, &mut out, err);
     (status, out)
 }
 

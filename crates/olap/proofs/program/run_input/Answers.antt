@@ -13,16 +13,16 @@ returns-clause-written g c = λ ok.
     let wrote = c.run_last-ended.ensures.by.wrote in
     wrote_finished (IsRunBy c.args.on_refusal (hash_of_choice c.args.hash) (givens c.args.how.now.rows c.args.input.now.parts.items) (asked_of c.args.viewing) c.args.input.now.script.items)
     (writer_contents g.W.Write.contents c.args.out) (writer_contents g.W.Write.contents c.into_inner-out.result)
-    (writer_contents g.W.Write.contents c.close_run-status.new.out)
-    c.run_last-ended.result Through (search rules) (c.close_run-status.ensures.through ok) (search rules)
+    (writer_contents g.W.Write.contents c.close_finished-status.new.out)
+    c.run_last-ended.result Through (search rules) (c.close_finished-status.ensures.through ok) (search rules)
 
 pub returns-clause-stopped : goal.returns-clause-stopped
 returns-clause-stopped g c = λ stopped.
     let wrote = c.run_last-ended.ensures.by.wrote in
     wrote_finished (IsRunBy c.args.on_refusal (hash_of_choice c.args.hash) (givens c.args.how.now.rows c.args.input.now.parts.items) (asked_of c.args.viewing) c.args.input.now.script.items)
     (writer_contents g.W.Write.contents c.args.out) (writer_contents g.W.Write.contents c.into_inner-out.result)
-    (writer_contents g.W.Write.contents c.close_run-status.new.out)
-    c.run_last-ended.result Stopped (search rules) (c.close_run-status.ensures.stopped stopped) (search rules)
+    (writer_contents g.W.Write.contents c.close_finished-status.new.out)
+    c.run_last-ended.result Stopped (search rules) (c.close_finished-status.ensures.stopped stopped) (search rules)
 
 pub returns-clause-beginning : goal.returns-clause-beginning
 returns-clause-beginning g c =
@@ -30,5 +30,5 @@ returns-clause-beginning g c =
     let part = c.run_last-ended.ensures.by.ends.delivered.beginning in
     begins_closed (HoweverFinished (IsRunBy c.args.on_refusal (hash_of_choice c.args.hash) (givens c.args.how.now.rows c.args.input.now.parts.items) (asked_of c.args.viewing) c.args.input.now.script.items))
     (writer_contents g.W.Write.contents c.args.out) (writer_contents g.W.Write.contents c.into_inner-out.result)
-    (writer_contents g.W.Write.contents c.close_run-status.new.out)
+    (writer_contents g.W.Write.contents c.close_finished-status.new.out)
     c.run_last-ended.result (search rules) (search rules) (search rules)
