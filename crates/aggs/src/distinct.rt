@@ -126,7 +126,7 @@ fn present_pairs(alloc: Global, cells: Vec<Cell>) -> Result<Vec<(Cell, ())>, All
     Ok(pairs)
 }
 
-/// Puts the cell behind the others as a key, unless it is NULL.
+/// Puts the cell after the others as a key, unless it is NULL.
 fn push_present(pairs: &mut Vec<(Cell, ())>, cell: Cell) -> Result<(), AllocError>
     ensures { OnOk result (keys_of pairs.new.items ≡ keys_of pairs.old.items ++ present (cell ∷ [])) }
 {

@@ -23,8 +23,8 @@ const MIXER: u64 = 0x9E37_79B9_7F4A_7C15;
 /// The cells of rows in one column, one for each row. Each is held as a code of 32 bits, the index of its cell in the list of
 /// the column's different cells, of which NULL may be one. It owns a copy of each.
 ///
-/// What is put behind finds its code by hints, which rest on hashes. Nothing rests on the hints: a cell that they do not
-/// show may stand in the list twice.
+/// Cells that come find their codes by hints, which rest on hashes. Nothing rests on the hints: a cell that they do not show
+/// may stand in the list twice.
 #[derive(Drop)]
 pub struct CodeColumn<H: KeyHash<Cell>> {
     by_row: Vec<u32>,
@@ -76,7 +76,7 @@ impl<H: KeyHash<Cell>> CodeColumn<H> {
         self.by_row.as_slice()
     }
 
-    /// Puts a cell behind those that are there. The only error is that a growth was refused, as that of a list of
+    /// Puts a cell after those that are there. The only error is that a growth was refused, as that of a list of
     /// 4,294,967,296 different cells is.
     pub fn push(&mut self, cell: &Cell) -> Result<(), AllocError>
         ensures { OnOk result (Puts (cell.now ∷ []) self.old self.new) }
@@ -87,7 +87,7 @@ impl<H: KeyHash<Cell>> CodeColumn<H> {
         Ok(())
     }
 
-    /// Puts the cells of another column behind those that are there. Each different cell is looked up once. Errors are those
+    /// Puts the cells of another column after those that are there. Each different cell is looked up once. Errors are those
     /// of [`push`](CodeColumn::push).
     pub fn append(&mut self, alloc: Global, other: &CodeColumn<H>) -> Result<(), AllocError>
         ensures { OnOk result (Puts (cells_of other.now) self.old self.new) }
@@ -101,7 +101,7 @@ impl<H: KeyHash<Cell>> CodeColumn<H> {
         Ok(())
     }
 
-    /// Gives back the memory of what only serves to put cells behind; it is made again where some come.
+    /// Gives back the memory of the hints. They are made again where cells come.
     pub fn forget_hints(&mut self)
         ensures { self.new ≡ self.old }
     {

@@ -12,7 +12,7 @@ use std::marker::Model;
 use std::mem;
 use trie::{Piece, Visitor};
 
-/// The columns of rows, one for each column of the table, but for those that are left out. Rows come one behind another. It
+/// The columns of rows, one for each column of the table, but for those that are left out. Rows come one after another. It
 /// owns copies of the cells.
 #[derive(Drop)]
 pub struct Columns<H: KeyHash<Cell>> {
@@ -75,7 +75,7 @@ impl<H: KeyHash<Cell>> Columns<H> {
         Ok(())
     }
 
-    /// Gives back the memory of what only serves to put rows behind; it is made again where some come.
+    /// Gives back the memory of what only serves to find codes. It is made again where rows come.
     pub fn forget_hints(&mut self)
         ensures { self.new ≡ self.old }
     {
@@ -101,7 +101,7 @@ impl<H: KeyHash<Cell>> Columns<H> {
         self.columns.len()
     }
 
-    /// Puts the row's cell behind the column of the index, if it is not left out.
+    /// Puts the row's cell at the end of the column of the index, if it is not left out.
     fn push_at(&mut self, index: usize, row: &Row) -> Result<(), AllocError>
         requires { index < length self.old }
         ensures { OnOk result (PutsAt index (cells_at index (row.now ∷ [])) self.old self.new) }
@@ -114,7 +114,7 @@ impl<H: KeyHash<Cell>> Columns<H> {
         Ok(())
     }
 
-    /// Puts the cells of the other column of the index behind the column there, or leaves it out where that one is.
+    /// Puts the cells of the other column of the index at the end of the column there, or leaves it out where that one is.
     fn append_at(
         &mut self,
         alloc: Global,

@@ -62,7 +62,7 @@ impl NumberedRows {
         })
     }
 
-    /// The groups cut by the cells of a column, which stands behind those of their set.
+    /// The groups cut by the cells of a column, which comes after those of their set.
     fn cut<H: KeyHash<Cell>>(
         &self,
         alloc: Global,

@@ -61,7 +61,7 @@ pub fn counted<H: KeyHash<Cell>>(
 }
 
 /// Accumulators of no cells.
-pub(crate) fn empty_accs<H: KeyHash<Cell>>(
+fn empty_accs<H: KeyHash<Cell>>(
     alloc: Global,
     kind: Kind,
     count: usize,
