@@ -128,7 +128,7 @@ impl<H: KeyHash<Cell>> Bag<H> {
         Ok(Bag { groups, by_hash })
     }
 
-    /// The groups of both: each of the second is put into one of its tuple, or behind the first's. None is copied.
+    /// The groups of both: each of the second is put into one of its tuple, or comes after the first's. None is copied.
     pub fn join(self, alloc: Global, more: Bag<H>) -> Result<Bag<H>, AllocError>
         requires { CanJoin self more }
         ensures { IfOk result (HasBoth self more) }

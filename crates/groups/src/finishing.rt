@@ -107,7 +107,7 @@ pub(crate) fn add_rows_of_set<H: KeyHash<Cell> + KeyHash<Tuple>>(
     add_rows(alloc, rows, plan, set.columns.as_slice(), rising)
 }
 
-/// The report's rows for a grouping set behind those of others, for each list of rows that went into its bag. Where each
+/// The report's rows for a grouping set after those of others, for each list of rows that went into its bag. Where each
 /// group has a tuple of its own they are made straight from the groups.
 pub(crate) fn add_rows_of_bag<H: KeyHash<Cell> + KeyHash<Tuple>>(
     alloc: Global,

@@ -34,7 +34,7 @@ pub(crate) fn rows_of_sources<H: KeyHash<Cell> + KeyHash<Tuple>>(
     Ok(rows)
 }
 
-/// The report's rows for a grouping set behind those of others, from its groups in the pool. Where the pool has none, as of
+/// The report's rows for a grouping set after those of others, from its groups in the pool. Where the pool has none, as of
 /// the empty set, they are made from those of another set.
 fn add_rows_by<H: KeyHash<Cell> + KeyHash<Tuple>>(
     alloc: Global,
