@@ -13,7 +13,7 @@ use Rattle.query.specs.Plans.{PlanTree}
 -- how many rows a range has, where so many rows are shared by so many workers: a range for each of them, but few rows make no
 -- range, and many are several
 abbrev pub range_size : ℕ → ℕ → ℕ
-range_size count workers = max (min (div_ceil count (workers_of workers)) 4194304) 65536
+range_size count workers = max (min (div_ceil count (workers_of workers)) 4194304) 262144
 
 -- how many ranges of a size so many rows have
 abbrev pub range_count : ℕ → ℕ → ℕ

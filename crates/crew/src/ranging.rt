@@ -23,13 +23,13 @@ use std::sync::Wait;
 use std::thread::Threads;
 
 // So many at least that what is made of the groups of each range costs little beside its rows.
-const FEWEST_ROWS: u64 = 65_536;
+const FEWEST_ROWS: u64 = 262_144;
 
 // So many at most that what is noted of each row of a range takes little memory.
 const MOST_ROWS: u64 = 4_194_304;
 
 /// The folding of those rows for which the plan's WHERE is true, of `count` rows whose columns are at hand, which are
-/// at most 4,294,967,296. The rows are cut into as many ranges as there are workers, but none of them has fewer than 65,536 rows,
+/// at most 4,294,967,296. The rows are cut into as many ranges as there are workers, but none of them has fewer than 262,144 rows,
 /// up to the last one, nor more than 4,194,304. As many workers as the smaller of `workers`, taken as 1 at least and
 /// [`MAX_SEATS`](crate::MAX_SEATS) at most, and the number of ranges draw these until none are left, each in a thread of its own;
 /// which worker takes which range has no effect. It owns what it keeps.
