@@ -105,12 +105,3 @@ pub hold_option : (i : ℕ) (rows : List RowValue) (columns : ColumnsValue) (fou
     IfSome found (λ column. cells_of column ≡ cells_at i rows)
 hold_option i rows columns None e held = tt
 hold_option i rows columns (Some column) e held = hold_at i rows columns column e held
-
--- ---- a column is left out
-left_from : (i index : ℕ) (rows : List RowValue) (columns : ColumnsValue) → HoldFrom index rows columns → HoldFrom index rows (set columns i None)
-left_from i index rows [] held = tt
-left_from zero index rows (c ∷ columns) held = (tt, held.1)
-left_from (suc i) index rows (c ∷ columns) held = (held.0, left_from i (suc index) rows columns held.1)
-
-pub hold_left : (i : ℕ) (old new : ColumnsValue) → new ≡ set old i None → (rows : List RowValue) → Hold rows old → Hold rows new
-hold_left i old new e rows held = record { each = subst (HoldFrom 0 rows) (sym e) (left_from i 0 rows old held.each) }

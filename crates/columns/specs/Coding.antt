@@ -4,13 +4,18 @@ use Rattle.cells.specs.Values.{RowValue}
 use Rattle.cells.specs.declared.cell.Cell.{Cell}
 use Rattle.columns.specs.Columns.{AreCodes, ColumnValue, ColumnsValue, Hold, cells_of, decoded}
 
--- these codes stand for those cells; the column's own stand for what they did, for cells came behind its cells, if any
-pub record Recode (cells : List Cell) (old new : ColumnValue) (codes : List ℕ) : Type 0 where
+-- these codes stand for those cells in a list to which cells came, if any did
+pub record Recode (cells old new : List Cell) (codes : List ℕ) : Type 0 where
   pub more : List Cell
-  pub grown : new.cells ≡ old.cells ++ more
-  pub same : new.by_row ≡ old.by_row
-  pub within : AreCodes new.cells codes
-  pub stand : decoded new.cells codes ≡ cells
+  pub grown : new ≡ old ++ more
+  pub within : AreCodes (Some new) codes
+  pub stand : decoded (Some new) codes ≡ cells
+
+-- a column gave its list away: in that list its codes stand for the cells that it had
+pub record GivesList (old new : ColumnValue) (list : List Cell) : Type 0 where
+  pub given : new.cells ≡ None
+  pub within : AreCodes (Some list) new.by_row
+  pub stand : decoded (Some list) new.by_row ≡ cells_of old
 
 -- these cells came behind those of the column
 pub record Puts (cells : List Cell) (old new : ColumnValue) : Type 0 where

@@ -1,37 +1,26 @@
 //! One column.
-ghost use Rattle.std.specs.Prelude.{◌≡◌, ◌∷◌, ◌<◌, ◌++◌, [], length, slice_index_or, IfOk, IfSome, OnOk};
-ghost use Rattle.cells.specs.declared.cell.Cell.TheVariants.{Null};
-ghost use Rattle.columns.specs.Coding.{Puts, Recode};
-ghost use Rattle.columns.specs.Columns.{AreCodes, cells_of};
+ghost use Rattle.std.specs.Prelude.{◌≡◌, ◌∷◌, ◌++◌, ◌<◌, [], List, None, Some, IfOk, OnOk, length};
+ghost use Rattle.std.specs.Option.{option_copied};
+ghost use Rattle.columns.specs.Coding.{GivesList, Puts};
+ghost use Rattle.columns.specs.Columns.{AreCodes, cell_of, cells_of, decoded};
 
+use crate::cell_list::CellList;
+use crate::number_code::{number_cell, number_code};
+use crate::span::Span;
 use cells::{Cell, KeyHash};
 use std::alloc::{AllocError, Global};
-use std::marker::{Model, PhantomData};
+use std::marker::Model;
 
-/// No cell has this code.
-const NONE: u32 = u32::MAX;
-
-/// The fewest slots for hints, if there are any.
-const FEWEST_SLOTS: usize = 256;
-
-/// In how many slots a hint of a cell is looked for.
-const PROBES: usize = 32;
-
-/// An odd number whose digits have no pattern: 2^64 over the golden ratio.
-const MIXER: u64 = 0x9E37_79B9_7F4A_7C15;
-
-/// The cells of rows in one column, one for each row. Each is held as a code of 32 bits, the index of its cell in the list of
-/// the column's different cells, of which NULL may be one. It owns a copy of each.
-///
-/// Cells that come find their codes by hints, which rest on hashes. Nothing rests on the hints: a cell that they do not show
-/// may stand in the list twice.
+/// The cells of rows in one column, one for each row. Each is held as a code of 32 bits. As long as all cells are NULL or
+/// integers of 32 bits, the codes are those of [`number_cell`](crate::number_cell); from the first other cell on, a code is the index of its
+/// cell in a list of the column's different cells, of which it owns copies.
 #[derive(Drop)]
 pub struct CodeColumn<H: KeyHash<Cell>> {
+    alloc: Global,
     by_row: Vec<u32>,
-    cells: Vec<Cell>,
-    // codes of cells, each in one of a few slots from the one on to which its cell's hash points
-    hints: Vec<u32>,
-    hash: PhantomData<H>,
+    list: Option<CellList<H>>,
+    // between which codes those of numbers lie
+    numbers: Span,
 }
 
 impl<H: KeyHash<Cell>> Model for CodeColumn<H> {
@@ -43,29 +32,33 @@ impl<H: KeyHash<Cell>> Model for CodeColumn<H> {
 
     ghost coded = { Prim.hlevel (codes, coded_cell) };
 
-    ghost view = { λ c. record { cells = c.cells.items; by_row = c.by_row.items } };
+    ghost view = { λ c. record { cells = c.list; by_row = c.by_row.items } };
 
-    ghost invariant = { λ c. AreCodes c.cells.items c.by_row.items };
+    ghost invariant = { λ c. AreCodes c.list c.by_row.items };
 }
 
 impl<H: KeyHash<Cell>> CodeColumn<H> {
     /// No cells. It takes no memory.
     pub fn new(alloc: Global) -> CodeColumn<H>
-        ensures { result ≡ record { cells = []; by_row = [] } }
+        ensures { result ≡ record { cells = None; by_row = [] } }
     {
         CodeColumn {
+            alloc,
             by_row: Vec::new(alloc),
-            cells: Vec::new(alloc),
-            hints: Vec::new(alloc),
-            hash: PhantomData,
+            list: None,
+            numbers: Span::none(),
         }
     }
 
-    /// The different cells: that of a code has the code as its index. It takes no memory.
-    pub fn cells(&self) -> &[Cell]
-        ensures { result.now ≡ self.now.cells }
+    /// The different cells: that of a code has the code as its index. None where the codes are those of
+    /// [`number_cell`](crate::number_cell). It takes no memory.
+    pub fn cells(&self) -> Option<&[Cell]>
+        ensures { option_copied result ≡ self.now.cells }
     {
-        self.cells.as_slice()
+        match &self.list {
+            Some(list) => Some(list.cells()),
+            None => None,
+        }
     }
 
     /// The codes, one for each row. It takes no memory.
@@ -76,177 +69,142 @@ impl<H: KeyHash<Cell>> CodeColumn<H> {
         self.by_row.as_slice()
     }
 
+    /// A copy of the cell of a code. The only error is that a growth was refused.
+    pub fn cell(&self, code: u32) -> Result<Cell, AllocError>
+        ensures { IfOk result (λ cell. cell ≡ cell_of self.now.cells code) }
+    {
+        let Some(list) = &self.list else {
+            return Ok(number_cell(code));
+        };
+        match list.cells().get(code as usize) {
+            Some(cell) => cell.clone(),
+            None => Ok(Cell::Null),
+        }
+    }
+
+    /// Between which codes those of the rows lie. Nothing rests on it.
+    pub fn span(&self) -> Span {
+        match &self.list {
+            Some(list) => Span::of_list(list.cells().len()),
+            None => self.numbers,
+        }
+    }
+
     /// Puts a cell after those that are there. The only error is that a growth was refused, as that of a list of
     /// 4,294,967,296 different cells is.
     pub fn push(&mut self, cell: &Cell) -> Result<(), AllocError>
         ensures { OnOk result (Puts (cell.now ∷ []) self.old self.new) }
     {
-        self.codes_stand();
-        let code = self.code_of(cell)?;
-        self.push_code(code)?;
-        Ok(())
+        if self.list.is_none() {
+            if let Some(code) = number_code(cell) {
+                return self.push_code(code);
+            }
+        }
+        self.push_listed(cell)
     }
 
     /// Puts the cells of another column after those that are there. Each different cell is looked up once. Errors are those
     /// of [`push`](CodeColumn::push).
-    pub fn append(&mut self, alloc: Global, other: &CodeColumn<H>) -> Result<(), AllocError>
+    pub fn append(&mut self, other: &CodeColumn<H>) -> Result<(), AllocError>
         ensures { OnOk result (Puts (cells_of other.now) self.old self.new) }
     {
-        self.codes_stand();
-        let recoded = self.recoded(alloc, other.cells())?;
         self.by_row.reserve(other.by_row.len())?;
-        for code in other.codes() {
-            self.push_code(recoded[*code as usize])?;
+        match other.cells() {
+            Some(cells) => self.append_listed(cells, other.codes()),
+            None => self.append_numbers(other.codes(), other.numbers),
         }
-        Ok(())
     }
 
-    /// Gives back the memory of the hints. They are made again where cells come.
+    /// Gives back the memory of what only serves to find codes. It is made again where cells come.
     pub fn forget_hints(&mut self)
         ensures { self.new ≡ self.old }
     {
-        self.hints.clear();
-        self.hints.shrink_to_fit();
+        if let Some(list) = &mut self.list {
+            list.forget_hints();
+        }
     }
 
-    /// What is known of each column: its codes are indexes of its cells. It does nothing.
-    fn codes_stand(&self)
-        ensures { AreCodes self.now.cells self.now.by_row }
-    {
-        let _ = &self.by_row;
-    }
-
-    /// Puts a code behind those that are there.
+    /// Puts a code after those of a column that has no list.
     fn push_code(&mut self, code: u32) -> Result<(), AllocError>
-        requires { code < length self.old.cells }
-        ensures cells { self.new.cells ≡ self.old.cells }
-        ensures by_row { IfOk result (λ _. self.new.by_row ≡ self.old.by_row ++ code ∷ []) }
+        requires { self.old.cells ≡ None }
+        ensures { OnOk result (self.new ≡ record { cells = None; by_row = self.old.by_row ++ code ∷ [] }) }
     {
+        self.numbers = self.numbers.with(code);
         self.by_row.push(code)?;
         Ok(())
     }
 
-    /// The codes of some cells.
-    fn recoded(&mut self, alloc: Global, cells: &[Cell]) -> Result<Vec<u32>, AllocError>
-        ensures { IfOk result (λ codes. Recode cells.now self.old self.new codes.items) }
+    /// Puts a cell after those that are there, by the list of the different ones.
+    fn push_listed(&mut self, cell: &Cell) -> Result<(), AllocError>
+        ensures { OnOk result (Puts (cell.now ∷ []) self.old self.new) }
     {
-        let mut codes = Vec::with_capacity(alloc, cells.len())?;
-        for cell in cells {
-            let code = self.code_of(cell)?;
-            codes.push(code)?;
+        let mut list = self.take_list()?;
+        let code = list.code_of(cell)?;
+        self.push_code(code)?;
+        self.list = Some(list);
+        Ok(())
+    }
+
+    /// Puts the cells that codes stand for in a list after those that are there.
+    fn append_listed(&mut self, cells: &[Cell], codes: &[u32]) -> Result<(), AllocError>
+        requires { AreCodes (Some cells.now) codes.now }
+        ensures { OnOk result (Puts (decoded (Some cells.now) codes.now) self.old self.new) }
+    {
+        let mut list = self.take_list()?;
+        let recoded = list.codes_of(self.alloc, cells)?;
+        for code in codes {
+            self.push_code(recoded[*code as usize])?;
         }
-        Ok(codes)
+        self.list = Some(list);
+        Ok(())
     }
 
-    /// The code of the cell, which is added where it is not found.
-    fn code_of(&mut self, cell: &Cell) -> Result<u32, AllocError>
-        ensures { IfOk result (λ code. Recode (cell.now ∷ []) self.old self.new (code ∷ [])) }
+    /// Puts the cells of numbers' codes, which lie in the span, after those that are there.
+    fn append_numbers(&mut self, codes: &[u32], span: Span) -> Result<(), AllocError>
+        ensures { OnOk result (Puts (decoded None codes.now) self.old self.new) }
     {
-        self.make_room()?;
-        let slot = match self.code_or_slot(cell) {
-            Ok(code) => return Ok(code),
-            Err(slot) => slot,
-        };
-        let code = self.add(cell)?;
-        self.hint(slot, code);
-        Ok(code)
-    }
-
-    /// The code of the cell, if a hint shows it; else the slot for its hint. It takes no memory.
-    fn code_or_slot(&self, cell: &Cell) -> Result<u32, usize>
-        ensures within { IfOk result (λ code. code < length self.now.cells) }
-        ensures found { IfOk result (λ code. slice_index_or self.now.cells code Null ≡ cell.now) }
-    {
-        let mut slot = self.first_slot(cell);
-        for _probe in 0..PROBES {
-            if let Some(code) = self.shown(slot, cell) {
-                return Ok(code);
-            }
-            if self.is_free(slot) {
-                return Err(slot);
-            }
-            slot = slot.wrapping_add(1);
-        }
-        Err(slot)
-    }
-
-    /// The code in the slot, if it is the cell's. It takes no memory.
-    fn shown(&self, slot: usize, cell: &Cell) -> Option<u32>
-        ensures within { IfSome result (λ code. code < length self.now.cells) }
-        ensures found { IfSome result (λ code. slice_index_or self.now.cells code Null ≡ cell.now) }
-    {
-        let code = *self.hints.get(slot)?;
-        let found = self.cells.get(code as usize)?;
-        if *found == *cell { Some(code) } else { None }
-    }
-
-    /// Whether the slot has no hint. Nothing rests on it.
-    fn is_free(&self, slot: usize) -> bool {
-        match self.hints.get(slot) {
-            Some(code) => *code == NONE,
-            None => true,
-        }
-    }
-
-    /// The slot from which on a hint of the cell is looked for. Nothing rests on it.
-    fn first_slot(&self, cell: &Cell) -> usize {
-        let number = match cell {
-            Cell::Int(value) => value.cast_unsigned(),
-            other => H::hash(other),
-        };
-        let hash = number.wrapping_mul(MIXER) as usize >> 32;
-        hash.wrapping_mul(self.hints.len().saturating_sub(PROBES)) >> 32
-    }
-
-    /// Puts a hint into the slot. Nothing rests on it.
-    fn hint(&mut self, slot: usize, code: u32)
-        ensures { self.new ≡ self.old }
-    {
-        if let Some(hint) = self.hints.get_mut(slot) {
-            *hint = code;
-        }
-    }
-
-    /// Makes more slots, with the hints of all cells, where there may be fewer than two for each cell. Nothing rests on it.
-    fn make_room(&mut self) -> Result<(), AllocError>
-        ensures { OnOk result (self.new ≡ self.old) }
-    {
-        if self.cells.len() < self.hints.len() / 2 {
+        if self.list.is_none() {
+            self.numbers = self.numbers.and(span);
+            self.by_row.extend_from_slice(codes)?;
             return Ok(());
         }
-        let slots = self.cells.len().saturating_mul(4).max(FEWEST_SLOTS);
-        self.hints.clear();
-        self.hints.resize(slots, NONE)?;
-        for index in 0..self.cells.len() {
-            self.hint_again(index);
+        for code in codes {
+            self.push(&number_cell(*code))?;
         }
         Ok(())
     }
 
-    /// Puts a hint of the cell of the index. Nothing rests on it.
-    fn hint_again(&mut self, index: usize)
-        ensures { self.new ≡ self.old }
+    /// The list of the different cells, which is taken out of the column, and made where there is none. Until the column has it
+    /// again, its codes are not those of numbers.
+    fn take_list(&mut self) -> Result<CellList<H>, AllocError>
+        ensures { IfOk result (λ list. GivesList self.old self.new list) }
     {
-        let Some(cell) = self.cells.get(index) else {
-            return;
-        };
-        let Err(slot) = self.code_or_slot(cell) else {
-            return;
-        };
-        if let Ok(code) = u32::try_from(index) {
-            self.hint(slot, code);
+        self.codes_stand();
+        match self.list.take() {
+            Some(list) => Ok(list),
+            None => self.make_list(),
         }
     }
 
-    /// Adds a cell.
-    fn add(&mut self, cell: &Cell) -> Result<u32, AllocError>
-        ensures { IfOk result (λ code. Recode (cell.now ∷ []) self.old self.new (code ∷ [])) }
+    /// A list of the different cells of a column that has none, whose codes become those of the list.
+    fn make_list(&mut self) -> Result<CellList<H>, AllocError>
+        requires { self.old.cells ≡ None }
+        ensures { IfOk result (λ list. GivesList self.old self.new list) }
     {
-        if self.cells.len() > u32::MAX as usize {
-            return Err(AllocError);
+        let mut list = CellList::new(self.alloc);
+        let mut codes = Vec::with_capacity(self.alloc, self.by_row.len())?;
+        for code in &self.by_row {
+            let code = list.code_of(&number_cell(*code))?;
+            codes.push(code)?;
         }
-        let code = self.cells.len() as u32;
-        self.cells.push(cell.clone()?)?;
-        Ok(code)
+        self.by_row = codes;
+        Ok(list)
+    }
+
+    /// What is known of each column: its codes stand for cells. It does nothing.
+    fn codes_stand(&self)
+        ensures { AreCodes self.now.cells self.now.by_row }
+    {
+        let _ = &self.by_row;
     }
 }

@@ -6,6 +6,7 @@ ghost use Rattle.columns.specs.Coding.{PutsAt};
 ghost use Rattle.columns.specs.Columns.{Hold, cells_at, cells_of, rows_of};
 
 use crate::code_column::CodeColumn;
+use crate::number_code::has_number_code;
 use cells::{Cell, KeyHash, Row};
 use std::alloc::{AllocError, Global};
 use std::marker::Model;
@@ -17,6 +18,8 @@ use trie::{Piece, Visitor};
 #[derive(Drop)]
 pub struct Columns<H: KeyHash<Cell>> {
     columns: Vec<Option<CodeColumn<H>>>,
+    // the index of a column that is left out once it would need a list of its cells
+    unlisted: Option<usize>,
 }
 
 impl<H: KeyHash<Cell>> Model for Columns<H> {
@@ -41,7 +44,23 @@ impl<H: KeyHash<Cell>> Columns<H> {
         for _column in 0..count {
             columns.push(Some(CodeColumn::new(alloc)))?;
         }
-        Ok(Columns { columns })
+        Ok(Columns {
+            columns,
+            unlisted: None,
+        })
+    }
+
+    /// The same columns, of which that of the index is left out as soon as a cell comes for it that is neither NULL nor an
+    /// integer of 32 bits: as a key's may be, which no two rows have in common, so that a list of its cells would be as long as
+    /// the table. It takes no memory.
+    pub fn with_unlisted(self, index: usize) -> Columns<H>
+        ensures { result ≡ self }
+    {
+        let Columns { columns, .. } = self;
+        Columns {
+            columns,
+            unlisted: Some(index),
+        }
     }
 
     /// The column of the index; None where there is none, or it was left out. It takes no memory.
@@ -66,11 +85,11 @@ impl<H: KeyHash<Cell>> Columns<H> {
 
     /// Puts the rows of other columns of the same table behind those that are there. A column that the other ones left out is
     /// left out here, too. After an error, which is that a growth was refused, nothing is known of the columns.
-    pub fn append(&mut self, alloc: Global, other: &Columns<H>) -> Result<(), AllocError>
+    pub fn append(&mut self, other: &Columns<H>) -> Result<(), AllocError>
         ensures { (rows more : List RowValue) → Hold rows self.old → Hold more other.now → OnOk result (Hold (rows ++ more) self.new) }
     {
         for index in 0..self.column_count() {
-            self.append_at(alloc, index, other)?;
+            self.append_at(index, other)?;
         }
         Ok(())
     }
@@ -101,26 +120,25 @@ impl<H: KeyHash<Cell>> Columns<H> {
         self.columns.len()
     }
 
-    /// Puts the row's cell at the end of the column of the index, if it is not left out.
+    /// Puts the row's cell at the end of the column of the index, if it is not left out, or leaves it out.
     fn push_at(&mut self, index: usize, row: &Row) -> Result<(), AllocError>
         requires { index < length self.old }
         ensures { OnOk result (PutsAt index (cells_at index (row.now ∷ [])) self.old self.new) }
     {
+        let cell = row.cells().get(index).unwrap_or(&Cell::Null);
+        if self.unlisted == Some(index) && !has_number_code(cell) {
+            self.leave_out(index);
+            return Ok(());
+        }
         let Some(column) = &mut self.columns[index] else {
             return Ok(());
         };
-        let cell = row.cells().get(index).unwrap_or(&Cell::Null);
         column.push(cell)?;
         Ok(())
     }
 
     /// Puts the cells of the other column of the index at the end of the column there, or leaves it out where that one is.
-    fn append_at(
-        &mut self,
-        alloc: Global,
-        index: usize,
-        other: &Columns<H>,
-    ) -> Result<(), AllocError>
+    fn append_at(&mut self, index: usize, other: &Columns<H>) -> Result<(), AllocError>
         requires { index < length self.old }
         ensures count { OnOk result (length self.new ≡ length self.old) }
         ensures puts { (more : List RowValue) → Hold more other.now → OnOk result (PutsAt index (cells_at index more) self.old self.new) }
@@ -132,16 +150,14 @@ impl<H: KeyHash<Cell>> Columns<H> {
         let Some(column) = &mut self.columns[index] else {
             return Ok(());
         };
-        column.append(alloc, other)?;
+        column.append(other)?;
         Ok(())
     }
 
-    /// Leaves the column of the index out, which is one of the table, and gives its memory back: as its key may be, which no
-    /// two rows have in common.
-    pub fn leave_out(&mut self, index: usize)
+    /// Leaves the column of the index out, and gives its memory back.
+    fn leave_out(&mut self, index: usize)
         requires { index < length self.old }
-        ensures left { self.new ≡ set self.old index None }
-        ensures held { (rows : List RowValue) → Hold rows self.old → Hold rows self.new }
+        ensures { self.new ≡ set self.old index None }
     {
         let column = mem::replace(&mut self.columns[index], None);
         drop(column);

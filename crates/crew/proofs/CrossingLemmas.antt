@@ -15,7 +15,7 @@ use Rattle.cells.specs.declared.hash.KeyHash as KeyHash
 use Rattle.columns.specs.contracts.code_column.CodeColumn as CodeColumn
 use Rattle.columns.specs.contracts.columns.Columns as Columns
 use Rattle.crew.specs.contracts.gathering.Gathering as Gathering
-use Rattle.crew.specs.contracts.ranging.Ranging as Ranging
+use Rattle.crew.specs.contracts.listing.Listing as Listing
 use Rattle.groups.specs.contracts.accumulators.Accumulators as Accumulators
 use Rattle.groups.specs.contracts.aggregation.Aggregation as Aggregation
 use Rattle.groups.specs.contracts.bag.Bag as Bag
@@ -64,5 +64,5 @@ module _ (H : RattleType) (cells : KeyHash.Ghosts H.Denot Cell) (s : IsSend H) (
   columns_sync : IsSync (Columns.the_field H cells).row
   columns_sync = let column = column_sync in search (sendable, crosses) depth 40
 
-  pub ranging_sync : (life : NamedLft) → IsSync (Ranging.the_field life H cells).row
-  ranging_sync life = let plan = plan_sync in let columns = columns_sync in search (sendable, crosses) depth 40
+  pub listing_sync : (life list : NamedLft) → IsSync (Listing.the_field life list H cells).row
+  listing_sync life list = let plan = plan_sync in let columns = columns_sync in search (sendable, crosses) depth 40

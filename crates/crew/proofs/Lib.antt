@@ -6,7 +6,7 @@ pub mod LayingLemmas
 pub mod ListsLemmas
 pub mod PartsLemmas
 pub mod PlacesLemmas
-pub mod RangingLemmas
+pub mod ListingLemmas
 pub mod RisingLemmas
 pub mod RuleLemmas
 pub mod SeatLemmas

@@ -3,7 +3,7 @@ pub mod Gathering
 pub mod Law
 pub mod Laying
 pub mod Limits
-pub mod Ranging
+pub mod Listing
 pub mod Seats
 pub mod Shares
 pub mod Tasks

@@ -18,7 +18,7 @@ use std::thread::Threads;
 use trie::Piece;
 
 /// The columns of the rows of all pieces, of which there are at most [`MAX_PIECES`](crate::MAX_PIECES), for a table of `width`
-/// columns, of which that of the key, the one at the index `key`, is left out. As many workers as the smaller of `workers`,
+/// columns, of which that of the key, the one at the index `key`, is left out unless all keys are integers of 32 bits. As many workers as the smaller of `workers`,
 /// taken as 1 at least and [`MAX_SEATS`](crate::MAX_SEATS) at most, and the number of pieces draw pieces until none are left,
 /// each in a thread of its own. The rows stand in the order in which the workers drew their pieces, which another run may
 /// change. The columns own copies of the cells. The gate is told of each piece that a worker takes, before and after, also
@@ -76,15 +76,12 @@ struct Laying<'a, H: KeyHash<Cell>, G> {
 }
 
 impl<'a, H: KeyHash<Cell>, G> Laying<'a, H, G> {
-    /// Columns of no rows, without one of the key: each of its cells is another one.
+    /// Columns of no rows. That of the key is to have no list of its cells, of which each is another one.
     fn none(&self, alloc: Global) -> Result<Columns<H>, AllocError>
         ensures { IfOk result (Hold []) }
     {
-        let mut columns = Columns::new(alloc, self.width)?;
-        if self.key < columns.column_count() {
-            columns.leave_out(self.key);
-        }
-        Ok(columns)
+        let columns = Columns::new(alloc, self.width)?;
+        Ok(columns.with_unlisted(self.key))
     }
 
     /// The piece at the place.
@@ -135,7 +132,7 @@ fn appended<'a, H: KeyHash<Cell>, G>(
         return laying.none(alloc);
     };
     for part in parts {
-        all.append(alloc, &part)?;
+        all.append(&part)?;
     }
     all.forget_hints();
     Ok(all)

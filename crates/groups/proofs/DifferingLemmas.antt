@@ -1,5 +1,5 @@
 -- Where a cell counts once, parts are as good as the rows that they are parts of.
-use Rattle.std.specs.Prelude.{◌≡◌, ◌≢◌, ℕ, ◌+◌, ◌<◌, ◌≤◌, ◌==◌, ◌&&◌, ◌||◌, ◌⊎◌, Bool, true, false, not, List, [], ◌∷◌, ◌++◌, Vec, length, map, min, replicate, set, take, refl}
+use Rattle.std.specs.Prelude.{◌≡◌, ◌≢◌, ℕ, ◌+◌, ◌<◌, ◌≤◌, ◌==◌, ◌&&◌, ◌||◌, ◌⊎◌, Bool, true, false, not, List, [], ◌∷◌, ◌++◌, Vec, length, map, min, replicate, set, take, Option, refl}
 use Rattle.std.specs.declared.alloc.Global.{Global}
 use Rattle.std.specs.FinSet.{same_set}
 use Rattle.std.specs.List.{AllByRecursion, Contains, list_any}
@@ -20,9 +20,9 @@ use Rattle.cells.specs.CellOrder.{cell_cmp-total, cell_eq}
 use Rattle.cells.specs.SameKeys.{exact_cells}
 use Rattle.cells.specs.declared.cell.Cell.{Cell}
 use Rattle.cells.specs.declared.cell.Cell.TheVariants.{Null, Int, Text}
-use Rattle.columns.specs.Columns.{decoded}
+use Rattle.columns.specs.Columns.{cell_of, decoded}
 use Rattle.groups.specs.Differing.{AreListed, cells_of_parts, groups_of_parts, lists_of}
-use Rattle.groups.specs.Parting.{AreParted, AreWithinBoth, no_part}
+use Rattle.groups.specs.Parting.{AreOfGroups, AreParted, no_part}
 use Rattle.groups.specs.Tallying.{AreTallied, keep_if, those_of}
 use Rattle.groups.specs.declared.parting.Part.{Part}
 use Rattle.groups.proofs.TallyingLemmas.{passing_more}
@@ -32,12 +32,12 @@ use Rattle.groups.proofs.TuplesLemmas.{all_at, take_next}
 pub part_group : (parts : List Part) (i : ℕ) → (get_or parts i no_part).group ≡ get_or (groups_of_parts parts) i 0
 part_group parts i = sym (get_or-map (λ (part : Part). part.group) parts i no_part)
 
-pub part_cell : (cells : List Cell) (parts : List Part) (i : ℕ) (cell : Cell) → i < length parts → (get_or parts i no_part).code < length cells →
-    cell ≡ get_or cells (get_or parts i no_part).code cell → cell ≡ get_or (cells_of_parts cells parts) i cell
-part_cell cells parts i cell h below is =
-    let g : Part → Cell = λ part. get_or cells part.code Null in
+pub part_cell : (cells : Option (List Cell)) (parts : List Part) (i : ℕ) (cell : Cell) → i < length parts → cell ≡ cell_of cells (get_or parts i no_part).code →
+    cell ≡ get_or (cells_of_parts cells parts) i cell
+part_cell cells parts i cell h is =
+    let g : Part → Cell = λ part. cell_of cells part.code in
     let there : i < length (cells_of_parts cells parts) = omega (arith, h, length-map parts g) in
-    is ∙ get_or_default cells (get_or parts i no_part).code cell Null below ∙ sym (get_or-map g parts i no_part) ∙ get_or_default (cells_of_parts cells parts) i (g no_part) cell there
+    is ∙ sym (get_or-map g parts i no_part) ∙ get_or_default (cells_of_parts cells parts) i (g no_part) cell there
 
 -- ---- the cells of each number, a cell after another
 pub listed_none : (count : ℕ) (lists : List (List Cell)) → lists ≡ replicate count [] → AreListed count [] [] lists
@@ -61,34 +61,34 @@ listed_more count numbers cells lists n cell same below now = record {
         sym (passing_more (λ k. k == m) numbers cells n cell same ∙ ap (λ b. those_of m numbers cells ++ keep_if b cell []) other.0 ∙ append-nil (those_of m numbers cells))
 
 -- the cell of the part at i is pushed to the list of its group
-pub listed_next : (count : ℕ) (parts : List Part) (cells : List Cell) (lists : List (Vec Cell Global)) (i : ℕ) (cell : Cell) (old new : Vec Cell Global) →
-    AreWithinBoth count (length cells) parts → i < length parts → cell ≡ get_or cells (get_or parts i no_part).code cell → old ≡ get_or lists (get_or parts i no_part).group old →
+pub listed_next : (count : ℕ) (parts : List Part) (cells : Option (List Cell)) (lists : List (Vec Cell Global)) (i : ℕ) (cell : Cell) (old new : Vec Cell Global) →
+    AreOfGroups count parts → i < length parts → cell ≡ cell_of cells (get_or parts i no_part).code → old ≡ get_or lists (get_or parts i no_part).group old →
     new.items ≡ old.items ++ cell ∷ [] → AreListed count (take i (groups_of_parts parts)) (take i (cells_of_parts cells parts)) (lists_of lists) →
     AreListed count (take (i + 1) (groups_of_parts parts)) (take (i + 1) (cells_of_parts cells parts)) (lists_of (set lists (get_or parts i no_part).group new))
 listed_next count parts cells lists i cell old new within h at read is now =
     let part : Part = get_or parts i no_part in
-    let both : (part.group < count) × (part.code < length cells) = all_at (λ (p : Part). (p.group < count) × (p.code < length cells)) parts i no_part within h in
+    let below : part.group < count = all_at (λ (p : Part). p.group < count) parts i no_part within h in
     let groups : List ℕ = groups_of_parts parts in
     let all : List Cell = cells_of_parts cells parts in
-    let f : Part → Cell = λ part. get_or cells part.code Null in
+    let f : Part → Cell = λ part. cell_of cells part.code in
     let long : length (lists_of lists) ≡ length lists = length-map lists (λ list. list.items) in
     let there : get_or (lists_of lists) part.group [] ≡ old.items =
-    get_or-map-at (λ (list : Vec Cell Global). list.items) lists part.group old [] (omega (arith, both.0, long, now.counted)) ∙ ap (λ list. list.items) (sym read) in
+    get_or-map-at (λ (list : Vec Cell Global). list.items) lists part.group old [] (omega (arith, below, long, now.counted)) ∙ ap (λ list. list.items) (sym read) in
     let first : take (i + 1) groups ≡ take i groups ++ part.group ∷ [] = take_next groups i 0 part.group (omega (arith, h, length-map parts (λ (p : Part). p.group))) (part_group parts i) in
-    let second : take (i + 1) all ≡ take i all ++ cell ∷ [] = take_next all i cell cell (omega (arith, h, length-map parts f)) (part_cell cells parts i cell h both.1 at) in
+    let second : take (i + 1) all ≡ take i all ++ cell ∷ [] = take_next all i cell cell (omega (arith, h, length-map parts f)) (part_cell cells parts i cell h at) in
     let same : length (take i groups) ≡ length (take i all) =
     length-take i groups ∙ ap (λ l. min i l) (length-map parts (λ (p : Part). p.group) ∙ sym (length-map parts f)) ∙ sym (length-take i all) in
     subst (λ l. AreListed count l (take (i + 1) all) (lists_of (set lists part.group new))) (sym first)
     (subst (λ l. AreListed count (take i groups ++ part.group ∷ []) l (lists_of (set lists part.group new))) (sym second)
     (subst (AreListed count (take i groups ++ part.group ∷ []) (take i all ++ cell ∷ []))
     (ap (λ l. set (lists_of lists) part.group (l ++ cell ∷ [])) there ∙ ap (set (lists_of lists) part.group) (sym is) ∙ sym (map-set (λ (list : Vec Cell Global). list.items) lists part.group new))
-    (listed_more count (take i groups) (take i all) (lists_of lists) part.group cell same both.0 now)))
+    (listed_more count (take i groups) (take i all) (lists_of lists) part.group cell same below now)))
 
-pub listed_all : (count : ℕ) (parts : List Part) (cells : List Cell) (lists : List (List Cell)) (i : ℕ) → length parts ≤ i →
+pub listed_all : (count : ℕ) (parts : List Part) (cells : Option (List Cell)) (lists : List (List Cell)) (i : ℕ) → length parts ≤ i →
     AreListed count (take i (groups_of_parts parts)) (take i (cells_of_parts cells parts)) lists → AreListed count (groups_of_parts parts) (cells_of_parts cells parts) lists
 listed_all count parts cells lists i h now =
     subst (λ l. AreListed count l (cells_of_parts cells parts) lists) (take_all i (groups_of_parts parts) (omega (arith, h, length-map parts (λ (p : Part). p.group))))
-    (subst (λ l. AreListed count (take i (groups_of_parts parts)) l lists) (take_all i (cells_of_parts cells parts) (omega (arith, h, length-map parts (λ (p : Part). get_or cells p.code Null)))) now)
+    (subst (λ l. AreListed count (take i (groups_of_parts parts)) l lists) (take_all i (cells_of_parts cells parts) (omega (arith, h, length-map parts (λ (p : Part). cell_of cells p.code)))) now)
 
 pub tallied_lists : {H : Type 0} (count : ℕ) (numbers : List ℕ) (cells : List Cell) (lists : List (List Cell)) (accs : List (Acc H)) → AreListed count numbers cells lists →
     accs ≡ map (acc_of kind.CountDistinct) lists → AreTallied kind.CountDistinct count numbers cells accs
@@ -131,19 +131,19 @@ module _ (parts : List Part) (numbers : List ℕ) (within : AllByRecursion (λ n
           list_any_at (λ n. p (get_or parts n no_part)) numbers at.0 found.0 at.1
           (subst (λ n. p (get_or parts n no_part) ≡ true) (sym at.2) (ap p (get_or_default parts found.0 no_part found.1 found.2 ∙ found.3) ∙ found.4))
 
-module _ (groups codes numbers : List ℕ) (parts : List Part) (cells : List Cell) (are : AreParted groups codes numbers parts) where
+module _ (groups codes numbers : List ℕ) (parts : List Part) (cells : Option (List Cell)) (are : AreParted groups codes numbers parts) where
   map_group : groups ≡ map (λ n. (get_or parts n no_part).group) numbers
   map_group = sym are.of_groups
 
-  map_cell : decoded cells codes ≡ map (λ n. get_or cells (get_or parts n no_part).code Null) numbers
-  map_cell = ap (decoded cells) (sym are.of_codes) ∙ map-map (λ code. get_or cells code Null) (λ n. (get_or parts n no_part).code) numbers
+  map_cell : decoded cells codes ≡ map (λ n. cell_of cells (get_or parts n no_part).code) numbers
+  map_cell = ap (decoded cells) (sym are.of_codes) ∙ map-map (λ code. cell_of cells code) (λ n. (get_or parts n no_part).code) numbers
 
   -- the cells of a group are those of its parts, as a set
   same_cells_of : (n : ℕ) → different (those_of n groups (decoded cells codes)) ≡ different (those_of n (groups_of_parts parts) (cells_of_parts cells parts))
   same_cells_of n = same_set cell_cmp-total exact_cells _ _ (λ q.
       let p : Cell → Bool = λ c. not (is_null c) && cell_eq q c in
       let f : Part → ℕ = λ part. part.group in
-      let g : Part → Cell = λ part. get_or cells part.code Null in
+      let g : Part → Cell = λ part. cell_of cells part.code in
       contains_different (those_of n groups (decoded cells codes)) q ∙ any_present (cell_eq q) (those_of n groups (decoded cells codes)) ∙
       ap₂ (λ (l : List ℕ) (m : List Cell). list_any p (those_of n l m)) map_group map_cell ∙
       any_of_number p n (λ k. f (get_or parts k no_part)) (λ k. g (get_or parts k no_part)) numbers ∙

@@ -189,3 +189,15 @@ folds_any_order H plan xs ys folding moved folds = record {
     }) folding.sources.items (folds.covers).each;
   };
 }
+
+-- ---- the sources of a plan over rows of columns
+module _ {H : Type 0} where
+  pub folds_rows : (plan : PlanTree) (rows : List RowValue) (none new : Folding H) → Folds plan [] none → new.plan.now ≡ none.plan.now → new.aggregations.items ≡ none.aggregations.items →
+      sets_of new.sources.items ≡ sets_of none.sources.items → IsPool none.aggregations.items rows new.sources.items → Folds plan rows new
+  folds_rows plan rows none new folds same_plan same_aggregations sets pool = record {
+    planned = same_plan ∙ folds.planned;
+    aggregations = same_aggregations ∙ folds.aggregations;
+    finer = all_through _ _ (λ s f. finer_by_sets s none.sources.items new.sources.items sets ∙ f) plan.sets folds.finer;
+    among = subst (AllByRecursion (Contains plan.sets)) (sym sets) folds.among;
+    covers = subst (λ a. IsPool a rows new.sources.items) folds.aggregations pool;
+  }

@@ -1,9 +1,10 @@
 -- The rows that WHERE keeps, found by the columns that it names.
-use Rattle.std.specs.Prelude.{◌≡◌, ℕ, suc, ◌+◌, ◌<◌, ◌≤◌, ◌==◌, ◌&&◌, Bool, true, false, cond, filter, List, [], ◌∷◌, ◌++◌, drop, length, map, min, take, Option, Some, refl}
+use Rattle.std.specs.Prelude.{◌≡◌, ℕ, suc, ◌+◌, ◌<◌, ◌≤◌, ◌==◌, ◌&&◌, Bool, true, false, cond, filter, List, [], ◌∷◌, ◌++◌, drop, length, map, min, take, Option, Some, None, refl}
 use Rattle.std.specs.List.{AllByRecursion}
 use Rattle.std.proofs.Common.{get_or, nat_lt, ap, ap₂, sym, ◌∙◌, subst, arith, eq-eqb}
 use Rattle.std.proofs.lemmas.Bool.{ltb-false, ltb-true}
-use Rattle.std.proofs.lemmas.List.{append-nil, get_or_default, get_or-map as get_at, length-map, length-take, take_all, take_more}
+use Rattle.std.proofs.lemmas.List.{append-nil, get_or_default, get_or-map as get_at, get_or_read, length-append, length-map, length-take, map-append, take_all, take_more}
+use Rattle.std.proofs.lemmas.List.Elements.{filter-append}
 use Rattle.std.proofs.Math.ListN.{get_or-map}
 use Rattle.std.proofs.lemmas.List.Sums.{fails_before_first, passes_at_first}
 use Rattle.std.proofs.lemmas.Map.Views.{exact_unsigned_eq}
@@ -13,14 +14,14 @@ use Rattle.cells.specs.TotalOrder.{cell_total}
 use Rattle.cells.specs.Values.{RowValue}
 use Rattle.cells.specs.declared.cell.Cell.{Cell}
 use Rattle.cells.specs.declared.cell.Cell.TheVariants.{Null}
-use Rattle.columns.specs.Columns.{ColumnsValue, Hold}
+use Rattle.columns.specs.Columns.{ColumnValue, ColumnsValue, Hold, cell_of, cells_at, cells_of}
 use Rattle.cells.specs.declared.total.Total.{Total}
 use Rattle.groups.specs.Groups.{cell_at, cell_at_index, is_true, keeps, kept, index_in, tuple_of}
 use Rattle.groups.specs.Keeping.{KeptBy, cells_for, chosen, truth_for}
 use Rattle.groups.specs.Numbered.{AreNumbered, HaveRows, no_row, picked_rows}
 use Rattle.groups.specs.Tallying.{keep_if}
 use Rattle.groups.proofs.TallyingLemmas.{passing_few, passing_more}
-use Rattle.groups.proofs.TuplesLemmas.{take_next}
+use Rattle.groups.proofs.TuplesLemmas.{all_first, all_push, take_next}
 use Rattle.query.specs.Naming.{AgreeAt, columns_named}
 use Rattle.query.specs.Trees.{And, NoPredicates, PredicateTree, predicates_of}
 use Rattle.query.specs.Truth.{all_truth, and_truth, truth, truth_by, value_at}
@@ -88,13 +89,14 @@ mapped_if f false x xs = refl
 abbrev pub TruthByColumns : Type 0
 TruthByColumns = (p : PredicateTree (Test ℕ)) (xs ys : List Total) → AgreeAt (columns_named p) xs ys → truth p xs ≡ truth p ys
 
+pub marked : (law : TruthByColumns) (p : PredicateTree (Test ℕ)) (named : List ℕ) (width : ℕ) → named ≡ columns_named p → AllByRecursion (λ k. k < width) named → (r : RowValue) →
+    truth_for p named width (tuple_of named r) ≡ keeps (Some p) r
+marked law p named width is below r =
+    ap is_true (law p (map cell_total (cells_for named width (tuple_of named r))) (map cell_total r.cells)
+    (subst (λ l. AgreeAt l (map cell_total (cells_for named width (tuple_of named r))) (map cell_total r.cells)) is (agree named width r below)))
+
 module _ (law : TruthByColumns) (p : PredicateTree (Test ℕ)) (named : List ℕ) (width : ℕ) (all : List RowValue) (tuples : List (List Cell)) (is : named ≡ columns_named p)
     (below : AllByRecursion (λ k. k < width) named) where
-  marked : (r : RowValue) → truth_for p named width (tuple_of named r) ≡ keeps (Some p) r
-  marked r =
-      ap is_true (law p (map cell_total (cells_for named width (tuple_of named r))) (map cell_total r.cells)
-      (subst (λ l. AgreeAt l (map cell_total (cells_for named width (tuple_of named r))) (map cell_total r.cells)) is (agree named width r below)))
-
   chosen_kept : (places numbers : List ℕ) → AllByRecursion (λ n. n < length tuples) numbers → map (λ n. get_or tuples n []) numbers ≡ map (tuple_of named) (picked_rows all places) →
       picked_rows all (chosen (map (truth_for p named width) tuples) numbers places) ≡ kept (Some p) (picked_rows all places)
   chosen_kept [] [] within stand = refl
@@ -105,7 +107,7 @@ module _ (law : TruthByColumns) (p : PredicateTree (Test ℕ)) (named : List ℕ
       let r : RowValue = get_or all i no_row in
       let first : get_or tuples n [] ≡ tuple_of named r = ap (λ l. get_or l 0 []) stand in
       let b : Bool = get_or marks n false in
-      let same : b ≡ keeps (Some p) r = get_at (truth_for p named width) tuples n [] false within.0 ∙ ap (truth_for p named width) first ∙ marked r in
+      let same : b ≡ keeps (Some p) r = get_at (truth_for p named width) tuples n [] false within.0 ∙ ap (truth_for p named width) first ∙ marked law p named width is below r in
       let rest : picked_rows all (chosen marks numbers places) ≡ kept (Some p) (picked_rows all places) = chosen_kept places numbers within.1 (ap (λ l. drop 1 l) stand) in
       mapped_if (λ j. get_or all j no_row) b i (chosen marks numbers places) ∙ ap (keep_if b r) rest ∙ sym (kept_step (Some p) r (picked_rows all places) b (sym same))
 
@@ -146,6 +148,56 @@ pub unmarked_more : (marks : List Bool) (numbers places : List ℕ) (i : ℕ) (k
 unmarked_more marks numbers places i kept added same h are mark e =
     e ∙ are ∙ sym (append-nil (chosen marks (take i numbers) (take i places))) ∙
     ap (λ b. chosen marks (take i numbers) (take i places) ++ keep_if b (get_or places i 0) []) (sym mark) ∙ sym (chosen_next marks numbers places i same h)
+
+-- ---- a row after another
+pub kept_so_far : (p : PredicateTree (Test ℕ)) (all : List RowValue) → KeptBy p all [] []
+kept_so_far p all = record { kept = refl; among = λ n h. h; few = omega arith }
+
+pub kept_next : (p : PredicateTree (Test ℕ)) (all : List RowValue) (places some : List ℕ) (i : ℕ) → i < length places → KeptBy p all (take i places) some → (b : Bool) →
+    b ≡ keeps (Some p) (get_or all (get_or places i 0) no_row) → KeptBy p all (take (i + 1) places) (some ++ keep_if b (get_or places i 0) [])
+kept_next p all places some i h now b same =
+    let x : ℕ = get_or places i 0 in
+    let more : take (i + 1) places ≡ take i places ++ x ∷ [] = take_more places i 0 h in
+    subst (λ l. KeptBy p all l (some ++ keep_if b x [])) (sym more) (record {
+      kept = map-append (λ j. get_or all j no_row) some (keep_if b x []) ∙
+          ap₂ (λ (a c : List RowValue). a ++ c) now.kept (mapped_if (λ j. get_or all j no_row) b x [] ∙ sym (kept_step (Some p) (get_or all x no_row) [] b (sym same))) ∙
+          sym (filter-append (keeps (Some p)) (picked_rows all (take i places)) (get_or all x no_row ∷ [])) ∙ ap (kept (Some p)) (sym (map-append (λ j. get_or all j no_row) (take i places) (x ∷ [])));
+      among = λ n below. among_both n b x (some) (now.among n (all_first (λ j. j < n) (take i places) (x ∷ []) below)) (all_last n (take i places) x below);
+      few = omega (arith, now.few, length-append some (keep_if b x []), length-append (take i places) (x ∷ []), short b x);
+    })
+  where
+    all_last : (n : ℕ) (xs : List ℕ) (x : ℕ) → AllByRecursion (λ j. j < n) (xs ++ x ∷ []) → x < n
+    all_last n [] x below = below.0
+    all_last n (y ∷ xs) x below = all_last n xs x below.1
+
+    among_both : (n : ℕ) (b : Bool) (x : ℕ) (some : List ℕ) → AllByRecursion (λ j. j < n) some → x < n → AllByRecursion (λ j. j < n) (some ++ keep_if b x [])
+    among_both n true x some all one = all_push (λ j. j < n) some x all one
+    among_both n false x some all one = subst (AllByRecursion (λ j. j < n)) (sym (append-nil some)) all
+
+    short : (b : Bool) (x : ℕ) → length (keep_if b x []) ≤ 1
+    short true x = omega arith
+    short false x = omega arith
+
+-- the row at i was asked
+pub asked_next : (law : TruthByColumns) (p : PredicateTree (Test ℕ)) (named : List ℕ) (width : ℕ) (all : List RowValue) (places some added : List ℕ) (i : ℕ) (lent tuple : List Cell) (b : Bool) →
+    named ≡ columns_named p → AllByRecursion (λ k. k < width) named → i < length places → KeptBy p all (take i places) some → lent ≡ tuple →
+    tuple ≡ tuple_of named (get_or all (get_or places i 0) no_row) → b ≡ truth_for p named width lent → added ≡ some ++ keep_if b (get_or places i 0) [] → KeptBy p all (take (i + 1) places) added
+asked_next law p named width all places some added i lent tuple b is below h now one two asked e =
+    subst (KeptBy p all (take (i + 1) places)) (sym e)
+    (kept_next p all places some i h now b (asked ∙ ap (truth_for p named width) (one ∙ two) ∙ marked law p named width is below (get_or all (get_or places i 0) no_row)))
+
+-- the cell of a row in a column
+pub cell_of_place : (column : ColumnValue) (lent : List ℕ) (index place : ℕ) (all : List RowValue) (code : ℕ) (cell : Cell) → cells_of column ≡ cells_at index all → lent ≡ column.by_row →
+    place < length lent → code ≡ get_or lent place code → cell ≡ cell_of column.cells code → cell ≡ cell_at index (get_or all place no_row)
+cell_of_place column lent index place all code cell is same within at read =
+    let there : code ≡ get_or column.by_row place 0 = get_or_read lent place code within at 0 ∙ ap (λ l. get_or l place 0) same in
+    read ∙ ap (cell_of column.cells) there ∙ sym (get_at (λ c. cell_of column.cells c) column.by_row place 0 Null (omega (arith, within, ap (λ l. length l) same))) ∙ ap (λ l. get_or l place Null) is ∙
+    get_or-map (cell_at index) all place no_row
+
+-- ---- no predicate
+pub kept_all : (rows : List RowValue) → kept None rows ≡ rows
+kept_all [] = refl
+kept_all (r ∷ rows) = ap (λ (l : List RowValue). r ∷ l) (kept_all rows)
 
 -- ---- predicates one after another
 and_both : (a b : Truth) → is_true (and_truth a b) ≡ (is_true a && is_true b)

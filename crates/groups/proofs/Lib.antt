@@ -14,7 +14,7 @@ pub mod NumberedLemmas
 pub mod TallyingLemmas
 pub mod DifferingLemmas
 pub mod ColumnarLemmas
-pub mod RangesLemmas
+pub mod DealingLemmas
 pub mod KeepingLemmas
 pub mod PoolLemmas
 pub mod PoolRowsLemmas

@@ -40,6 +40,12 @@ module _ {H : Type 0} where
         (IsPermutation-trans _ _ _ (IsPermutation-append_left more rows (joined one.parts) one.all) (IsPermutation-append_right (joined one.parts) more (joined two.parts) two.all));
   }
 
+  pub beside_each : (first second both : List (Group H)) → both ≡ first ++ second → HasBoth first second both
+  beside_each first second both is = record {
+    serves = λ aggregations columns rows more one two.
+        subst (Covers aggregations columns (rows ++ more)) (sym is) (covers_both aggregations columns rows more first second one two);
+  }
+
   module _ (others : List (SetBag H)) (source : SetBag H) (may : MayTakeOthers others source) where
     pub others_coarsen : MayCoarsenAll others
     others_coarsen = record {

@@ -1,5 +1,5 @@
 -- Rows numbered by their groups.
-use Rattle.std.specs.Prelude.{◌≡◌, ℕ, ◌<◌, List, [], ◌∷◌, ◌++◌, drop, length, map, replicate, refl}
+use Rattle.std.specs.Prelude.{◌≡◌, ℕ, ◌<◌, List, [], ◌∷◌, ◌++◌, drop, length, map, replicate, Option, refl}
 use Rattle.std.specs.List.{AllByRecursion, Contains}
 use Rattle.std.proofs.Common.{get_or, ap, ap₂, sym, ◌∙◌, subst, arith}
 use Rattle.std.proofs.lemmas.List.{get_or-map as get_at, length-map, length-replicate, map-append}
@@ -9,10 +9,10 @@ use Rattle.std.proofs.Math.ListN.{get_or-map}
 use Rattle.cells.specs.Values.{RowValue}
 use Rattle.cells.specs.declared.cell.Cell.{Cell}
 use Rattle.cells.specs.declared.cell.Cell.TheVariants.{Null}
-use Rattle.columns.specs.Columns.{ColumnValue, ColumnsValue, cells_at, cells_of, decoded}
+use Rattle.columns.specs.Columns.{ColumnValue, ColumnsValue, cell_of, cells_at, cells_of, decoded}
 use Rattle.groups.specs.Groups.{cell_at, tuple_of}
 use Rattle.groups.specs.Numbered.{AreNumbered, HasRows, HaveRows, NumberAll, no_row, picked_rows}
-use Rattle.groups.specs.Parting.{AreParted, AreWithinBoth, codes_at, no_part, parted_tuples}
+use Rattle.groups.specs.Parting.{AreOfGroups, AreParted, codes_at, no_part, parted_tuples}
 use Rattle.groups.specs.declared.parting.Part.{Part}
 use Rattle.groups.proofs.TuplesLemmas.{all_at, all_through}
 
@@ -71,7 +71,7 @@ pub cells_picked : (column : ColumnValue) (index : ℕ) (all : List RowValue) (r
 cells_picked column index all [] is within = refl
 cells_picked column index all (r ∷ rows) is within =
     ap₂ (λ (c : Cell) (cs : List Cell). c ∷ cs)
-    (sym (get_at (λ c. get_or column.cells c Null) column.by_row r 0 Null within.0) ∙ ap (λ l. get_or l r Null) is ∙ get_or-map (cell_at index) all r no_row)
+    (sym (get_at (λ c. cell_of column.cells c) column.by_row r 0 Null within.0) ∙ ap (λ l. get_or l r Null) is ∙ get_or-map (cell_at index) all r no_row)
     (cells_picked column index all rows is within.1)
 
 longer_tuples : (set : List ℕ) (index : ℕ) (rows : List RowValue) → map (λ r. tuple_of set r ++ cell_at index r ∷ []) rows ≡ map (tuple_of (set ++ index ∷ [])) rows
@@ -79,19 +79,15 @@ longer_tuples set index [] = refl
 longer_tuples set index (r ∷ rows) =
     ap₂ (λ (h : List Cell) (t : List (List Cell)). h ∷ t) (sym (map-append (λ c. cell_at c r) set (index ∷ []))) (longer_tuples set index rows)
 
--- what all groups and codes are below, so are those of parts
-pub parts_below : (groups codes numbers : List ℕ) (parts : List Part) → AreParted groups codes numbers parts → (count width : ℕ) → AllByRecursion (λ n. n < count) groups →
-    AllByRecursion (λ c. c < width) codes → AreWithinBoth count width parts
-parts_below groups codes numbers parts are count width one two = recursion_from_All _ parts (All-from_get_or (λ (part : Part). (part.group < count) × (part.code < width)) parts no_part
-    (λ n h. (
-      met_by (λ k. k < count) (λ p. p.group) numbers groups parts n are.of_groups one (are.met n h),
-      met_by (λ k. k < width) (λ p. p.code) numbers codes parts n are.of_codes two (are.met n h),
-    )))
+-- what all groups are below, so are those of parts
+pub parts_below : (groups codes numbers : List ℕ) (parts : List Part) → AreParted groups codes numbers parts → (count : ℕ) → AllByRecursion (λ n. n < count) groups → AreOfGroups count parts
+parts_below groups codes numbers parts are count all = recursion_from_All _ parts (All-from_get_or (λ (part : Part). part.group < count) parts no_part
+    (λ n h. met_by (λ k. k < count) (λ p. p.group) numbers groups parts n are.of_groups all (are.met n h)))
 
-module _ (groups codes numbers : List ℕ) (parts : List Part) (tuples : List (List Cell)) (cells : List Cell) (are : AreParted groups codes numbers parts) where
+module _ (groups codes numbers : List ℕ) (parts : List Part) (tuples : List (List Cell)) (cells : Option (List Cell)) (are : AreParted groups codes numbers parts) where
   pub number_parts : (count : ℕ) (new : List (List Cell)) → length groups ≡ count → new ≡ parted_tuples tuples cells parts → NumberAll count numbers new
   number_parts count new is e =
-      let f : Part → List Cell = λ part. get_or tuples part.group [] ++ get_or cells part.code Null ∷ [] in
+      let f : Part → List Cell = λ part. get_or tuples part.group [] ++ cell_of cells part.code ∷ [] in
       record {
         counted = sym (length-map numbers (λ n. (get_or parts n no_part).group)) ∙ ap (λ l. length l) are.of_groups ∙ is;
         within = subst (λ l. AllByRecursion (λ n. n < length l) numbers) (sym e) (all_through _ _ (λ n h. omega (arith, h, length-map parts f)) numbers are.within);
@@ -100,22 +96,18 @@ module _ (groups codes numbers : List ℕ) (parts : List Part) (tuples : List (L
   pub numbered_parts : (set : List ℕ) (index : ℕ) (rows : List RowValue) (new : List (List Cell)) → AreNumbered set rows groups tuples → decoded cells codes ≡ map (cell_at index) rows →
       new ≡ parted_tuples tuples cells parts → AreNumbered (set ++ index ∷ []) rows numbers new
   numbered_parts set index rows new numbered read e =
-      let f : Part → List Cell = λ part. get_or tuples part.group [] ++ get_or cells part.code Null ∷ [] in
+      let f : Part → List Cell = λ part. get_or tuples part.group [] ++ cell_of cells part.code ∷ [] in
       let one : map (λ n. get_or tuples (get_or parts n no_part).group []) numbers ≡ map (tuple_of set) rows =
       sym (map-map (λ k. get_or tuples k []) (λ n. (get_or parts n no_part).group) numbers) ∙ ap (map (λ k. get_or tuples k [])) are.of_groups ∙ numbered.stand in
-      let two : map (λ n. get_or cells (get_or parts n no_part).code Null) numbers ≡ map (cell_at index) rows =
-      sym (map-map (λ k. get_or cells k Null) (λ n. (get_or parts n no_part).code) numbers) ∙ ap (map (λ k. get_or cells k Null)) are.of_codes ∙ read in
+      let two : map (λ n. cell_of cells (get_or parts n no_part).code) numbers ≡ map (cell_at index) rows =
+      sym (map-map (λ k. cell_of cells k) (λ n. (get_or parts n no_part).code) numbers) ∙ ap (map (λ k. cell_of cells k)) are.of_codes ∙ read in
       subst (AreNumbered (set ++ index ∷ []) rows numbers) (sym e) (record {
         within = all_through _ _ (λ n h. omega (arith, h, length-map parts f)) numbers are.within;
         stand = read_all f parts numbers are.within ∙
-            alongside (λ n. get_or tuples (get_or parts n no_part).group []) (λ n. get_or cells (get_or parts n no_part).code Null) (tuple_of set) (cell_at index) numbers rows one two ∙
+            alongside (λ n. get_or tuples (get_or parts n no_part).group []) (λ n. cell_of cells (get_or parts n no_part).code) (tuple_of set) (cell_at index) numbers rows one two ∙
             longer_tuples set index rows;
         met = λ n h. are.met n (omega (arith, h, length-map parts f));
       })
-
-pub codes_within : (count : ℕ) (codes rows : List ℕ) → AllByRecursion (λ c. c < count) codes → AllByRecursion (λ i. i < length codes) rows → AllByRecursion (λ c. c < count) (codes_at codes rows)
-codes_within count codes [] all within = tt
-codes_within count codes (r ∷ rows) all within = (all_at (λ c. c < count) codes r 0 all within.0, codes_within count codes rows all within.1)
 
 -- ---- set by set
 pub rows_counted : (all : List RowValue) (rows : List ℕ) → length (picked_rows all rows) ≡ length rows
@@ -124,6 +116,6 @@ rows_counted all rows = length-map rows (λ i. get_or all i no_row)
 pub has_rows : (columns : ColumnsValue) (column : ColumnValue) (index : ℕ) (rows : List ℕ) (have : HaveRows columns rows) → cells_of column ≡ cells_at index have.rows → HasRows column rows
 has_rows columns column index rows have is = record {
   within = all_through _ _
-      (λ i h. omega (arith, h, ap (λ l. length l) is, length-map have.rows (cell_at index), length-map column.by_row (λ code. get_or column.cells code Null))) rows have.within;
+      (λ i h. omega (arith, h, ap (λ l. length l) is, length-map have.rows (cell_at index), length-map column.by_row (λ code. cell_of column.cells code))) rows have.within;
   few = have.few;
 }

@@ -1,5 +1,5 @@
 -- Accumulators of numbered cells, a cell after another.
-use Rattle.std.specs.Prelude.{◌≡◌, ◌≢◌, ℕ, zero, suc, ◌+◌, ◌<◌, ◌≤◌, ◌==◌, ◌⊎◌, Bool, true, false, List, [], ◌∷◌, ◌++◌, length, map, min, replicate, set, take, refl}
+use Rattle.std.specs.Prelude.{◌≡◌, ◌≢◌, ℕ, zero, suc, ◌+◌, ◌<◌, ◌≤◌, ◌==◌, ◌⊎◌, Bool, true, false, List, [], ◌∷◌, ◌++◌, length, map, min, replicate, set, take, Option, Some, refl}
 use Rattle.std.specs.List.{AllByRecursion}
 use Rattle.std.proofs.Common.{get_or, ap, sym, ◌∙◌, subst, arith, eq-eqb, inl, inr}
 use Rattle.std.proofs.lemmas.Bool.Decides.{eqb_tells}
@@ -13,7 +13,7 @@ use Rattle.aggs.specs.declared.acc.Kind.{Kind}
 use Rattle.aggs.specs.declared.acc.Kind.TheVariants as kind
 use Rattle.cells.specs.declared.cell.Cell.{Cell}
 use Rattle.cells.specs.declared.cell.Cell.TheVariants.{Null}
-use Rattle.columns.specs.Columns.{AreCodes, decoded}
+use Rattle.columns.specs.Columns.{AreCodes, cell_of, decoded}
 use Rattle.groups.specs.Parting.{codes_at}
 use Rattle.groups.specs.Tallying.{AreTallied, keep_if, passing, those_of}
 use Rattle.groups.proofs.TuplesLemmas.{all_at, take_next}
@@ -128,15 +128,21 @@ null_there [] i = refl
 null_there (n ∷ numbers) zero = refl
 null_there (n ∷ numbers) (suc i) = null_there numbers i
 
-pub cell_there : (cells : List Cell) (by_row rows : List ℕ) (i : ℕ) (cell : Cell) → i < length rows → AllByRecursion (λ r. r < length by_row) rows → AreCodes cells by_row →
-    cell ≡ get_or cells (get_or by_row (get_or rows i 0) 0) cell → cell ≡ get_or (decoded cells (codes_at by_row rows)) i cell
-cell_there cells by_row rows i cell h within are is =
+pub decoded_length : (cells : Option (List Cell)) (by_row rows : List ℕ) → length (decoded cells (codes_at by_row rows)) ≡ length rows
+decoded_length cells by_row rows = length-map (codes_at by_row rows) (λ c. cell_of cells c) ∙ length-map rows (λ row. get_or by_row row 0)
+
+-- the cell of the code of the row at i
+pub cell_there : (cells : Option (List Cell)) (by_row rows : List ℕ) (i : ℕ) (cell : Cell) → i < length rows → cell ≡ cell_of cells (get_or by_row (get_or rows i 0) 0) →
+    cell ≡ get_or (decoded cells (codes_at by_row rows)) i cell
+cell_there cells by_row rows i cell h is =
+    let all : List Cell = decoded cells (codes_at by_row rows) in
+    let there : i < length all = omega (arith, h, decoded_length cells by_row rows) in
+    is ∙ sym (get_or-map (λ c. cell_of cells c) (codes_at by_row rows) i 0 Null (omega (arith, h, length-map rows (λ row. get_or by_row row 0))) ∙
+    ap (λ c. cell_of cells c) (get_or-map (λ row. get_or by_row row 0) rows i 0 0 h)) ∙ get_or_default all i Null cell there
+
+pub listed_there : (cells : List Cell) (by_row rows : List ℕ) (i : ℕ) (cell : Cell) → i < length rows → AllByRecursion (λ r. r < length by_row) rows → AreCodes (Some cells) by_row →
+    cell ≡ get_or cells (get_or by_row (get_or rows i 0) 0) cell → cell ≡ get_or (decoded (Some cells) (codes_at by_row rows)) i cell
+listed_there cells by_row rows i cell h within are is =
     let code : get_or by_row (get_or rows i 0) 0 < length cells =
     all_at (λ c. c < length cells) by_row (get_or rows i 0) 0 are (all_at (λ r. r < length by_row) rows i 0 within h) in
-    let all : List Cell = decoded cells (codes_at by_row rows) in
-    let there : i < length all = omega (arith, h, length-map rows (λ row. get_or by_row row 0), length-map (codes_at by_row rows) (λ c. get_or cells c Null)) in
-    is ∙ get_or_default cells (get_or by_row (get_or rows i 0) 0) cell Null code ∙ sym (get_or-map (λ c. get_or cells c Null) (codes_at by_row rows) i 0 Null (omega (arith, h, length-map rows (λ row. get_or by_row row 0))) ∙
-    ap (λ c. get_or cells c Null) (get_or-map (λ row. get_or by_row row 0) rows i 0 0 h)) ∙ get_or_default all i Null cell there
-
-pub decoded_length : (cells : List Cell) (by_row rows : List ℕ) → length (decoded cells (codes_at by_row rows)) ≡ length rows
-decoded_length cells by_row rows = length-map (codes_at by_row rows) (λ c. get_or cells c Null) ∙ length-map rows (λ row. get_or by_row row 0)
+    cell_there (Some cells) by_row rows i cell h (is ∙ get_or_default cells (get_or by_row (get_or rows i 0) 0) cell Null code)

@@ -1,8 +1,8 @@
 -- Parts of groups, as groups and cells.
-use Rattle.std.specs.Prelude.{◌≡◌, ℕ, ◌<◌, List, [], Vec, length, map, slice_index_or}
+use Rattle.std.specs.Prelude.{◌≡◌, ℕ, ◌<◌, List, [], Vec, length, map, slice_index_or, Option}
 use Rattle.std.specs.declared.alloc.Global.{Global}
 use Rattle.cells.specs.declared.cell.Cell.{Cell}
-use Rattle.cells.specs.declared.cell.Cell.TheVariants.{Null}
+use Rattle.columns.specs.Columns.{cell_of}
 use Rattle.groups.specs.Tallying.{those_of}
 use Rattle.groups.specs.declared.parting.Part.{Part}
 
@@ -11,8 +11,8 @@ abbrev pub groups_of_parts : List Part → List ℕ
 groups_of_parts parts = map (λ part. part.group) parts
 
 -- the cell of each part
-abbrev pub cells_of_parts : List Cell → List Part → List Cell
-cells_of_parts cells parts = map (λ part. slice_index_or cells part.code Null) parts
+abbrev pub cells_of_parts : Option (List Cell) → List Part → List Cell
+cells_of_parts cells parts = map (λ part. cell_of cells part.code) parts
 
 abbrev pub lists_of : List (Vec Cell Global) → List (List Cell)
 lists_of lists = map (λ list. list.items) lists

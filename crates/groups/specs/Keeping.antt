@@ -12,13 +12,6 @@ use Rattle.query.specs.Trees.{PredicateTree}
 use Rattle.query.specs.Truth.{truth}
 use Rattle.query.specs.declared.test.Test.{Test}
 
--- the columns hold so many rows from an index on
-pub record HaveRange (columns : ColumnsValue) (first count : ℕ) : Type 0 where
-  pub rows : List RowValue
-  pub held : Hold rows columns
-  pub within : first + count ≤ length rows
-  pub few : first + count ≤ 2 ^ 32
-
 -- the cells of a row with this tuple in the named columns, and NULL in all others
 abbrev pub cells_for : List ℕ → ℕ → List Cell → List Cell
 cells_for named width tuple = map (λ k. cell_at_index tuple (index_in named k)) (range_with_len 0 width)

@@ -9,7 +9,7 @@ pub mod Numbered
 pub mod Tallying
 pub mod Differing
 pub mod Columnar
-pub mod Ranges
+pub mod Dealing
 pub mod Keeping
 pub mod Pools
 pub mod Folds

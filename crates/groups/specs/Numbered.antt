@@ -25,10 +25,14 @@ pub record NumberAll (count : ℕ) (numbers : List ℕ) (tuples : List (List Cel
   pub counted : length numbers ≡ count
   pub within : AllByRecursion (λ n. n < length tuples) numbers
 
--- the column has a cell for each of the rows of these indexes
-pub record HasRows (column : ColumnValue) (indexes : List ℕ) : Type 0 where
-  pub within : AllByRecursion (λ i. i < length column.by_row) indexes
+-- there is a code for each of the rows of these indexes, which are not too many
+pub record AreRowsOf (codes indexes : List ℕ) : Type 0 where
+  pub within : AllByRecursion (λ i. i < length codes) indexes
   pub few : length indexes ≤ 2 ^ 32
+
+-- the column has a cell for each of these rows
+abbrev pub HasRows : ColumnValue → List ℕ → Type 0
+HasRows column indexes = AreRowsOf column.by_row indexes
 
 -- the columns hold rows, those of these indexes among them
 pub record HaveRows (columns : ColumnsValue) (indexes : List ℕ) : Type 0 where

@@ -1,8 +1,8 @@
 -- Groups cut into parts by the codes of a column.
-use Rattle.std.specs.Prelude.{◌≡◌, ℕ, ◌+◌, ◌*◌, ◌<◌, ◌≤◌, ◌⊎◌, List, [], ◌∷◌, ◌++◌, length, map, slice_index_or}
+use Rattle.std.specs.Prelude.{◌≡◌, ℕ, ◌+◌, ◌*◌, ◌<◌, ◌≤◌, ◌⊎◌, List, [], ◌∷◌, ◌++◌, length, map, slice_index_or, Option}
 use Rattle.std.specs.List.{AllByRecursion, Contains}
 use Rattle.cells.specs.declared.cell.Cell.{Cell}
-use Rattle.cells.specs.declared.cell.Cell.TheVariants.{Null}
+use Rattle.columns.specs.Columns.{cell_of}
 use Rattle.groups.specs.declared.parting.Part.{Part}
 
 abbrev pub no_part : Part
@@ -29,10 +29,10 @@ abbrev pub IsNumbered : Part → List Part → List Part → ℕ → Type 0
 IsNumbered part old new n =
     ((new ≡ old) × (n < length old) × (slice_index_or old n no_part ≡ part)) ⊎ ((new ≡ old ++ part ∷ []) × (n ≡ length old))
 
--- each part's group and code stand in lists of these lengths
-abbrev pub AreWithinBoth : ℕ → ℕ → List Part → Type 0
-AreWithinBoth groups codes parts = AllByRecursion (λ part. (part.group < groups) × (part.code < codes)) parts
+-- each part is of one of so many groups
+abbrev pub AreOfGroups : ℕ → List Part → Type 0
+AreOfGroups groups parts = AllByRecursion (λ part. part.group < groups) parts
 
 -- the tuples of parts: each is its group's with the cell of its code behind it
-abbrev pub parted_tuples : List (List Cell) → List Cell → List Part → List (List Cell)
-parted_tuples tuples cells parts = map (λ part. slice_index_or tuples part.group [] ++ slice_index_or cells part.code Null ∷ []) parts
+abbrev pub parted_tuples : List (List Cell) → Option (List Cell) → List Part → List (List Cell)
+parted_tuples tuples cells parts = map (λ part. slice_index_or tuples part.group [] ++ cell_of cells part.code ∷ []) parts

@@ -7,19 +7,46 @@ ghost use Rattle.columns.specs.Columns.{Hold};
 ghost use Rattle.groups.specs.Bags.{Covers};
 ghost use Rattle.groups.specs.Columnar.{TalliesRows, accs_at, groups_from};
 ghost use Rattle.groups.specs.Numbered.{HaveRows, NumberAll, picked_rows};
+ghost use Rattle.groups.specs.Pools.{IsPool, sets_of};
 
 use crate::accumulators::Accumulators;
 use crate::aggregation::Aggregation;
 use crate::bag::Bag;
 use crate::numbered::{NumberedRows, groups_of};
+use crate::pool::SetBag;
 use crate::tallying::{counted, tallied};
 use aggs::{Acc, Kind};
 use cells::{Cell, KeyHash, Tuple};
 use columns::Columns;
 use std::alloc::{AllocError, Global};
 
+/// The sets of the sources, each with its bag over the rows of these indexes. None where one of them can't be made from the
+/// columns.
+pub fn sources_from<H: KeyHash<Cell>>(
+    alloc: Global,
+    columns: &Columns<H>,
+    aggregations: &[Aggregation],
+    rows: &[u32],
+    sources: &[SetBag<H>],
+) -> Result<Option<Vec<SetBag<H>>>, AllocError>
+    requires { HaveRows columns.now rows.now }
+    ensures sets { IfOk result (λ made. IfSome made (λ v. sets_of v.items ≡ sets_of sources.now)) }
+    ensures pool { (all : List RowValue) → Hold all columns.now →
+        IfOk result (λ made. IfSome made (λ v. IsPool aggregations.now (picked_rows all rows.now) v.items)) }
+{
+    let mut filled = Vec::with_capacity(alloc, sources.len())?;
+    for source in sources {
+        let set = Vec::from_slice(alloc, source.set.as_slice())?;
+        let Some(bag) = bag_of(alloc, columns, set.as_slice(), aggregations, rows)? else {
+            return Ok(None);
+        };
+        filled.push(SetBag { set, bag })?;
+    }
+    Ok(Some(filled))
+}
+
 /// The bag of a set over the rows of these indexes. None where a column that is wanted was left out.
-pub fn bag_of<H: KeyHash<Cell>>(
+fn bag_of<H: KeyHash<Cell>>(
     alloc: Global,
     columns: &Columns<H>,
     set: &[usize],

@@ -7,7 +7,7 @@ ghost use Rattle.aggs.specs.declared.acc.Kind.TheVariants as kind;
 ghost use Rattle.columns.specs.Columns.{decoded};
 ghost use Rattle.groups.specs.Differing.{AreListed, cells_of_parts, groups_of_parts, lists_of};
 ghost use Rattle.groups.specs.Numbered.{HasRows};
-ghost use Rattle.groups.specs.Parting.{AreWithinBoth, codes_at};
+ghost use Rattle.groups.specs.Parting.{AreOfGroups, codes_at};
 ghost use Rattle.groups.specs.Tallying.{AreTallied};
 
 use crate::parting::{Part, Parts, parted};
@@ -28,11 +28,9 @@ pub fn tallied_different<H: KeyHash<Cell>>(
     requires numbers { (length numbers.now ≡ length rows.now) × AllByRecursion (λ n. n < count) numbers.now }
     ensures { IfOk result (λ v. AreTallied kind.CountDistinct count numbers.now (decoded column.now.cells (codes_at column.now.by_row rows.now)) v.items) }
 {
-    let codes = column.codes();
-    let cells = column.cells();
-    let made = parted(alloc, numbers, count, rows, codes, cells.len())?;
+    let made = parted(alloc, numbers, count, rows, column.codes(), column.span())?;
     let Parts { parts, .. } = made;
-    Ok(tallied_parts(alloc, count, parts.as_slice(), cells)?)
+    Ok(tallied_parts(alloc, count, parts.as_slice(), column)?)
 }
 
 /// Accumulators of COUNT DISTINCT of `count` groups, each made at once of the cells of the parts of its group.
@@ -40,28 +38,28 @@ fn tallied_parts<H: KeyHash<Cell>>(
     alloc: Global,
     count: usize,
     parts: &[Part],
-    cells: &[Cell],
+    column: &CodeColumn<H>,
 ) -> Result<Vec<Acc<H>>, AllocError>
-    requires { AreWithinBoth count (length cells.now) parts.now }
-    ensures { IfOk result (λ v. AreTallied kind.CountDistinct count (groups_of_parts parts.now) (cells_of_parts cells.now parts.now) v.items) }
+    requires { AreOfGroups count parts.now }
+    ensures { IfOk result (λ v. AreTallied kind.CountDistinct count (groups_of_parts parts.now) (cells_of_parts column.now.cells parts.now) v.items) }
 {
-    let lists = cells_by_group(alloc, count, parts, cells)?;
+    let lists = cells_by_group(alloc, count, parts, column)?;
     Ok(accumulators_of(alloc, lists)?)
 }
 
 /// The cells of the parts of each of `count` groups.
-fn cells_by_group(
+fn cells_by_group<H: KeyHash<Cell>>(
     alloc: Global,
     count: usize,
     parts: &[Part],
-    cells: &[Cell],
+    column: &CodeColumn<H>,
 ) -> Result<Vec<Vec<Cell>>, AllocError>
-    requires { AreWithinBoth count (length cells.now) parts.now }
-    ensures { IfOk result (λ v. AreListed count (groups_of_parts parts.now) (cells_of_parts cells.now parts.now) (lists_of v.items)) }
+    requires { AreOfGroups count parts.now }
+    ensures { IfOk result (λ v. AreListed count (groups_of_parts parts.now) (cells_of_parts column.now.cells parts.now) (lists_of v.items)) }
 {
     let mut lists = empty_lists(alloc, count)?;
     for part in parts {
-        let cell = cells[part.code as usize].clone()?;
+        let cell = column.cell(part.code)?;
         lists[part.group as usize].push(cell)?;
     }
     Ok(lists)

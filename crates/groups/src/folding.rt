@@ -4,19 +4,18 @@ ghost use Rattle.cells.specs.Values.{RowValue};
 ghost use Rattle.columns.specs.Columns.{Hold};
 ghost use Rattle.groups.specs.Folds.{group_count, FillsSources, Folds, MayFillSources, MayEnd, MayJoin, MayTakeMore};
 ghost use Rattle.groups.specs.Groups.{kept, rows_over};
-ghost use Rattle.groups.specs.Keeping.{HaveRange};
+ghost use Rattle.groups.specs.Numbered.{HaveRows, picked_rows};
 ghost use Rattle.groups.specs.Partials.{Stands, rows_of};
-ghost use Rattle.groups.specs.Ranges.{rows_from};
 ghost use Rattle.query.specs.Plans.{PlanTree};
 
 use crate::aggregation::{Aggregation, aggregations};
-use crate::keeping::kept_rows;
+use crate::columnar::sources_from;
+use crate::keeping::kept_by;
 use crate::meeting::all_with_others;
 use crate::partial::Partial;
 use crate::pool::SetBag;
 use crate::pool_rows::rows_of_sources;
 use crate::pool_tries::tries_of;
-use crate::ranges::sources_from;
 use crate::report_row::ReportRow;
 use crate::sources::sources_of;
 use crate::visiting::{KeptRows, fill_source};
@@ -35,6 +34,8 @@ pub struct Folding<'a, H: KeyHash<Cell>> {
     plan: &'a Plan,
     aggregations: Vec<Aggregation>,
     sources: Vec<SetBag<H>>,
+    // whether other foldings have no groups of its tuples, as far as is known; nothing rests on it
+    apart: bool,
 }
 
 impl<'a, H: KeyHash<Cell> + KeyHash<Tuple>> Folding<'a, H> {
@@ -48,6 +49,7 @@ impl<'a, H: KeyHash<Cell> + KeyHash<Tuple>> Folding<'a, H> {
             plan,
             aggregations,
             sources,
+            apart: false,
         })
     }
 
@@ -68,34 +70,56 @@ impl<'a, H: KeyHash<Cell> + KeyHash<Tuple>> Folding<'a, H> {
         Ok(())
     }
 
-    /// The folding of those rows for which the plan's WHERE is true, of `count` rows from the index `first` on whose
-    /// columns are at hand. None where a column that the plan needs was left out: then the rows are to be folded piece by
-    /// piece. The only error is that a growth was refused.
+    /// The folding of those rows for which the plan's WHERE is true, of the rows of these indexes whose columns are at hand. None
+    /// where a column that the plan needs was left out: then the rows are to be folded piece by piece. The only error is that a
+    /// growth was refused.
+    ///
+    /// `apart` says that no other rows have tuples of these, as [`deal_out`](crate::deal_out) deals them. It spares the
+    /// search for such tuples when foldings are joined, and changes no row of a report.
     pub fn of_rows(
         alloc: Global,
         plan: &'a Plan,
         columns: &Columns<H>,
-        first: usize,
-        count: usize,
+        rows: &[u32],
+        apart: bool,
     ) -> Result<Option<Folding<'a, H>>, AllocError>
-        requires { HaveRange columns.now first count }
+        requires { HaveRows columns.now rows.now }
         ensures { (all : List RowValue) → Hold all columns.now →
-            IfOk result (λ made. IfSome made (Folds plan.now (kept plan.now.condition (rows_from first count all)))) }
+            IfOk result (λ made. IfSome made (Folds plan.now (kept plan.now.condition (picked_rows all rows.now)))) }
     {
-        let none = Folding::new(alloc, plan)?;
-        let Some(rows) = kept_rows(alloc, plan, columns, first, count)? else {
+        let Some(predicate) = plan.condition() else {
+            return Folding::of_all(alloc, plan, columns, rows, apart);
+        };
+        let Some(kept) = kept_by(alloc, predicate, columns, rows)? else {
             return Ok(None);
         };
+        Folding::of_all(alloc, plan, columns, kept.as_slice(), apart)
+    }
+
+    /// The folding of the rows of these indexes, whatever the plan's WHERE is for them. None likewise.
+    fn of_all(
+        alloc: Global,
+        plan: &'a Plan,
+        columns: &Columns<H>,
+        rows: &[u32],
+        apart: bool,
+    ) -> Result<Option<Folding<'a, H>>, AllocError>
+        requires { HaveRows columns.now rows.now }
+        ensures { (all : List RowValue) → Hold all columns.now →
+            IfOk result (λ made. IfSome made (Folds plan.now (picked_rows all rows.now))) }
+    {
+        let none = Folding::new(alloc, plan)?;
         let Folding {
             plan,
             aggregations,
             sources,
+            ..
         } = none;
         let made = sources_from(
             alloc,
             columns,
             aggregations.as_slice(),
-            rows.as_slice(),
+            rows,
             sources.as_slice(),
         )?;
         let Some(sources) = made else {
@@ -105,6 +129,7 @@ impl<'a, H: KeyHash<Cell> + KeyHash<Tuple>> Folding<'a, H> {
             plan,
             aggregations,
             sources,
+            apart,
         }))
     }
 
@@ -121,7 +146,7 @@ impl<'a, H: KeyHash<Cell> + KeyHash<Tuple>> Folding<'a, H> {
 
     /// The rows that went into another folding of the same plan, behind those that are there: at most 4,294,967,296
     /// together. Where none went in here, it is the other one; else the other's groups are moved here, and those of one
-    /// tuple put together. The only error is that a growth was refused.
+    /// tuple put together, unless both are apart. The only error is that a growth was refused.
     pub fn join(self, alloc: Global, other: Folding<'a, H>) -> Result<Folding<'a, H>, AllocError>
         requires { MayJoin self other }
         ensures { (plan : PlanTree) (xs ys : List RowValue) → Folds plan xs self.entry → Folds plan ys other.entry →
@@ -130,20 +155,23 @@ impl<'a, H: KeyHash<Cell> + KeyHash<Tuple>> Folding<'a, H> {
         if self.groups() == 0 {
             return Ok(other);
         }
+        let apart = self.apart && other.apart;
         let Folding {
             plan,
             aggregations,
             sources,
+            ..
         } = self;
         let Folding {
             sources: others,
             ..
         } = other;
-        let sources = all_with_others(alloc, sources, others)?;
+        let sources = all_with_others(alloc, sources, others, apart)?;
         Ok(Folding {
             plan,
             aggregations,
             sources,
+            apart,
         })
     }
 
@@ -157,6 +185,7 @@ impl<'a, H: KeyHash<Cell> + KeyHash<Tuple>> Folding<'a, H> {
             plan,
             aggregations,
             sources,
+            ..
         } = self;
         let tries = tries_of(alloc, plan.sets(), aggregations.as_slice(), sources)?;
         Ok(Partial { tries })
@@ -173,6 +202,7 @@ impl<'a, H: KeyHash<Cell> + KeyHash<Tuple>> Folding<'a, H> {
             plan,
             aggregations,
             sources,
+            ..
         } = self;
         rows_of_sources(alloc, plan, aggregations.as_slice(), sources)
     }

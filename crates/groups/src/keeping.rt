@@ -1,49 +1,24 @@
-//! The rows of a range of columns that WHERE keeps.
+//! The rows that WHERE keeps, of rows whose columns are at hand.
 ghost use Rattle.std.specs.Prelude.{◌≡◌, ◌+◌, ◌<◌, ◌≤◌, ◌^◌, List, IfOk, IfSome, OnOk, length, map};
 ghost use Rattle.std.specs.List.{AllByRecursion, range_with_len};
 ghost use Rattle.cells.specs.Values.{RowValue};
 ghost use Rattle.columns.specs.Columns.{Hold};
-ghost use Rattle.groups.specs.Groups.{cell_at_index, kept};
-ghost use Rattle.groups.specs.Keeping.{HaveRange, KeptBy, cells_for, chosen, truth_for};
-ghost use Rattle.groups.specs.Numbered.{HaveRows, NumberAll, picked_rows};
-ghost use Rattle.groups.specs.Ranges.{rows_from};
+ghost use Rattle.groups.specs.Groups.{cell_at_index};
+ghost use Rattle.groups.specs.Keeping.{KeptBy, cells_for, chosen, truth_for};
+ghost use Rattle.groups.specs.Numbered.{HaveRows};
 ghost use Rattle.query.specs.Trees.{And, predicates_of};
 
+use crate::asking::{are_many, asked_of_each};
 use crate::numbered::groups_of;
 use crate::set_columns::index_in;
 use cells::{Cell, KeyHash, Tuple};
 use columns::Columns;
-use query::{Plan, Predicate, PredicateForm, Truth, truth_by_columns};
+use query::{Predicate, PredicateForm, Truth, truth_by_columns};
 use std::alloc::{AllocError, Global};
 
-/// The indexes of those rows for which the plan's WHERE is true, of `count` rows from the index `first` on. None where a column
-/// that WHERE names was left out.
-pub fn kept_rows<H: KeyHash<Cell>>(
-    alloc: Global,
-    plan: &Plan,
-    columns: &Columns<H>,
-    first: usize,
-    count: usize,
-) -> Result<Option<Vec<u32>>, AllocError>
-    requires { HaveRange columns.now first count }
-    ensures within { IfOk result (λ made. IfSome made (λ v. AllByRecursion (λ i. i < first + count) v.items)) }
-    ensures few { IfOk result (λ made. IfSome made (λ v. length v.items ≤ count)) }
-    ensures kept { (all : List RowValue) → Hold all columns.now →
-        IfOk result (λ made. IfSome made (λ v. picked_rows all v.items ≡ kept plan.now.condition (rows_from first count all))) }
-{
-    let indexes = indexes(alloc, first, count)?;
-    let Some(predicate) = plan.condition() else {
-        return Ok(Some(indexes));
-    };
-    let Some(kept) = kept_by(alloc, predicate, columns, indexes.as_slice())? else {
-        return Ok(None);
-    };
-    Ok(Some(kept))
-}
-
 /// Those of the places whose rows the predicate is true for. Where AND stands between predicates, each is asked of those alone
-/// that those before it leave. None as of [`kept_rows`].
-fn kept_by<H: KeyHash<Cell>>(
+/// that those before it leave. None where a column that it names was left out.
+pub fn kept_by<H: KeyHash<Cell>>(
     alloc: Global,
     predicate: &Predicate<usize>,
     columns: &Columns<H>,
@@ -80,8 +55,8 @@ fn kept_by_all<H: KeyHash<Cell>>(
     Ok(Some(kept))
 }
 
-/// Those of the places whose rows the predicate is true for, which is asked once for those that have the same cells in the
-/// columns that it names. None likewise.
+/// Those of the places whose rows the predicate is true for. It is asked once for those that have the same cells in the columns
+/// that it names, unless these have about as many different ones as there are rows. None likewise.
 fn chosen_by<H: KeyHash<Cell>>(
     alloc: Global,
     predicate: &Predicate<usize>,
@@ -97,6 +72,9 @@ fn chosen_by<H: KeyHash<Cell>>(
     let Some(width) = width_of(columns, named.as_slice()) else {
         return Ok(None);
     };
+    if are_many(columns, named.as_slice(), places.len()) {
+        return asked_of_each(alloc, predicate, columns, named.as_slice(), width, places);
+    }
     let Some(groups) = groups_of(alloc, columns, named.as_slice(), places)? else {
         return Ok(None);
     };
@@ -109,18 +87,6 @@ fn chosen_by<H: KeyHash<Cell>>(
     )?;
     let kept = chosen(alloc, places, groups.numbers.as_slice(), truths.as_slice())?;
     Ok(Some(kept))
-}
-
-/// The indexes of `count` rows from the index `first` on.
-fn indexes(alloc: Global, first: usize, count: usize) -> Result<Vec<u32>, AllocError>
-    requires { first + count ≤ 2 ^ 32 }
-    ensures { IfOk result (λ v. v.items ≡ range_with_len first count) }
-{
-    let mut indexes = Vec::with_capacity(alloc, count)?;
-    for at in 0..count {
-        indexes.push((first + at) as u32)?;
-    }
-    Ok(indexes)
 }
 
 /// How many cells a list has that has one for each of these columns. None where there is no such column.
@@ -149,7 +115,7 @@ fn truths(
     let mut truths = Vec::with_capacity(alloc, tuples.len())?;
     let mut cells = Vec::with_capacity(alloc, width)?;
     for tuple in tuples {
-        put_cells_for(&mut cells, named, width, tuple)?;
+        put_cells_for(&mut cells, named, width, tuple.cells())?;
         let truth = predicate.truth_of_cells(cells.as_slice());
         truths.push(matches!(truth, Truth::True))?;
     }
@@ -157,17 +123,17 @@ fn truths(
 }
 
 /// Puts the cells of a row with this tuple in the named columns, and NULL in all others, in the place of all that are there.
-fn put_cells_for(
+pub fn put_cells_for(
     cells: &mut Vec<Cell>,
     named: &[usize],
     width: usize,
-    tuple: &Tuple,
+    tuple: &[Cell],
 ) -> Result<(), AllocError>
     ensures { OnOk result (cells.new.items ≡ cells_for named.now width tuple.now) }
 {
     cells.clear();
     for index in 0..width {
-        let cell = cell_in(tuple.cells(), index_in(named, index))?;
+        let cell = cell_in(tuple, index_in(named, index))?;
         cells.push(cell)?;
     }
     Ok(())

@@ -4,9 +4,11 @@
 
 mod accumulators;
 mod aggregation;
+mod asking;
 mod bag;
 mod coarsening;
 mod columnar;
+mod dealing;
 mod differing;
 mod finishing;
 mod folding;
@@ -21,7 +23,6 @@ mod parting;
 mod pool;
 mod pool_rows;
 mod pool_tries;
-mod ranges;
 mod report_row;
 mod rising;
 mod set_columns;
@@ -30,6 +31,7 @@ mod tallying;
 mod tuples;
 mod visiting;
 
+pub use dealing::{Dealt, deal_out};
 pub use folding::Folding;
 pub use laws::{any_order, having_by_names, worked_reports, worked_text};
 pub use partial::Partial;

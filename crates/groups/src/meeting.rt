@@ -5,21 +5,24 @@ ghost use Rattle.groups.specs.Bags.{CanJoin, HasBoth};
 ghost use Rattle.groups.specs.Folds.{MayTakeOthers, TakesOthers};
 ghost use Rattle.groups.specs.Pools.{sets_of};
 
+use crate::bag::Bag;
 use crate::pool::{SetBag, bag_from, coarser_bag};
 use cells::{Cell, KeyHash};
 use std::alloc::{AllocError, Global};
 
-/// The sources, each with the rows that went into the others behind its own.
+/// The sources, each with the rows that went into the others behind its own. Where both are apart, as far as is known, no groups of
+/// one tuple are looked for.
 pub fn all_with_others<H: KeyHash<Cell>>(
     alloc: Global,
     sources: Vec<SetBag<H>>,
     others: Vec<SetBag<H>>,
+    apart: bool,
 ) -> Result<Vec<SetBag<H>>, AllocError>
     requires { AllByRecursion (MayTakeOthers others.items) sources.items }
     ensures { IfOk result (λ v. AllZip (TakesOthers others.items) sources.items v.items) }
 {
     if have_same_sets(sources.as_slice(), others.as_slice()) {
-        return each_with_its_other(alloc, sources, others);
+        return each_with_its_other(alloc, sources, others, apart);
     }
     each_with_others(alloc, sources, others.as_slice())
 }
@@ -44,6 +47,7 @@ fn each_with_its_other<H: KeyHash<Cell>>(
     alloc: Global,
     sources: Vec<SetBag<H>>,
     others: Vec<SetBag<H>>,
+    apart: bool,
 ) -> Result<Vec<SetBag<H>>, AllocError>
     requires may { AllByRecursion (MayTakeOthers others.items) sources.items }
     requires same { sets_of others.items ≡ sets_of sources.items }
@@ -55,7 +59,7 @@ fn each_with_its_other<H: KeyHash<Cell>>(
         let Some(other) = others.next() else {
             unreachable!()
         };
-        joined.push(with_other(alloc, source, other)?)?;
+        joined.push(with_other(alloc, source, other, apart)?)?;
     }
     Ok(joined)
 }
@@ -65,6 +69,7 @@ fn with_other<H: KeyHash<Cell>>(
     alloc: Global,
     source: SetBag<H>,
     other: SetBag<H>,
+    apart: bool,
 ) -> Result<SetBag<H>, AllocError>
     requires { CanJoin source.bag other.bag }
     ensures set { IfOk result (λ made. made.set.items ≡ source.set.items) }
@@ -72,8 +77,24 @@ fn with_other<H: KeyHash<Cell>>(
 {
     let SetBag { set, bag } = source;
     let SetBag { bag: more, .. } = other;
-    let bag = bag.join(alloc, more)?;
+    let bag = both(alloc, bag, more, apart)?;
     Ok(SetBag { set, bag })
+}
+
+/// The groups of both, which are put together where they have one tuple, unless they are apart.
+fn both<H: KeyHash<Cell>>(
+    alloc: Global,
+    bag: Bag<H>,
+    more: Bag<H>,
+    apart: bool,
+) -> Result<Bag<H>, AllocError>
+    requires { CanJoin bag more }
+    ensures { IfOk result (HasBoth bag more) }
+{
+    if apart {
+        return bag.with(more);
+    }
+    bag.join(alloc, more)
 }
 
 /// The sources, where the others may have other sets: each with groups that are made of the others'.

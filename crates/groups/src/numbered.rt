@@ -3,9 +3,9 @@ ghost use Rattle.std.specs.Prelude.{◌≡◌, ◌++◌, ◌∷◌, [], ℕ, Lis
 ghost use Rattle.cells.specs.Values.{RowValue};
 ghost use Rattle.cells.specs.declared.cell.Cell.{Cell};
 ghost use Rattle.cells.specs.declared.cell.Cell.TheVariants.{Null};
-ghost use Rattle.columns.specs.Columns.{Hold, cells_at, cells_of};
+ghost use Rattle.columns.specs.Columns.{Hold, cell_of, cells_at, cells_of};
 ghost use Rattle.groups.specs.Numbered.{AreNumbered, HasRows, HaveRows, NumberAll, picked_rows};
-ghost use Rattle.groups.specs.Parting.{AreWithinBoth, parted_tuples};
+ghost use Rattle.groups.specs.Parting.{AreOfGroups, parted_tuples};
 
 use crate::parting::{Part, Parts, parted};
 use cells::{Cell, KeyHash, Tuple};
@@ -40,6 +40,17 @@ pub fn groups_of<H: KeyHash<Cell>>(
         groups = finer;
     }
     Ok(Some(groups))
+}
+
+/// How many different tuples the columns of a set may have, by the codes that they have. Nothing rests on it.
+pub fn most_tuples<H: KeyHash<Cell>>(columns: &Columns<H>, set: &[usize]) -> usize {
+    let mut tuples = 1usize;
+    for index in set {
+        if let Some(column) = columns.at(*index) {
+            tuples = tuples.saturating_mul(column.span().width());
+        }
+    }
+    tuples
 }
 
 impl NumberedRows {
@@ -82,41 +93,46 @@ impl NumberedRows {
             self.tuples.len(),
             rows,
             column.codes(),
-            column.cells().len(),
+            column.span(),
         )?;
         let Parts { numbers, parts } = finer;
-        let tuples = self.tuples_of(alloc, parts.as_slice(), column.cells())?;
+        let tuples = self.tuples_of(alloc, parts.as_slice(), column)?;
         Ok(NumberedRows { numbers, tuples })
     }
 
     /// The tuples of parts of the groups: each is its group's with the cell of its code behind it.
-    fn tuples_of(
+    fn tuples_of<H: KeyHash<Cell>>(
         &self,
         alloc: Global,
         parts: &[Part],
-        cells: &[Cell],
+        column: &CodeColumn<H>,
     ) -> Result<Vec<Tuple>, AllocError>
-        requires { AreWithinBoth (length self.now.tuples.items) (length cells.now) parts.now }
-        ensures { IfOk result (λ v. v.items ≡ parted_tuples self.now.tuples.items cells.now parts.now) }
+        requires { AreOfGroups (length self.now.tuples.items) parts.now }
+        ensures { IfOk result (λ v. v.items ≡ parted_tuples self.now.tuples.items column.now.cells parts.now) }
     {
         let mut tuples = Vec::with_capacity(alloc, parts.len())?;
         for part in parts {
             let coarser = &self.tuples[part.group as usize];
-            tuples.push(longer(alloc, coarser, &cells[part.code as usize])?)?;
+            tuples.push(longer(alloc, coarser, column, part.code)?)?;
         }
         Ok(tuples)
     }
 }
 
-/// The tuple with a cell behind its own.
-fn longer(alloc: Global, tuple: &Tuple, last: &Cell) -> Result<Tuple, AllocError>
-    ensures { IfOk result (λ t. t ≡ tuple.now ++ last.now ∷ []) }
+/// The tuple with the cell of a code behind its own.
+fn longer<H: KeyHash<Cell>>(
+    alloc: Global,
+    tuple: &Tuple,
+    column: &CodeColumn<H>,
+    code: u32,
+) -> Result<Tuple, AllocError>
+    ensures { IfOk result (λ t. t ≡ tuple.now ++ cell_of column.now.cells code ∷ []) }
 {
     let cells = tuple.cells();
     let mut all = Vec::with_capacity(alloc, cells.len() + 1)?;
     for cell in cells {
         all.push(cell.clone()?)?;
     }
-    all.push(last.clone()?)?;
+    all.push(column.cell(code)?)?;
     Ok(Tuple::new(all))
 }

@@ -3,6 +3,7 @@ ghost use Rattle.std.specs.Prelude.{◌≡◌, ◌<◌, ◌≤◌, ◌^◌, IfOk
 ghost use Rattle.std.specs.List.{AllByRecursion};
 ghost use Rattle.groups.specs.Parting.{AreParted, IsNumbered, codes_at, entry_limit};
 
+use columns::Span;
 use std::alloc::{AllocError, Global};
 
 /// Rows of a group that have one code in a column.
@@ -34,22 +35,22 @@ const PROBES: usize = 64;
 /// An odd number whose digits have no pattern: 2^64 over the golden ratio.
 const MIXER: usize = 0x9E37_79B9_7F4A_7C15;
 
-/// The parts of the groups. `groups` has the number of each row's group, `rows` the index of its code among the codes, of
-/// which there are fewer than `width`; `count` is the number of groups.
+/// The parts of the groups. `groups` has the number of each row's group, `rows` the index of its code among the codes, which
+/// lie in the span; `count` is the number of groups.
 pub fn parted(
     alloc: Global,
     groups: &[u32],
     count: usize,
     rows: &[u32],
     codes: &[u32],
-    width: usize,
+    span: Span,
 ) -> Result<Parts, AllocError>
     requires one { length groups.now ≡ length rows.now }
     requires few { length rows.now ≤ 2 ^ 32 }
     requires rows { AllByRecursion (λ row. row < length codes.now) rows.now }
     ensures { IfOk result (λ p. AreParted groups.now (codes_at codes.now rows.now) p.numbers.items p.parts.items) }
 {
-    let slots = Slots::of(count, width, rows.len());
+    let slots = Slots::of(count, span, rows.len());
     let mut numbering = Numbering {
         table: Vec::from_elem(alloc, NONE, slots.count)?,
         slots,
@@ -71,39 +72,40 @@ pub fn parted(
 #[derive(Clone, Copy, Debug, Drop)]
 struct Slots {
     count: usize,
-    // how many codes there are, where each group has a slot for each of them; else a part's slot is found by a hash
-    width: Option<usize>,
+    // where the codes lie, where each group has a slot for each of them; else a part's slot is found by a hash
+    span: Option<Span>,
 }
 
 impl Slots {
     /// Those for so many groups, codes and rows: a slot for each group and code where these are not too many for the rows,
     /// and else two slots for each row.
-    fn of(count: usize, width: usize, rows: usize) -> Slots
+    fn of(count: usize, span: Span, rows: usize) -> Slots
         requires { rows ≤ 2 ^ 32 }
         ensures { result.count ≤ entry_limit rows }
     {
-        if let Some(size) = count.checked_mul(width) {
+        if let Some(size) = count.checked_mul(span.width()) {
             if size <= ENTRIES_PER_ROW * rows + SPARE_ENTRIES {
                 return Slots {
                     count: size,
-                    width: Some(width),
+                    span: Some(span),
                 };
             }
         }
         Slots {
             count: 2 * rows + PROBES,
-            width: None,
+            span: None,
         }
     }
 
     /// The slot from which on the part is looked for. Nothing rests on it.
     fn first(&self, part: Part) -> usize {
         let group = part.group as usize;
-        let code = part.code as usize;
-        if let Some(width) = self.width {
-            return group.wrapping_mul(width).wrapping_add(code);
+        if let Some(span) = self.span {
+            return group
+                .wrapping_mul(span.width())
+                .wrapping_add(span.place(part.code));
         }
-        let both = group.wrapping_mul(MIXER) ^ code;
+        let both = group.wrapping_mul(MIXER) ^ part.code as usize;
         let hash = (both ^ (both >> 32)).wrapping_mul(MIXER) >> 32;
         hash.wrapping_mul(self.count.saturating_sub(PROBES)) >> 32
     }

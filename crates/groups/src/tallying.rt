@@ -1,18 +1,18 @@
 //! Accumulators of all groups at once, from a column.
-ghost use Rattle.std.specs.Prelude.{◌≡◌, ◌<◌, ◌≤◌, List, [], IfOk, length};
+ghost use Rattle.std.specs.Prelude.{◌≡◌, ◌<◌, ◌≤◌, List, [], None, Some, IfOk, length};
 ghost use Rattle.std.specs.List.{AllByRecursion};
 ghost use Rattle.aggs.specs.Room.{cell_limit};
 ghost use Rattle.aggs.specs.declared.acc.Kind.TheVariants as kind;
 ghost use Rattle.cells.specs.declared.cell.Cell.{Cell};
-ghost use Rattle.columns.specs.Columns.{decoded};
-ghost use Rattle.groups.specs.Numbered.{HasRows};
+ghost use Rattle.columns.specs.Columns.{AreCodes, decoded};
+ghost use Rattle.groups.specs.Numbered.{AreRowsOf, HasRows};
 ghost use Rattle.groups.specs.Parting.{codes_at};
 ghost use Rattle.groups.specs.Tallying.{AreTallied};
 
 use crate::differing::tallied_different;
 use aggs::{Acc, Kind};
 use cells::{Cell, KeyHash};
-use columns::CodeColumn;
+use columns::{CodeColumn, number_cell};
 use std::alloc::{AllocError, Global};
 
 /// Accumulators of `count` groups, each of the cells of its rows. `rows` has the indexes of the rows, and `numbers` the
@@ -33,12 +33,52 @@ pub fn tallied<H: KeyHash<Cell>>(
         let made = tallied_different(alloc, count, numbers, rows, column)?;
         return Ok(made);
     }
-    let codes = column.codes();
-    let cells = column.cells();
+    match column.cells() {
+        Some(cells) => tallied_listed(alloc, kind, count, numbers, rows, column.codes(), cells),
+        None => tallied_numbers(alloc, kind, count, numbers, rows, column.codes()),
+    }
+}
+
+/// The same of the cells that codes have in a list.
+fn tallied_listed<H: KeyHash<Cell>>(
+    alloc: Global,
+    kind: Kind,
+    count: usize,
+    numbers: &[u32],
+    rows: &[u32],
+    codes: &[u32],
+    cells: &[Cell],
+) -> Result<Vec<Acc<H>>, AllocError>
+    requires codes { AreCodes (Some cells.now) codes.now }
+    requires rows { AreRowsOf codes.now rows.now }
+    requires numbers { (length numbers.now ≡ length rows.now) × AllByRecursion (λ n. n < count) numbers.now }
+    ensures { IfOk result (λ v. AreTallied kind count numbers.now (decoded (Some cells.now) (codes_at codes.now rows.now)) v.items) }
+{
     let mut accs = empty_accs(alloc, kind, count)?;
     for at in 0..rows.len() {
         let cell = &cells[codes[rows[at] as usize] as usize];
         accs[numbers[at] as usize].step(alloc, cell)?;
+    }
+    Ok(accs)
+}
+
+/// The same of the cells of numbers' codes.
+fn tallied_numbers<H: KeyHash<Cell>>(
+    alloc: Global,
+    kind: Kind,
+    count: usize,
+    numbers: &[u32],
+    rows: &[u32],
+    codes: &[u32],
+) -> Result<Vec<Acc<H>>, AllocError>
+    requires rows { AreRowsOf codes.now rows.now }
+    requires numbers { (length numbers.now ≡ length rows.now) × AllByRecursion (λ n. n < count) numbers.now }
+    ensures { IfOk result (λ v. AreTallied kind count numbers.now (decoded None (codes_at codes.now rows.now)) v.items) }
+{
+    let mut accs = empty_accs(alloc, kind, count)?;
+    for at in 0..rows.len() {
+        let cell = number_cell(codes[rows[at] as usize]);
+        accs[numbers[at] as usize].step(alloc, &cell)?;
     }
     Ok(accs)
 }

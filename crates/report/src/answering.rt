@@ -9,7 +9,7 @@ ghost use Rattle.cells.specs.declared.refused.Refused.TheVariants as Refused;
 ghost use Rattle.columns.specs.Columns.{Hold};
 ghost use Rattle.crew.specs.Gathering.{rows_in};
 ghost use Rattle.crew.specs.Limits.{piece_limit};
-ghost use Rattle.crew.specs.Ranging.{MayGatherRows};
+ghost use Rattle.crew.specs.Listing.{MayGatherRows};
 ghost use Rattle.groups.specs.Groups.{report_rows};
 ghost use Rattle.report.specs.Standing.{AreRowsFor};
 ghost use Rattle.report.specs.Waiting.{IsReportText};
@@ -192,7 +192,7 @@ impl<'a, R: Threads + Wait, G: Gate> Answering<'a, R, G> {
     }
 }
 
-/// The columns of an edition's rows, for a table of `width` columns, of which the key's is left out. None where memory for
+/// The columns of an edition's rows, for a table of `width` columns, of which the key's may be left out. None where memory for
 /// them or a worker was refused.
 fn laid_out<H: KeyHash<Cell> + KeyHash<Tuple> + Send + Sync, G: Gate, R: Threads + Wait>(
     rt: &R,

@@ -17,7 +17,7 @@ const ALWAYS: u64 = 0;
 
 const NEVER: u64 = u64::MAX;
 
-/// Worked rows of reports over two editions, each asked again. No report can be answered by columns where it needs the key's.
+/// Worked rows of reports over two editions, each asked again.
 const LINES: &[u8] = b"table SALES (ID INT KEY, REGION TEXT, ITEM TEXT, UNITS INT)
 load 1
 publish

@@ -10,7 +10,7 @@ use Rattle.groups.proofs.keeping.truths.Goals as goal
 pub loop-tuple-preserved : goal.loop-tuple-preserved
 loop-tuple-preserved c =
     let f = truth_for c.args.predicate.now c.args.named.now c.args.width in
-    let cells : c.as_slice.result.now ≡ cells_for c.args.named.now c.args.width c.tuple-item.result = c.as_slice.ensures.value ∙ c.in_ok-put_cells_for.ensures in
+    let cells : c.as_slice.result.now ≡ cells_for c.args.named.now c.args.width c.tuple-item.result = c.as_slice.ensures.value ∙ c.in_ok-put_cells_for.ensures ∙ ap (cells_for c.args.named.now c.args.width) c.cells.ensures in
     let is : c.truth_of_cells-truth.result ≡ truth c.args.predicate.now (map cell_total (cells_for c.args.named.now c.args.width c.tuple-item.result)) =
     c.truth_of_cells-truth.ensures ∙ ap (λ cs. truth c.args.predicate.now (map cell_total cs)) cells in
     let one : c.match-matches.matches ≡ is_true c.truth_of_cells-truth.result = elim c.match-matches.branch [ in-True w ↦ search rules | in_default w ↦ search rules ] in

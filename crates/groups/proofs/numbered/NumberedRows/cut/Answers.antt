@@ -1,8 +1,7 @@
 use Rattle.std.proofs.Common.{List, ap, subst, sym, ◌∙◌}
 use Rattle.std.specs.Prelude.{ℕ, length}
-use Rattle.columns.specs.Columns.{AreCodes}
-use Rattle.groups.specs.Parting.{AreWithinBoth, codes_at, parted_tuples}
-use Rattle.groups.proofs.NumberedLemmas.{cells_picked, codes_within, number_parts, numbered_parts, parts_below}
+use Rattle.groups.specs.Parting.{AreOfGroups, codes_at, parted_tuples}
+use Rattle.groups.proofs.NumberedLemmas.{cells_picked, number_parts, numbered_parts, parts_below}
 use Rattle.groups.proofs.PartingLemmas.{parted_by}
 use Rattle.groups.proofs.numbered.NumberedRows.cut.Goals as goal
 
@@ -13,11 +12,8 @@ tuples_of-requires g c =
     let rows : List ℕ = c.args.rows.now in
     let finer = c.in_ok-finer.finer in
     let are = parted_by finer c.as_slice.result.now groups.numbers.items c.codes.result.now column.by_row rows c.as_slice.ensures.value c.codes.ensures.codes c.in_ok-finer.ensures in
-    let there : AreWithinBoth (length groups.tuples.items) (length column.cells) finer.parts.items =
-    parts_below groups.numbers.items (codes_at column.by_row rows) finer.numbers.items finer.parts.items are (length groups.tuples.items) (length column.cells) c.requires.all.within
-    (codes_within (length column.cells) column.by_row rows (subst (AreCodes column.cells) c.codes.ensures.codes c.codes.ensures.within) c.requires.rows.within) in
-    subst (λ l. AreWithinBoth (length groups.tuples.items) (length l) c.as_slice-2.result.now) (sym c.cells-2.ensures)
-    (subst (λ l. AreWithinBoth (length groups.tuples.items) (length column.cells) l) (sym c.as_slice-2.ensures.value) there)
+    subst (AreOfGroups (length groups.tuples.items)) (sym c.as_slice-2.ensures.value)
+    (parts_below groups.numbers.items (codes_at column.by_row rows) finer.numbers.items finer.parts.items are (length groups.tuples.items) c.requires.all.within)
 
 pub returns-clause-all : goal.returns-clause-all
 returns-clause-all g c =
@@ -26,8 +22,8 @@ returns-clause-all g c =
     let rows : List ℕ = c.args.rows.now in
     let finer = c.in_ok-finer.finer in
     let are = parted_by finer c.as_slice.result.now groups.numbers.items c.codes.result.now column.by_row rows c.as_slice.ensures.value c.codes.ensures.codes c.in_ok-finer.ensures in
-    number_parts groups.numbers.items (codes_at column.by_row rows) finer.numbers.items finer.parts.items groups.tuples.items c.cells-2.result.now are (length rows) c.in_ok-tuples.tuples.items
-    c.requires.all.counted (c.in_ok-tuples.ensures ∙ ap (parted_tuples groups.tuples.items c.cells-2.result.now) c.as_slice-2.ensures.value)
+    number_parts groups.numbers.items (codes_at column.by_row rows) finer.numbers.items finer.parts.items groups.tuples.items column.cells are (length rows) c.in_ok-tuples.tuples.items
+    c.requires.all.counted (c.in_ok-tuples.ensures ∙ ap (parted_tuples groups.tuples.items column.cells) c.as_slice-2.ensures.value)
 
 pub returns-clause-cut : goal.returns-clause-cut
 returns-clause-cut g c = λ all set index is numbered.
@@ -38,5 +34,4 @@ returns-clause-cut g c = λ all set index is numbered.
     let are = parted_by finer c.as_slice.result.now groups.numbers.items c.codes.result.now column.by_row rows c.as_slice.ensures.value c.codes.ensures.codes c.in_ok-finer.ensures in
     numbered_parts groups.numbers.items (codes_at column.by_row rows) finer.numbers.items finer.parts.items groups.tuples.items column.cells are set index _ c.in_ok-tuples.tuples.items
     numbered (cells_picked column index all rows is c.requires.rows.within)
-    (c.in_ok-tuples.ensures ∙ ap (λ l. parted_tuples groups.tuples.items l c.as_slice-2.result.now) c.cells-2.ensures ∙
-    ap (parted_tuples groups.tuples.items column.cells) c.as_slice-2.ensures.value)
+    (c.in_ok-tuples.ensures ∙ ap (parted_tuples groups.tuples.items column.cells) c.as_slice-2.ensures.value)

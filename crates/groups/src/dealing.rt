@@ -1,0 +1,175 @@
+//! Rows dealt out to lists, which workers fold side by side.
+ghost use Rattle.std.specs.Prelude.{◌≡◌, ◌<◌, ◌≤◌, ◌^◌, [], IfOk, IsPermutation, length, map, replicate};
+ghost use Rattle.std.specs.List.{concat, range_with_len};
+ghost use Rattle.groups.specs.Dealing.{indexes_of};
+
+use crate::numbered::most_tuples;
+use crate::pool::SetBag;
+use crate::sources::sources_of;
+use cells::{Cell, KeyHash};
+use columns::Columns;
+use query::{Item, Plan};
+use std::alloc::{AllocError, Global};
+
+/// An odd number whose digits have no pattern: 2^64 over the golden ratio.
+const MIXER: usize = 0x9E37_79B9_7F4A_7C15;
+
+/// A set that may have more than one group for so many rows has many groups.
+const ROWS_PER_GROUP: usize = 16;
+
+/// How many rows a list may have for each that it would have if all had as many.
+const MOST_TO_EVEN: usize = 2;
+
+/// Indexes of rows, dealt out to lists.
+#[derive(Drop)]
+pub struct Dealt {
+    /// The indexes of each list, rising.
+    pub lists: Vec<Vec<u32>>,
+    /// Whether rows of one tuple stand in one list, as far as codes tell. Nothing rests on it.
+    pub apart: bool,
+}
+
+/// The indexes of `count` rows, dealt out to so many lists, each to one of them. Where the plan has one grouping set, which may
+/// have many groups or counts different cells, rows are dealt by their tuples, so that what is folded of two lists has no group in
+/// common; else, or if a list would have far more than its share, in ranges. The only error is that a growth was refused.
+pub fn deal_out<H: KeyHash<Cell>>(
+    alloc: Global,
+    plan: &Plan,
+    columns: &Columns<H>,
+    count: usize,
+    lists: usize,
+) -> Result<Dealt, AllocError>
+    requires few { count ≤ 2 ^ 32 }
+    requires some { 0 < lists }
+    ensures all { IfOk result (λ d. IsPermutation (concat (indexes_of d.lists.items)) (range_with_len 0 count)) }
+    ensures long { IfOk result (λ d. length d.lists.items ≡ lists) }
+{
+    let size = count.div_ceil(lists);
+    let sources = sources_of(alloc, plan.sets())?;
+    let set = set_to_deal_by(sources.as_slice(), plan, columns, count, lists);
+    if !set.is_empty() {
+        let by_tuple = Dealer { columns, set, size };
+        let made = by_tuple.lists(alloc, count, lists)?;
+        if are_even(made.as_slice(), size) {
+            return Ok(Dealt {
+                lists: made,
+                apart: true,
+            });
+        }
+    }
+    let by_range = Dealer {
+        columns,
+        set: &[],
+        size,
+    };
+    let made = by_range.lists(alloc, count, lists)?;
+    Ok(Dealt {
+        lists: made,
+        apart: false,
+    })
+}
+
+/// The set by whose tuples rows are dealt out; the empty one if they are not. Nothing rests on it.
+fn set_to_deal_by<'s, H: KeyHash<Cell>>(
+    sources: &'s [SetBag<H>],
+    plan: &Plan,
+    columns: &Columns<H>,
+    count: usize,
+    lists: usize,
+) -> &'s [usize] {
+    if lists < 2 || sources.len() != 1 {
+        return &[];
+    }
+    let set = sources[0].set.as_slice();
+    let counts_different = plan
+        .items()
+        .iter()
+        .any(|item| matches!(item, Item::CountDistinct(_)));
+    let fewest = if counts_different {
+        lists
+    } else {
+        count / ROWS_PER_GROUP
+    };
+    if most_tuples(columns, set) > fewest {
+        set
+    } else {
+        &[]
+    }
+}
+
+/// Whether no list has far more rows than another. Nothing rests on it.
+fn are_even(lists: &[Vec<u32>], size: usize) -> bool {
+    lists.iter().all(|list| list.len() / MOST_TO_EVEN <= size)
+}
+
+/// How rows are dealt out.
+#[derive(Drop)]
+struct Dealer<'a, H: KeyHash<Cell>> {
+    columns: &'a Columns<H>,
+    // by the tuples of which set; the empty one: in ranges
+    set: &'a [usize],
+    // how many rows a range has
+    size: usize,
+}
+
+impl<H: KeyHash<Cell>> Dealer<'_, H> {
+    /// The indexes of `count` rows, each in one of the lists.
+    fn lists(&self, alloc: Global, count: usize, lists: usize) -> Result<Vec<Vec<u32>>, AllocError>
+        requires few { count ≤ 2 ^ 32 }
+        requires some { 0 < lists }
+        ensures all { IfOk result (λ v. IsPermutation (concat (indexes_of v.items)) (range_with_len 0 count)) }
+        ensures long { IfOk result (λ v. length v.items ≡ lists) }
+    {
+        let mut made = empty_lists(alloc, lists, self.size)?;
+        for row in 0..count {
+            let list = self.list_of(row, lists);
+            made[list].push(row as u32)?;
+        }
+        Ok(made)
+    }
+
+    /// The index of the list of a row.
+    fn list_of(&self, row: usize, lists: usize) -> usize
+        requires { 0 < lists }
+        ensures { result < lists }
+    {
+        let list = if self.set.is_empty() {
+            row / self.size.max(1)
+        } else {
+            ((self.hash_of(row) >> 32).wrapping_mul(lists)) >> 32
+        };
+        list.min(lists - 1)
+    }
+
+    /// A hash of the row's codes in the columns of the set. Nothing rests on it.
+    fn hash_of(&self, row: usize) -> usize {
+        let mut hash = 0usize;
+        for index in self.set {
+            let code = self.code_at(*index, row);
+            hash = (hash ^ code as usize).wrapping_mul(MIXER);
+        }
+        hash
+    }
+
+    /// The row's code in a column. Nothing rests on it.
+    fn code_at(&self, index: usize, row: usize) -> u32 {
+        let Some(column) = self.columns.at(index) else {
+            return 0;
+        };
+        match column.codes().get(row) {
+            Some(code) => *code,
+            None => 0,
+        }
+    }
+}
+
+/// So many lists of no indexes, each with room for so many.
+fn empty_lists(alloc: Global, lists: usize, room: usize) -> Result<Vec<Vec<u32>>, AllocError>
+    ensures { IfOk result (λ v. indexes_of v.items ≡ replicate lists []) }
+{
+    let mut made = Vec::with_capacity(alloc, lists)?;
+    for _list in 0..lists {
+        made.push(Vec::with_capacity(alloc, room)?)?;
+    }
+    Ok(made)
+}
