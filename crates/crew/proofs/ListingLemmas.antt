@@ -1,8 +1,9 @@
 -- Rows dealt out to lists: together they are all rows, and how workers gather them.
 use Rattle.std.proofs.Common.{◌≡◌, ℕ, zero, suc, ◌+◌, ◌<◌, ◌≤◌, ◌^◌, Bool, true, false, cond, List, [], ◌∷◌, ◌++◌, filter, flat_map, get_or, length, map, refl, sym, ap, ap₂, ◌∙◌, subst, arith, IsPermutation}
 use Rattle.std.specs.List.{AllByRecursion, AllZip, concat, range_with_len}
-use Rattle.std.specs.Prelude.{Option, Some}
-use Rattle.std.proofs.lemmas.List.{append_assoc, length-append, length-map, map-append, take_all}
+use Rattle.std.specs.Prelude.{Option, Some, Vec}
+use Rattle.std.specs.declared.alloc.Global.{Global}
+use Rattle.std.proofs.lemmas.List.{append_assoc, get_or-map, length-append, length-map, map-append, take_all}
 use Rattle.std.proofs.Math.Seq.{get_or-append_seam}
 use Rattle.std.proofs.lemmas.List.Elements.{All-from_recursion, recursion_from_All}
 use Rattle.std.proofs.lemmas.List.FromFn.{length-range_with_len}
@@ -14,6 +15,7 @@ use Rattle.crew.specs.Gathering.{AreMadeOf, MayBeJoined, kept_at}
 use Rattle.crew.specs.Listing.{AreDealt, FoldsLists, Listed, MayGatherRows, rows_listed}
 use Rattle.crew.specs.Shares.{AreShared}
 use Rattle.crew.specs.Tasks.{MayTake}
+use Rattle.groups.specs.Dealing.{indexes_of}
 use Rattle.groups.specs.Folds.{Folds, MayJoin}
 use Rattle.groups.specs.Groups.{keeps, kept}
 use Rattle.groups.specs.Laws.{kept_short}
@@ -22,7 +24,7 @@ use Rattle.groups.specs.declared.folding.Folding.{Folding}
 use Rattle.query.specs.Trees.{PredicateTree}
 use Rattle.query.specs.declared.test.Test.{Test}
 use Rattle.crew.proofs.PartsLemmas.{folded, kept_few, kept_more}
-use Rattle.crew.proofs.PlacesLemmas.{permutation_flat_map}
+use Rattle.crew.proofs.PlacesLemmas.{all_weaker, permutation_flat_map}
 
 -- ---- lists
 
@@ -54,12 +56,12 @@ list_short (l ∷ lists) (suc place) = omega (arith, length-append l (concat lis
 
 module _ (count : ℕ) (lists : List (List ℕ)) (dealt : AreDealt count lists) where
   dealt_length : length (concat lists) ≡ count
-  dealt_length = length_permutation (concat lists) (range_with_len 0 count) dealt.each ∙ length-range_with_len 0 count
+  dealt_length = omega (arith, length_permutation (concat lists) (range_with_len 0 count) dealt.each, length-range_with_len 0 count)
 
   dealt_below : AllByRecursion (λ i. i < count) (concat lists)
   dealt_below = recursion_from_All (λ i. i < count) (concat lists)
       (All-permutation (λ i. i < count) (range_with_len 0 count) (concat lists) (IsPermutation-sym (concat lists) (range_with_len 0 count) dealt.each)
-      (All-from_recursion (λ i. i < count) (range_with_len 0 count) (below_range 0 count)))
+      (All-from_recursion (λ i. i < count) (range_with_len 0 count) (all_weaker (λ i. i < 0 + count) (λ i. i < count) (λ i h. omega (arith, h)) (range_with_len 0 count) (below_range 0 count))))
 
   -- the columns hold the rows of a list
   pub have_list : (columns : ColumnsValue) (it : MayGatherRows columns count) (place : ℕ) → HaveRows columns (get_or lists place [])
@@ -76,6 +78,13 @@ module _ (count : ℕ) (lists : List (List ℕ)) (dealt : AreDealt count lists) 
       subst (IsPermutation (picked_rows rows (concat lists)))
       (pick_l-range_with_len no_row rows 0 count (omega (arith, counted)) ∙ take_all count rows (omega (arith, counted)))
       (IsPermutation-map (λ i. get_or rows i no_row) (concat lists) (range_with_len 0 count) dealt.each)
+
+-- the same of a list that is lent
+pub lent_list : (columns : ColumnsValue) (count : ℕ) (lists : List (Vec ℕ Global)) (place : ℕ) (list : Vec ℕ Global) (lent : List ℕ) → MayGatherRows columns count → AreDealt count (indexes_of lists) →
+    place < length (indexes_of lists) → lent ≡ (get_or lists place list).items → HaveRows columns lent
+lent_list columns count lists place list lent it dealt h is =
+    subst (HaveRows columns) (get_or-map (λ (list : Vec ℕ Global). list.items) lists place list [] (omega (arith, h, length-map lists (λ (list : Vec ℕ Global). list.items))) ∙ sym is)
+    (have_list count (indexes_of lists) dealt columns it place)
 
 -- list by list, those of all lists
 listed_from : (f : List ℕ → List RowValue) (front lists : List (List ℕ)) (n : ℕ) → n ≡ length front → ((xs ys : List ℕ) → f (xs ++ ys) ≡ f xs ++ f ys) → f [] ≡ [] →

@@ -5,7 +5,7 @@ use Rattle.std.specs.List.{concat, range_with_len}
 use Rattle.cells.specs.Values.{RowValue}
 use Rattle.columns.specs.Columns.{ColumnsValue, Hold}
 use Rattle.crew.specs.Gathering.{kept_at}
-use Rattle.crew.specs.Limits.{workers_of}
+use Rattle.crew.specs.Limits.{piece_limit, workers_of}
 use Rattle.groups.specs.Folds.{Folds}
 use Rattle.groups.specs.Numbered.{picked_rows}
 use Rattle.groups.specs.declared.folding.Folding.{Folding}
@@ -20,9 +20,10 @@ list_count count workers = max (div_ceil count (max (min (div_ceil count (worker
 abbrev pub rows_listed : List (List ℕ) → List RowValue → ℕ → List RowValue
 rows_listed lists rows place = picked_rows rows (slice_index_or lists place [])
 
--- each of so many rows has its index in one of the lists, once
+-- each of so many rows has its index in one of the lists, once, and there are not too many lists
 pub record AreDealt (count : ℕ) (lists : List (List ℕ)) : Type 0 where
   pub each : IsPermutation (concat lists) (range_with_len 0 count)
+  pub few : length lists ≤ piece_limit
 
 -- a plan, the columns of so many rows, and the lists of the indexes of these
 pub record Listed : Type 0 where

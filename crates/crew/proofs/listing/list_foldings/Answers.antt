@@ -9,5 +9,5 @@ share_out-requires-send-K-Made g c κs within =
 
 pub share_out-requires-sync-K : goal.share_out-requires-sync-K
 share_out-requires-sync-K g c κs within =
-    let listing = listing_sync _ _ g.H.KeyHash-1 c.type_bounds.send-H c.type_bounds.sync-H in
+    let listing = listing_sync _ g.H.KeyHash-1 c.type_bounds.send-H c.type_bounds.sync-H in
     search (listing, sendable) depth 20
