@@ -7,7 +7,7 @@ use Rattle.std.proofs.lemmas.Bool.Decides.{nat_tests}
 use Rattle.std.proofs.lemmas.List.{append-nil, get_or_append_left}
 use Rattle.std.proofs.lemmas.Option.{slice_get-get_or, slice_get_within}
 use Rattle.std.specs.List.{slice_get}
-use Rattle.std.specs.Prelude.{IfOk, nat_lt}
+use Rattle.std.specs.Prelude.{IfOk, IsOk, MatchResult, OnOk, nat_lt}
 use Rattle.board.specs.Editions.{Edition, Editions, History, IsLastOf, Known, KnowsAllOf, Learns, Looks, Note, last_rows}
 use Rattle.board.specs.Editions as keeper
 use Rattle.cells.specs.Tables.{Rows}
@@ -149,3 +149,10 @@ pub finished : (k : Editions) (before : Watching) (more : History) (last : Sight
 finished k before more last all old learnt shot shots is =
     rw is (subst (λ n. GoUpTo (keeper.history k) before.plan n 0 (length before.shots) (map (up_to last) before.shots ++ last ∷ [])) shot.number
     (goes_up_to before.shots (keeper.history k) last learnt (shot.long ∙ ap (λ n. n + 1) (sym shot.number)) (omega arith) shot.is (shots_longer more old shots)))
+
+-- what is so of a value once a call was no error is so of the value that is handed on after it
+pub handed : {M W E : Type 0} (Is : W → Type 0) (made : Result M E) (value : W) (result : Result W E) → MatchResult result (λ x. (x ≡ value) × IsOk made) (λ e. made ≡ Err e) → OnOk made (Is value) → IfOk result Is
+handed Is (Ok m) value (Ok x) same is = subst Is (sym same.0) is
+handed Is (Err e) value (Ok x) same is = absurd (let none = same.1 in cc)
+handed Is (Ok m) value (Err e) same is = tt
+handed Is (Err d) value (Err e) same is = tt

@@ -61,6 +61,10 @@ pub record AudienceValue : Type 0 where
 abbrev pub with_watch : AudienceValue → Known → PlanTree → ℕ → AudienceValue
 with_watch a viewer plan count = record { begun = a.begun + 1; watches = a.watches ++ watch_from (a.begun + 1) viewer plan count ∷ [] }
 
+-- a viewer was not begun, and the next number is spent all the same
+abbrev pub without_watch : AudienceValue → AudienceValue
+without_watch a = record { begun = a.begun + 1; watches = a.watches }
+
 -- it made so many reports more: it has seen a history that begins with all that it had seen, and all else stays
 pub record HasWatched (before : Watching) (count : ℕ) (after : Watching) : Type 0 where
   pub seen : IsPrefix before.viewer.history after.viewer.history

@@ -1,8 +1,8 @@
 //! The threads of viewers.
-ghost use Rattle.std.specs.Prelude.{◌≡◌, ◌≤◌, [], IfOk, IfSome, IsNone, OnErr, OnOk};
-ghost use Rattle.report.specs.Watching.{ComesBack, HasWatched, unwatched, with_watch};
+ghost use Rattle.std.specs.Prelude.{◌≡◌, ◌+◌, ◌<◌, ◌≤◌, ◌^◌, [], IfOk, IfSome, IsNone, OnErr, OnOk};
+ghost use Rattle.report.specs.Watching.{ComesBack, HasWatched, unwatched, with_watch, without_watch};
 
-use crate::starting::Starter;
+use crate::starting::{Starter, in_thread};
 use crate::want::Want;
 use crate::watching::Watcher;
 use board::{Viewer, viewers_cross_threads};
@@ -23,6 +23,23 @@ struct WatchOf<H: KeyHash<Cell>> {
     plan: snapshot::Snapshot<Plan>,
     number: u64,
     count: u64,
+}
+
+impl<H: KeyHash<Cell>> WatchOf<H> {
+    /// So many reports of the plan, by the viewer of this number. It takes no memory.
+    fn new(viewer: &Viewer<H>, plan: &Plan, number: u64, count: u64) -> WatchOf<H>
+        ensures viewer { result.viewer.value ≡ viewer.now }
+        ensures plan { result.plan.value ≡ plan.now }
+        ensures number { result.number ≡ number }
+        ensures count { result.count ≡ count }
+    {
+        WatchOf {
+            viewer: snapshot::Snapshot::of(viewer),
+            plan: snapshot::Snapshot::of(plan),
+            number,
+            count,
+        }
+    }
 }
 
 impl<H: KeyHash<Cell>> Promise<Result<Watcher<H>, Want>> for WatchOf<H> {
@@ -73,7 +90,7 @@ impl<H: KeyHash<Cell>> Audience<H> {
 
     /// Starts a thread in which the viewer answers the plan so many times, each time on a snapshot that it takes then.
     /// The gate is told of each snapshot before the answer on it, with the viewer's number. Numbers count from 1 the
-    /// viewers that were begun here, also those who are gone, so none is given twice.
+    /// viewers that were begun here, also those who are gone, so none is given twice; a call that fails spends its number.
     ///
     /// [`Want::Worker`] where the thread can't be started, [`Want::Memory`] where a growth was refused.
     pub fn begin<'s, 'e: 's, R: Threads + Wait + Sync, G: Gate>(
@@ -87,8 +104,11 @@ impl<H: KeyHash<Cell>> Audience<H> {
         H: KeyHash<Tuple> + Send + Sync + 's,
         ensures watching { OnOk result (self.new ≡ with_watch self.old viewer plan count) }
         ensures onward { OnErr result (self.old.begun ≤ self.new.begun) }
+        ensures spent { OnErr result (self.old.begun + 1 < 2 ^ 64 → self.new ≡ without_watch self.old) }
     {
         let Some(number) = self.begun.checked_add(1) else {
+            drop(viewer);
+            drop(plan);
             return Err(Want::Memory);
         };
         self.begun = number;
@@ -137,18 +157,10 @@ fn start<
 {
     // The law by which a viewer may be moved to the thread; it does nothing.
     viewers_cross_threads::<H>();
-    let promise = WatchOf {
-        viewer: snapshot::Snapshot::of(&viewer),
-        plan: snapshot::Snapshot::of(&plan),
-        number,
-        count,
-    };
+    let promise = WatchOf::new(&viewer, &plan, number, count);
     let answering = starter.answering;
     let job = move || -> Result<Watcher<H>, Want>
         ensures { IfOk result (HasWatched (unwatched viewer plan) count) }
     { Watcher::new(answering.alloc, viewer, plan).watched(&answering, number, count) };
-    match starter.scope.spawn_with(promise, job) {
-        Ok(handle) => Ok(handle),
-        Err(_) => Err(Want::Worker),
-    }
+    in_thread(starter.scope, promise, job)
 }

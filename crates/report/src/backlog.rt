@@ -1,5 +1,5 @@
 //! Text that waits to be written behind reports that are under way.
-ghost use Rattle.std.specs.Prelude.{◌≡◌, ℕ, ◌+◌, ◌<◌, ◌≤◌, ◌^◌, ◌++◌, ◌∷◌, [], List, length, IfErr, IsErrOf, OnErr, OnOk};
+ghost use Rattle.std.specs.Prelude.{◌≡◌, ℕ, ◌+◌, ◌<◌, ◌≤◌, ◌^◌, ◌++◌, ◌∷◌, [], List, length, IfErr, IfOk, IsErrOf, OnErr, OnOk};
 ghost use Rattle.std.specs.Io.KnownBytes.{Appends};
 ghost use Rattle.report.specs.Limits.{under_way_limit};
 ghost use Rattle.report.specs.Taken.{TakesBeginning};
@@ -111,21 +111,23 @@ impl<H: KeyHash<Cell>> Backlog<H> {
         self.write_oldest(rt, out)
     }
 
-    /// Makes room for a report, whose heading waits behind all the rest.
-    fn make_way<O: Out, R: Threads>(
+    /// Makes room for a report, whose heading waits after all the rest, and hands on what is asked.
+    fn make_way<T: Drop, O: Out, R: Threads>(
         &mut self,
         rt: &R,
         out: &mut O,
         heading: &[u8],
-    ) -> Result<(), Unwritten>
+        asked: T,
+    ) -> Result<T, Unwritten>
         requires { O.faults out.old + 1 < 2 ^ 64 }
+        ensures same { IfOk result (λ x. x ≡ asked) }
         ensures room { OnOk result (length self.new.reports < under_way_limit) }
         ensures early { length self.old.reports < under_way_limit → (out.new ≡ out.old) × OnOk result (self.new ≡ with_text self.old heading.now) }
         ensures goes_on { WritesOn O.taken O.faults out.old out.new self.new (AwaitsThen self.old (λ more. heading.now ≡ more)) result }
     {
         self.make_room(rt, out)?;
         self.push_text(heading)?;
-        Ok(())
+        Ok(asked)
     }
 
     /// Writes what waits behind the last report. No report is under way.
@@ -184,7 +186,7 @@ impl<H: KeyHash<Cell>> Backlog<H> {
         ensures goes_on { WritesOn O.taken O.faults out.old out.new self.new (AwaitsThen self.old (Heads heading.now snapshot plan)) result }
         ensures early { length self.old.reports < under_way_limit → (out.new ≡ out.old) × OnOk result (self.new ≡ with_report (with_text self.old heading.now) snapshot plan) }
     {
-        self.make_way(starter.answering.rt, out, heading)?;
+        let (snapshot, plan) = self.make_way(starter.answering.rt, out, heading, (snapshot, plan))?;
         self.push_report(starter, snapshot, plan)?;
         Ok(())
     }

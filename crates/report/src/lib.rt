@@ -8,6 +8,7 @@ mod backlog;
 mod failing;
 mod limits;
 mod out;
+mod owned;
 mod pieces;
 mod pour;
 mod printing;

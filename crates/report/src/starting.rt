@@ -19,6 +19,19 @@ pub(crate) struct AnswerOf<H: KeyHash<Cell>> {
     plan: snapshot::Snapshot<Plan>,
 }
 
+impl<H: KeyHash<Cell>> AnswerOf<H> {
+    /// The answer of the plan on the edition. It takes no memory.
+    fn new(edition: &Snapshot<H>, plan: &Plan) -> AnswerOf<H>
+        ensures edition { result.edition.value ≡ edition.now }
+        ensures plan { result.plan.value ≡ plan.now }
+    {
+        AnswerOf {
+            edition: snapshot::Snapshot::of(edition),
+            plan: snapshot::Snapshot::of(plan),
+        }
+    }
+}
+
 impl<H: KeyHash<Cell>> Promise<Result<Vec<u8>, Want>> for AnswerOf<H> {
     ghost use Rattle.std.specs.Prelude.{IfOk};
     ghost use Rattle.report.specs.Waiting.{IsReportText};
@@ -45,17 +58,30 @@ impl<'a, 's, 'e: 's, R: Threads + Wait + Sync, G: Gate> Starter<'a, 's, 'e, R, G
     {
         // The law by which a snapshot may be moved to the thread; it does nothing.
         viewers_cross_threads::<H>();
-        let promise = AnswerOf {
-            edition: snapshot::Snapshot::of(&snapshot),
-            plan: snapshot::Snapshot::of(&plan),
-        };
+        let promise = AnswerOf::new(&snapshot, &plan);
         let answering = self.answering;
         let job = move || -> Result<Vec<u8>, Want>
             ensures { IfOk result (λ text. IsReportText snapshot.rows plan text.items) }
         { answering.text(&snapshot, &plan) };
-        match self.scope.spawn_with(promise, job) {
-            Ok(handle) => Ok(handle),
-            Err(_) => Err(Want::Worker),
-        }
+        in_thread(self.scope, promise, job)
+    }
+}
+
+/// Starts a thread of the scope for a job that keeps the promise; [`Want::Worker`] where it can't be started. It stands over
+/// any job, so that letting go of what a job owns is one call.
+pub(crate) fn in_thread<
+    's,
+    'e: 's,
+    T: Send + Drop + 's,
+    P: Promise<T> + Drop,
+    F: FnOnce() -> T + Send + Drop + 's,
+>(scope: &Scope<'s, &'e ()>, promise: P, job: F) -> Result<PromisedHandle<T, P>, Want>
+    requires runs { F.pre job }
+    requires keeps { (made : T) → F.post job made → P.kept_by promise made }
+    ensures { IfOk result (λ handle. handle.promise ≡ promise) }
+{
+    match scope.spawn_with(promise, job) {
+        Ok(handle) => Ok(handle),
+        Err(_) => Err(Want::Worker),
     }
 }

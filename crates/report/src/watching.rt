@@ -6,6 +6,7 @@ ghost use Rattle.report.specs.Waiting.{IsReportText};
 ghost use Rattle.report.specs.Watching.{GoUpTo, HasWatched, IsLastEdition, IsLastShot, IsOf, IsShot, unwatched, up_to as up_to_last};
 
 use crate::answering::Answering;
+use crate::owned::handed_on;
 use crate::want::Want;
 use board::{Keeper, Snapshot, Viewer};
 use cells::{Cell, KeyHash, Tuple};
@@ -97,8 +98,8 @@ impl<H: KeyHash<Cell> + KeyHash<Tuple> + Send + Sync> Watcher<H> {
         ensures { IfOk result (HasWatched self count) }
     {
         let mut watcher = self;
-        watcher.watch(answering, number, count)?;
-        Ok(watcher)
+        let made = watcher.watch(answering, number, count);
+        handed_on(made, watcher)
     }
 
     /// Makes so many reports more.

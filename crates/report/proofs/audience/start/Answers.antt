@@ -3,7 +3,7 @@ use Rattle.std.proofs.Crossing.{crosses}
 use Rattle.report.proofs.CrossingLemmas.{watcher_send}
 use Rattle.report.proofs.audience.start.Goals as goal
 
-pub spawn_with-requires-send-T : goal.spawn_with-requires-send-T
-spawn_with-requires-send-T g c κs within =
+pub in_thread-requires-send-T : goal.in_thread-requires-send-T
+in_thread-requires-send-T g c κs within =
     let watcher = watcher_send _ g.H.KeyHash-1 c.type_bounds.send-H c.viewers_cross_threads.ensures.viewer in
     search (sendable, crosses) depth 40

@@ -4,10 +4,10 @@ use Rattle.report.specs.Laws.{takes_so_far}
 use Rattle.report.specs.Waiting.{with_report}
 use Rattle.report.proofs.backlog.Backlog.begin.Goals as goal
 
-pub returns-in_err-make_way-clause-goes_on : goal.returns-in_err-make_way-clause-goes_on
-returns-in_err-make_way-clause-goes_on g c = record {
+pub returns-in_err-snapshot-clause-goes_on : goal.returns-in_err-snapshot-clause-goes_on
+returns-in_err-snapshot-clause-goes_on g c = record {
   written = λ text p. stops _ _ _ _ c.from_residual.result c.from_residual.ensures.0
-      (begins_answer _ _ _ _ text p _ _ (c.in_err-make_way.ensures.goes_on.written _ (before_answer _ _ _ _ text p)).beginning);
+      (begins_answer _ _ _ _ text p _ _ (c.in_err-snapshot.ensures.goes_on.written _ (before_answer _ _ _ _ text p)).beginning);
   sound = search rules;
   fault = search rules;
 }
@@ -15,20 +15,24 @@ returns-in_err-make_way-clause-goes_on g c = record {
 pub returns-in_err-push_report-clause-goes_on : goal.returns-in_err-push_report-clause-goes_on
 returns-in_err-push_report-clause-goes_on g c = record {
   written = λ text p. stops _ _ _ _ c.from_residual-in_err-push_report.result c.from_residual-in_err-push_report.ensures.0
-      (begins_answer _ _ _ _ text p _ _ (takes_so_far _ _ _ _ (c.in_ok-make_way.ensures.goes_on.written _ (before_answer _ _ _ _ text p)).front.taken));
+      (begins_answer _ _ _ _ text p _ _ (takes_so_far _ _ _ _ (c.in_ok-snapshot.ensures.goes_on.written _ (before_answer _ _ _ _ text p)).front.taken));
   sound = search rules;
   fault = search rules;
 }
 
 pub returns-clause-goes_on : goal.returns-clause-goes_on
-returns-clause-goes_on g c = record {
-  written = λ text p. rw c.in_ok-push_report.ensures
-      (front_answer _ _ _ _ text p _ _ c.make_way.new.self _ (c.in_ok-make_way.ensures.goes_on.written _ (before_answer _ _ _ _ text p)).front);
-  sound = search rules;
-  fault = search rules;
-}
+returns-clause-goes_on g c =
+    let same = c.in_ok-snapshot.ensures.same in
+    let new = c.in_ok-push_report.ensures ∙ ap (λ a. with_report c.make_way.new.self a.0 a.1) same in
+    record {
+      written = λ text p. rw new
+          (front_answer _ _ _ _ text p _ _ c.make_way.new.self _ (c.in_ok-snapshot.ensures.goes_on.written _ (before_answer _ _ _ _ text p)).front);
+      sound = search rules;
+      fault = search rules;
+    }
 
 pub returns-clause-early : goal.returns-clause-early
 returns-clause-early g c = λ few.
-    let ready = c.in_ok-make_way.ensures.early few in
-    (ready.0, c.in_ok-push_report.ensures ∙ ap (λ w. with_report w c.args.snapshot c.args.plan) ready.1)
+    let ready = c.in_ok-snapshot.ensures.early few in
+    let same = c.in_ok-snapshot.ensures.same in
+    (ready.0, c.in_ok-push_report.ensures ∙ ap (λ a. with_report c.make_way.new.self a.0 a.1) same ∙ ap (λ w. with_report w c.args.snapshot c.args.plan) ready.1)

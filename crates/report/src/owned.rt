@@ -1,0 +1,12 @@
+//! A value that is handed on, or let go where the call before it failed.
+ghost use Rattle.std.specs.Prelude.{◌≡◌, Err, IsOk, MatchResult};
+
+/// The value, where the call before it was no error. It stands over any value, so that letting go of one is one call.
+pub(crate) fn handed_on<T: Drop, E: Drop>(made: Result<(), E>, value: T) -> Result<T, E>
+    ensures { MatchResult result (λ x. (x ≡ value) × IsOk made) (λ e. made ≡ Err e) }
+{
+    match made {
+        Ok(()) => Ok(value),
+        Err(why) => Err(why),
+    }
+}
