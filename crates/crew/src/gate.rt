@@ -1,4 +1,6 @@
-//! Gates, by which tests hold and watch a run.
+//! Gates, by which tests hold and watch a run, and by which a program tells of it.
+
+use cells::Refused;
 
 /// What a run tells of its steps, from any of its threads, which share the gate. A gate may wait before
 /// it returns, and so holds the thread that called it there; what a run writes does not depend on its
@@ -27,6 +29,19 @@ pub trait Gate: Sync {
     /// A trie is about to be made of a run of the rows of a list of parts: of the first one, whose place is 0, or of the one in
     /// the middle, whose place is that of the middle of the list. Called by the thread that makes it.
     fn merging(&self, _place: u64) {}
+
+    /// The line of this number, counted from 1, is refused for this fault; the line 0 is the script as a whole. Called once
+    /// for each refused line, in their order, by the thread of the keeper, once the line's block is made and before it is
+    /// handed on.
+    fn refused(&self, _line: u64, _fault: Refused) {}
+
+    /// The load of this line is refused, since the part of this number, counted from 1, has a faulty record: its number,
+    /// counted from 1 after the header, which is record 0. Called in place of `refused`, and like it.
+    fn refused_record(&self, _line: u64, _part: u64, _record: u64) {}
+
+    /// What the viewers are asked is refused for this fault, so none of their reports is written. Called by the thread of
+    /// the keeper after all lines, before the line that says so is handed on.
+    fn refused_viewers(&self, _fault: Refused) {}
 }
 
 /// A gate that always stands open: it does nothing.

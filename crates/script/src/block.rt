@@ -11,8 +11,10 @@ ghost use Rattle.script.specs.Viewers.{view_block};
 ghost use Rattle.script.specs.declared.fault.Fault.TheVariants.{Line};
 
 use crate::fault::Fault;
+use crate::setup::Setup;
 use board::{Keeper, Snapshot};
 use cells::{Cell, KeyHash, Refused};
+use crew::Gate;
 use query::Plan;
 use report::Shot;
 use std::alloc::{AllocError, Global};
@@ -123,7 +125,7 @@ fn push_line(text: &mut String, line: &(Prefix, u64)) -> Result<(), AllocError>
 }
 
 /// The block of a refused line. Want of memory is no refusal of a line: it ends the run.
-pub fn refusal_block(alloc: Global, number: u64, fault: Fault) -> Result<Vec<u8>, AllocError>
+fn refusal_block(alloc: Global, number: u64, fault: Fault) -> Result<Vec<u8>, AllocError>
     ensures block { IfOk result (λ block. block.items ≡ refusal number fault) }
     ensures memory { fault ≡ Line Refused.OutOfMemory → IsErr result }
 {
@@ -132,6 +134,20 @@ pub fn refusal_block(alloc: Global, number: u64, fault: Fault) -> Result<Vec<u8>
     }
     let text = format!(in alloc; "line {number} refused {fault}\n")?;
     Ok(text.into_bytes())
+}
+
+/// The block of a refused line, as [`refusal_block`] makes it. The gate is told of the refusal once the block is made.
+pub fn refuse<R, G: Gate>(
+    setup: &Setup<'_, R, G>,
+    number: u64,
+    fault: Fault,
+) -> Result<Vec<u8>, AllocError>
+    ensures block { IfOk result (λ block. block.items ≡ refusal number fault) }
+    ensures memory { fault ≡ Line Refused.OutOfMemory → IsErr result }
+{
+    let block = refusal_block(setup.alloc, number, fault)?;
+    fault.tell(number, setup.gate);
+    Ok(block)
 }
 
 /// The heading of a report's block.

@@ -5,6 +5,7 @@ ghost use Rattle.script.specs.Faults.{fault_text};
 ghost use Rattle.script.specs.declared.fault.Fault.TheVariants.{Line};
 
 use cells::Refused;
+use crew::Gate;
 use std::alloc::{AllocError, AllocFailed};
 use std::fmt;
 
@@ -16,6 +17,16 @@ pub enum Fault {
     /// A listed part has a faulty record, which is [`Refused::BadPart`]: the part's number, counted from
     /// 1, and the record's, counted from 1 behind the header, which is record 0.
     Part { part: u64, record: u64 },
+}
+
+impl Fault {
+    /// Tells the gate that a line is refused for this. It takes no memory.
+    pub(crate) fn tell<G: Gate>(self, line: u64, gate: &G) {
+        match self {
+            Fault::Line(rule) => gate.refused(line, rule),
+            Fault::Part { part, record } => gate.refused_record(line, part, record),
+        }
+    }
 }
 
 impl From<Refused> for Fault {

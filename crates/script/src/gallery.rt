@@ -151,11 +151,11 @@ impl<H: KeyHash<Cell> + KeyHash<Tuple> + Send + Sync> Gallery<H> {
             return Ok(());
         };
         let Some(keeper) = desk else {
-            return write_refused(setup.alloc, out, Refused::NoTable);
+            return write_refused(setup, out, Refused::NoTable);
         };
         match self.stage {
             Stage::Begun => self.write_viewers(setup, viewing, keeper, out),
-            Stage::Turned(fault) => write_refused(setup.alloc, out, fault),
+            Stage::Turned(fault) => write_refused(setup, out, fault),
             Stage::Expected => unreachable!(),
         }
     }
@@ -198,9 +198,22 @@ fn plans_of(alloc: Global, viewing: Viewing<&str>, schema: &Schema) -> Result<Ve
     Ok(plans)
 }
 
+/// Tells the gate that the viewers are refused, and writes the line that stands in place of all their blocks.
+fn write_refused<O: Out, R, G: Gate>(
+    setup: &Setup<'_, R, G>,
+    out: &mut O,
+    fault: Refused,
+) -> Result<(), Ended>
+    requires { O.faults out.old + 1 < 2 ^ 64 }
+    ensures { Ends O.taken O.faults out.old out.new (λ bytes. bytes ≡ viewers_refused fault) ⊥ ⊥ result }
+{
+    setup.gate.refused_viewers(fault);
+    write_refused_line(setup.alloc, out, fault)
+}
+
 /// Writes the line that stands in place of all blocks of viewers. It starts no thread and wants no viewer's place.
 #[tactic(auto, using(report::specs::Laws::takes_nothing))]
-fn write_refused<O: Out>(alloc: Global, out: &mut O, fault: Refused) -> Result<(), Ended>
+fn write_refused_line<O: Out>(alloc: Global, out: &mut O, fault: Refused) -> Result<(), Ended>
     requires { O.faults out.old + 1 < 2 ^ 64 }
     ensures { Ends O.taken O.faults out.old out.new (λ bytes. bytes ≡ viewers_refused fault) ⊥ ⊥ result }
 {

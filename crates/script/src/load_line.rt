@@ -12,7 +12,7 @@ ghost use Rattle.script.specs.Limits.{script_limit};
 ghost use Rattle.script.specs.Listings.{rows_held, rows_loaded};
 ghost use Rattle.script.specs.Desks.{LaysOrOverflows, LoadsRows};
 
-use crate::block::refusal_block;
+use crate::block::refuse;
 use crate::fault::Fault;
 use crate::listing::{Listed, read_listing};
 use crate::setup::Setup;
@@ -21,7 +21,7 @@ use cells::{Cell, KeyHash, Row};
 use crew::Gate;
 use loader::{PartFault, load};
 use report::Want;
-use std::alloc::{AllocError, Global};
+use std::alloc::AllocError;
 use std::sync::Wait;
 use std::thread::Threads;
 use trie::Trie;
@@ -45,7 +45,7 @@ pub fn execute_load<H: KeyHash<Cell> + Send + Sync, G: Gate, R: Threads + Wait>(
             drop(listed);
             block
         }
-        Err(fault) => Ok(refusal_block(setup.alloc, number, fault)?),
+        Err(fault) => Ok(refuse(setup, number, fault)?),
     }
 }
 
@@ -60,23 +60,22 @@ fn load_listed<H: KeyHash<Cell> + Send + Sync, G: Gate, R: Threads + Wait>(
     requires within { sum_by part_len (map part_of listed.now) ≤ listed_limit }
     ensures step { IfOk result (λ block. LoadsRows keeper.old keeper.new (rows_held (rows_of_parts (editions.schema keeper.old) (map part_of listed.now))) number block.items) }
 {
-    let alloc = setup.alloc;
     let workers = setup.how.workers();
     match load(
         setup.rt,
-        alloc,
+        setup.alloc,
         listed,
         keeper.schema(),
         workers,
         setup.gate,
     ) {
-        Ok(rows) => Ok(lay_over(alloc, keeper, rows, number)?),
+        Ok(rows) => Ok(lay_over(setup, keeper, rows, number)?),
         Err(PartFault::Bad { part, entry }) => {
             let fault = Fault::Part {
                 part,
                 record: entry,
             };
-            Ok(refusal_block(alloc, number, fault)?)
+            Ok(refuse(setup, number, fault)?)
         }
         Err(fault) => Err(want_of(fault)),
     }
@@ -93,8 +92,8 @@ fn want_of(fault: PartFault) -> Want
 }
 
 /// Lays loaded rows over the draft, or refuses them where it would have too many.
-fn lay_over<H: KeyHash<Cell>>(
-    alloc: Global,
+fn lay_over<H: KeyHash<Cell>, G: Gate, R>(
+    setup: &Setup<'_, R, G>,
     keeper: &mut Keeper<H>,
     rows: Trie<Cell, Row, H>,
     number: u64,
@@ -103,7 +102,7 @@ fn lay_over<H: KeyHash<Cell>>(
     ensures step { IfOk result (λ block. LaysOrOverflows keeper.old keeper.new (laid_over (map_of cell_cmp rows) (editions.draft keeper.old)) number block.items) }
 {
     match keeper.absorb(rows) {
-        Ok(()) => Ok(Vec::new(alloc)),
-        Err(refused) => refusal_block(alloc, number, Fault::Line(refused)),
+        Ok(()) => Ok(Vec::new(setup.alloc)),
+        Err(refused) => refuse(setup, number, Fault::Line(refused)),
     }
 }

@@ -3,26 +3,28 @@ ghost use Rattle.std.specs.Prelude.{◌≡◌, IfOk};
 ghost use Rattle.script.specs.Blocks.{WillReport, WillReportPlan};
 ghost use Rattle.script.specs.Says.{GivesPlan};
 
-use crate::block::{Asked, Block, refusal_block, report_heading};
+use crate::block::{Asked, Block, refuse, report_heading};
 use crate::fault::Fault;
+use crate::setup::Setup;
 use board::Keeper;
 use cells::{Cell, KeyHash, Refused, Schema};
+use crew::Gate;
 use query::{Plan, check, read};
 use std::alloc::{AllocError, Global};
 
 /// The block of a report of the last published edition: what the text asks of that edition, or its first fault.
-pub fn execute_report<H: KeyHash<Cell>>(
-    alloc: Global,
+pub fn execute_report<H: KeyHash<Cell>, G: Gate, R>(
+    setup: &Setup<'_, R, G>,
     keeper: &Keeper<H>,
     text: &str,
     number: u64,
 ) -> Result<Block<H>, AllocError>
     ensures { IfOk result (WillReport keeper.now number text.now) }
 {
-    match read_plan(alloc, text, keeper.schema()) {
-        Ok(plan) => ask(alloc, keeper, plan, number),
+    match read_plan(setup.alloc, text, keeper.schema()) {
+        Ok(plan) => ask(setup.alloc, keeper, plan, number),
         Err(fault) => {
-            let block = refusal_block(alloc, number, Fault::Line(fault))?;
+            let block = refuse(setup, number, Fault::Line(fault))?;
             Ok(Block::Refusal(block))
         }
     }

@@ -16,7 +16,7 @@ ghost use Rattle.script.specs.Stops.{finish_of_refused};
 ghost use Rattle.script.specs.Viewers.{EndsBy, EndsEarly, EndsLines, EndsRun, GoesOverBeside, asked_of, too_much_by, too_much_text};
 ghost use Rattle.script.specs.declared.stage.Stage.TheVariants as Stage;
 
-use crate::block::{Asked, Block, refusal_block, viewers_refused_line};
+use crate::block::{Asked, Block, refuse, viewers_refused_line};
 use crate::closing::Closing;
 use crate::ended::Ended;
 use crate::fault::Fault;
@@ -50,7 +50,7 @@ use std::thread::{self, Threads};
 ///
 /// `rt` starts a thread for each report, which is answered beside the lines that follow it, with at most
 /// [`MAX_REPORTS`](report::MAX_REPORTS) under way at a time, and one for each worker of a report or a load. All of them
-/// are joined before this returns, however the run ends. `gate` is told of each publish by the thread that calls, of
+/// are joined before this returns, however the run ends. `gate` is told of each publish and refusal by the thread that calls, of
 /// each piece of a report and of each listed part by the worker that drew it, and of runs of a load's rows by the threads
 /// that make their tries.
 ///
@@ -391,15 +391,15 @@ fn refuse_whole<O: Out, R, G: Gate>(setup: &Setup<'_, R, G>, out: &mut O) -> Res
 {
     let finish = setup.on_refusal.finish_of_refused();
     match setup.on_refusal {
-        OnRefusal::GoesOn => write_too_much(setup.alloc, setup.viewing, finish, out),
-        OnRefusal::Stops => write_too_much(setup.alloc, None, finish, out),
+        OnRefusal::GoesOn => write_too_much(setup, setup.viewing, finish, out),
+        OnRefusal::Stops => write_too_much(setup, None, finish, out),
     }
 }
 
 /// Delivers the output of a script that is too long, or of too many parts, and after it the tail where there are viewers.
 #[tactic(auto, using(report::specs::Laws::takes_nothing))]
-fn write_too_much<O: Out>(
-    alloc: Global,
+fn write_too_much<O: Out, R, G: Gate>(
+    setup: &Setup<'_, R, G>,
     viewing: Option<Viewing<&str>>,
     finish: Finish,
     out: &mut O,
@@ -408,7 +408,7 @@ fn write_too_much<O: Out>(
     ensures ends { Ends O.taken O.faults out.old out.new (λ bytes. bytes ≡ too_much_text (asked_of viewing.entry)) ⊥ ⊥ result }
     ensures finish { IfOk result (λ told. told ≡ finish) }
 {
-    let text = too_much_block(alloc, viewing)?;
+    let text = too_much_block(setup, viewing)?;
     let Ok(()) = write_whole(out, text.as_slice()) else {
         return Err(Ended::WriteFailed);
     };
@@ -416,12 +416,16 @@ fn write_too_much<O: Out>(
 }
 
 /// What is written for a script that is too long, or for too many parts.
-fn too_much_block(alloc: Global, asked: Option<Viewing<&str>>) -> Result<Vec<u8>, AllocError>
+fn too_much_block<R, G: Gate>(
+    setup: &Setup<'_, R, G>,
+    asked: Option<Viewing<&str>>,
+) -> Result<Vec<u8>, AllocError>
     ensures { IfOk result (λ text. text.items ≡ too_much_text (asked_of asked.entry)) }
 {
-    let mut text = refusal_block(alloc, 0, Fault::Line(Refused::Limit))?;
+    let mut text = refuse(setup, 0, Fault::Line(Refused::Limit))?;
     if let Some(_) = asked {
-        let line = viewers_refused_line(alloc, Refused::NoTable)?;
+        setup.gate.refused_viewers(Refused::NoTable);
+        let line = viewers_refused_line(setup.alloc, Refused::NoTable)?;
         text.extend_from_slice(line.as_slice())?;
     }
     Ok(text)

@@ -13,7 +13,7 @@ ghost use Rattle.script.specs.Limits.{script_limit};
 ghost use Rattle.script.specs.Stops.{IsQuiet};
 ghost use Rattle.script.specs.Desks.{Executes, Publishable, PutsRow, schema_of_desk};
 
-use crate::block::{Block, refusal_block, shape_block};
+use crate::block::{Block, refuse, shape_block};
 use crate::fault::Fault;
 use crate::limits::VIEWERS;
 use crate::load_line::execute_load;
@@ -72,7 +72,7 @@ fn execute_first<H: KeyHash<Cell>, G: Gate, R>(
             Err(_) => Err(AllocError),
         },
         Err(fault) => {
-            let block = refusal_block(alloc, line.number, fault)?;
+            let block = refuse(setup, line.number, fault)?;
             Ok((None, block))
         }
     }
@@ -99,16 +99,16 @@ fn execute_kept<H: KeyHash<Cell> + Send + Sync, G: Gate, R: Threads + Wait>(
             let text = execute_load(setup, keeper, listing, line.number)?;
             Ok(Block::quiet(text))
         }
-        Ok(Statement::Put(row)) => quiet_block(put(alloc, keeper, row, line.number)),
+        Ok(Statement::Put(row)) => quiet_block(put(setup, keeper, row, line.number)),
         Ok(Statement::Delete(key)) => quiet_block(delete(alloc, keeper, key)),
         Ok(Statement::Publish) => quiet_block(publish(setup, keeper)),
-        Ok(Statement::Report(query)) => Ok(execute_report(alloc, keeper, query, line.number)?),
+        Ok(Statement::Report(query)) => Ok(execute_report(setup, keeper, query, line.number)?),
         Ok(Statement::Shape) => {
             // The law by which the block is that of the published rows; it does nothing.
             rows_have_the_shape_of_their_keys::<H>();
             text_block(shape_block(alloc, keeper, line.number))
         }
-        Err(fault) => quiet_block(refusal_block(alloc, line.number, fault)),
+        Err(fault) => quiet_block(refuse(setup, line.number, fault)),
     }
 }
 
@@ -137,8 +137,8 @@ fn quiet_block<H: KeyHash<Cell>>(text: Result<Vec<u8>, AllocError>) -> Result<Bl
 }
 
 /// Lays a row over the draft, or refuses it where the draft is full.
-fn put<H: KeyHash<Cell>>(
-    alloc: Global,
+fn put<H: KeyHash<Cell>, G: Gate, R>(
+    setup: &Setup<'_, R, G>,
     keeper: &mut Keeper<H>,
     row: Row,
     number: u64,
@@ -147,8 +147,8 @@ fn put<H: KeyHash<Cell>>(
     ensures step { IfOk result (λ block. PutsRow keeper.old keeper.new row number block.items) }
 {
     match keeper.put(row) {
-        Ok(()) => Ok(Vec::new(alloc)),
-        Err(refused) => refusal_block(alloc, number, Fault::Line(refused)),
+        Ok(()) => Ok(Vec::new(setup.alloc)),
+        Err(refused) => refuse(setup, number, Fault::Line(refused)),
     }
 }
 

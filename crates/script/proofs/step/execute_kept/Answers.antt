@@ -1,5 +1,7 @@
 use Rattle.std.proofs.Common.{◌≤◌, ◌∙◌, Ok, Some, ap, arith, inl, length, rules, subst, sym}
 use Rattle.std.proofs.lemmas.Result.{IfOk-weaker}
+use Rattle.cells.specs.Fitting.{IsRowOf}
+use Rattle.board.specs.Editions.{schema}
 use Rattle.script.specs.Deeds.{Loads, Reports, deed}
 use Rattle.script.specs.Endings.{HasWorkers, loads}
 use Rattle.script.specs.Givens.{givens}
@@ -45,7 +47,9 @@ returns-in-Ok-Put-clause-step g c =
     (IfOk-weaker c.put.result _ _ (λ bytes puts. executes_put g.H.KeyHash.hash_of given c.args.line.bytes.now c.args.line.number c.args.keeper.now c.put.new.keeper c.in-Ok-Put.row bytes.items does puts) c.put.ensures.step)
 
 pub put-requires : goal.put-requires
-put-requires g c = record { row = rw (← c.schema.ensures) (rw c.in-Ok-Put.field-0-is at c.in-Ok-Put.ensures.fits) }
+put-requires g c =
+    let row : IsRowOf (schema c.args.keeper.now) c.in-Ok-Put.row = rw (← c.schema.ensures) (rw c.in-Ok-Put.field-0-is at c.in-Ok-Put.ensures.fits) in
+    search (rules, row)
 
 pub returns-in-Ok-Delete-clause-step : goal.returns-in-Ok-Delete-clause-step
 returns-in-Ok-Delete-clause-step g c =
@@ -88,6 +92,6 @@ returns-in-Ok-Shape-clause-step g c =
 pub returns-in-Err-clause-step : goal.returns-in-Err-clause-step
 returns-in-Err-clause-step g c =
     let given = givens c.args.setup.now.how.now.rows c.args.setup.now.parts.now in
-    steps_as_quiet g.H.KeyHash.hash_of given c.args.line.bytes.now c.args.line.number (Some c.args.keeper.now) (Some c.args.keeper.now) c.refusal_block.result c.quiet_block-in-Err.result _ c.quiet_block-in-Err.ensures.found c.quiet_block-in-Err.ensures.memory
-    (IfOk-weaker c.refusal_block.result _ _ (λ bytes text. quiet_refusal c.args.line.number c.in-Err.fault bytes.items text) c.refusal_block.ensures.block)
-    (executes_refused_text g.H.KeyHash.hash_of given c.args.line.bytes.now c.args.line.number (Some c.args.keeper.now) c.in-Err.fault c.refusal_block.result (rw c.schema.ensures at c.in-Err.ensures.exact) c.refusal_block.ensures.memory c.refusal_block.ensures.block)
+    steps_as_quiet g.H.KeyHash.hash_of given c.args.line.bytes.now c.args.line.number (Some c.args.keeper.now) (Some c.args.keeper.now) c.refuse.result c.quiet_block-in-Err.result _ c.quiet_block-in-Err.ensures.found c.quiet_block-in-Err.ensures.memory
+    (IfOk-weaker c.refuse.result _ _ (λ bytes text. quiet_refusal c.args.line.number c.in-Err.fault bytes.items text) c.refuse.ensures.block)
+    (executes_refused_text g.H.KeyHash.hash_of given c.args.line.bytes.now c.args.line.number (Some c.args.keeper.now) c.in-Err.fault c.refuse.result (rw c.schema.ensures at c.in-Err.ensures.exact) c.refuse.ensures.memory c.refuse.ensures.block)
