@@ -15,8 +15,12 @@ pub record Book : Type 0 where
 abbrev pub script_limit : ℕ
 script_limit = 1048576
 
+-- what stands between the line feeds of a text
+abbrev pub between_ends : List ℕ → List (List ℕ)
+between_ends = slice_split (λ b. b == 10)
+
 abbrev pub lines_in : List ℕ → List (List ℕ)
-lines_in script = if nat_lt script_limit (length script) then [] else slice_split (λ b. b == 10) script
+lines_in script = if nat_lt script_limit (length script) then [] else between_ends script
 
 -- the schema that a command word and its rest declare
 abbrev pub schema_after : List ℕ → List ℕ → Option Table

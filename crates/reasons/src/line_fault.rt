@@ -142,12 +142,7 @@ pub fn slip_in(alloc: Global, text: &str) -> Result<Found, AllocError> {
 }
 
 /// What stands at a slip: a number with what touches it, a quoted text as it begins, or one character.
-fn first_piece(
-    alloc: Global,
-    text: &str,
-    place: usize,
-    slip: Slip,
-) -> Result<String, AllocError> {
+fn first_piece(alloc: Global, text: &str, place: usize, slip: Slip) -> Result<String, AllocError> {
     let rest = text.get(place..).unwrap_or("");
     let len = match slip {
         Slip::Touched | Slip::OutOfRange => word_len(rest.as_bytes()),

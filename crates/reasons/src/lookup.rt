@@ -1,5 +1,6 @@
 //! The reasons of a script.
 ghost use Rattle.std.specs.Prelude.{◌≡◌, IfOk, map, option_map};
+ghost use Rattle.cells.specs.Reading.{schema_of};
 ghost use Rattle.reasons.specs.Books.{declared_in, lines_in, schema_in_text, schema_said};
 
 use crate::keys::key_fault;
@@ -44,6 +45,7 @@ pub struct Reasons<'a> {
 
 impl<'a> Model for Reasons<'a> {
     ghost use Rattle.std.specs.Prelude.{map, option_map};
+    ghost use Rattle.cells.specs.Reading.{schema_of};
     ghost use Rattle.reasons.specs.Books.{Book};
 
     ghost Value = { Book };
@@ -233,10 +235,17 @@ fn schema_in_text(alloc: Global, text: &str) -> Result<Option<Schema>, AllocErro
     ensures { IfOk result (λ schema. schema ≡ schema_in_text text.now) }
 {
     let (word, rest) = command_of(text);
-    if word != "table" {
-        return Ok(None);
+    if word == "table" {
+        return schema_of(alloc, rest);
     }
-    match Schema::read(alloc, rest) {
+    Ok(None)
+}
+
+/// The schema that a text spells, where it spells one.
+fn schema_of(alloc: Global, text: &str) -> Result<Option<Schema>, AllocError>
+    ensures { IfOk result (λ schema. schema ≡ schema_of text.now) }
+{
+    match Schema::read(alloc, text) {
         Ok(schema) => Ok(Some(schema)),
         Err(Refused::OutOfMemory) => Err(AllocError),
         Err(_) => Ok(None),
@@ -254,16 +263,13 @@ fn reason_behind(start: usize, found: Found) -> Reason {
 
 /// The column of a place behind so many bytes of a line.
 fn column_of(start: usize, place: usize) -> u64 {
-    (start as u64).saturating_add(place as u64).saturating_add(1)
+    (start as u64)
+        .saturating_add(place as u64)
+        .saturating_add(1)
 }
 
 /// Why a line is no command, or a command's rest is not in its form.
-fn of_command(
-    alloc: Global,
-    word: &str,
-    rest: &str,
-    start: usize,
-) -> Result<Reason, AllocError> {
+fn of_command(alloc: Global, word: &str, rest: &str, start: usize) -> Result<Reason, AllocError> {
     match word {
         "load" => Ok(reason_behind(start, form_fault(alloc, rest)?)),
         "publish" | "shape" => {

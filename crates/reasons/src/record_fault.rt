@@ -17,7 +17,10 @@ use thiserror::Error;
 pub enum RecordFault {
     /// There are so many fields, and another number of columns.
     #[error("fields found: {found}, wanted: {wanted}")]
-    Fields { found: usize, wanted: usize },
+    Fields {
+        found: usize,
+        wanted: usize,
+    },
     /// The field at this place spells no cell of its column, and those before it do; or each spells one and the key is NULL.
     #[error("column {column}: {fault}")]
     Field {
@@ -49,11 +52,11 @@ pub fn record_fault(
 }
 
 /// The fields of a record.
-pub fn fields<'a>(alloc: Global, record: &'a ByteRecord) -> Result<Vec<&'a [u8]>, AllocError>
-    ensures { IfOk result (λ v. map (λ f. f.now) v.items ≡ fields_of record.entry.now) }
+pub fn fields<'a>(alloc: Global, row: &'a ByteRecord) -> Result<Vec<&'a [u8]>, AllocError>
+    ensures { IfOk result (λ v. map (λ f. f.now) v.items ≡ fields_of row.entry.now) }
 {
     let mut fields = Vec::new(alloc);
-    for field in record {
+    for field in row {
         fields.push(field)?;
     }
     Ok(fields)
@@ -82,11 +85,7 @@ pub fn explained(
 }
 
 /// The place of the first field that spells no cell of its column. None where a row begins with the fields.
-fn first_bad(
-    alloc: Global,
-    fields: &[&[u8]],
-    schema: &Schema,
-) -> Result<Option<usize>, AllocError>
+fn first_bad(alloc: Global, fields: &[&[u8]], schema: &Schema) -> Result<Option<usize>, AllocError>
     ensures bad { IfOk result (λ o. MatchOption o (BeginRow schema.now (bytes_of fields.now)) (IsFirstBad schema.now fields.now)) }
     ensures within { IfOk result (λ o. IfSome o (λ place. place < length fields.now)) }
 {

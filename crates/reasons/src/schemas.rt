@@ -32,15 +32,15 @@ fn tokens_fault(alloc: Global, text: &str, tokens: &[Token]) -> Result<Found, Al
         return refused_token(alloc, text.as_bytes(), number, why);
     }
     if let Some(number) = second_name_at(alloc, tokens)? {
+        return refused_token(alloc, text.as_bytes(), number, "two columns have this name");
+    }
+    if let Some(number) = second_key_at(tokens) {
         return refused_token(
             alloc,
             text.as_bytes(),
             number,
-            "two columns have this name",
+            "one column alone is the KEY",
         );
-    }
-    if let Some(number) = second_key_at(tokens) {
-        return refused_token(alloc, text.as_bytes(), number, "one column alone is the KEY");
     }
     let columns = column_count(tokens);
     if columns > MAX_COLUMNS {
@@ -107,8 +107,7 @@ fn wanted(step: Step, token: &Token) -> &'static str {
     match token {
         Token::Word(word)
             if is_reserved(word.as_str())
-                && (step == Step::TableName || step == Step::ColumnName) =>
-        {
+                && (step == Step::TableName || step == Step::ColumnName) => {
             "a reserved word is no name"
         }
         _ => expected(step),

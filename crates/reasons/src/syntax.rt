@@ -165,7 +165,9 @@ impl Place {
     fn habit_at_operand(self, word: &str) -> Option<&'static str> {
         match word {
             "NULL" => Some("NULL is tested by IS NULL"),
-            "DISTINCT" if self.is_item() => Some("each group has one row, and SELECT has no DISTINCT"),
+            "DISTINCT" if self.is_item() => Some(
+                "each group has one row, and SELECT has no DISTINCT",
+            ),
             "COUNT" | "SUM" | "MIN" | "MAX" | "GROUPING" => {
                 Some("aggregates and GROUPING stand in the select list and in HAVING")
             }
@@ -213,7 +215,11 @@ fn listed(alloc: Global, words: &[&str]) -> Result<String, AllocError> {
     let mut list = String::new(alloc);
     for (place, word) in words.iter().enumerate() {
         if place > 0 {
-            list.push_str(if place.saturating_add(1) == words.len() { " or " } else { ", " })?;
+            list.push_str(if place.saturating_add(1) == words.len() {
+                " or "
+            } else {
+                ", "
+            })?;
         }
         list.push_str(word)?;
     }

@@ -107,19 +107,19 @@ impl Reading {
     }
 
     fn behind_test(self) -> Reading {
-        Reading {
-            kind: None,
-            ..self
-        }
+        Reading { kind: None, ..self }
     }
 }
 
 /// The fault of a sum with which the tokens begin.
 fn sum_fault(tokens: &[Token], schema: &Schema) -> Option<TypeFault> {
     match tokens {
-        [Token::Word(word), Token::Mark(Mark::LeftParen), Token::Word(name), ..]
-            if word.as_str() == "SUM" && type_of(schema, name.as_str()) == ColumnType::Text =>
-        {
+        [
+            Token::Word(word),
+            Token::Mark(Mark::LeftParen),
+            Token::Word(name),
+            ..
+        ] if word.as_str() == "SUM" && type_of(schema, name.as_str()) == ColumnType::Text => {
             Some(TypeFault::SumOfTexts)
         }
         _ => None,
@@ -142,7 +142,10 @@ fn operand(tokens: &[Token], schema: &Schema) -> (Option<ColumnType>, usize) {
         [Token::Quoted(_), ..] => (Some(ColumnType::Text), 1),
         [Token::Word(word), Token::Mark(Mark::LeftParen), first, ..] if is_call(word.as_str()) => {
             let len = tokens.iter().position(is_close).unwrap_or(0);
-            (Some(call_type(word.as_str(), first, schema)), len.saturating_add(1))
+            (
+                Some(call_type(word.as_str(), first, schema)),
+                len.saturating_add(1),
+            )
         }
         [Token::Word(word), ..] if !is_reserved(word.as_str()) => {
             (Some(type_of(schema, word.as_str())), 1)
