@@ -1,0 +1,5 @@
+pub mod BooksLemmas
+pub mod FieldsLemmas
+pub mod HeaderLemmas
+pub mod LinesLemmas
+pub mod RecordLemmas

@@ -1,0 +1,312 @@
+//! The reasons of a script.
+ghost use Rattle.std.specs.Prelude.{◌≡◌, IfOk, map, option_map};
+ghost use Rattle.cells.specs.Reading.{schema_of};
+ghost use Rattle.reasons.specs.Books.{declared_in, lines_in, schema_in_text, schema_said};
+
+use crate::keys::key_fault;
+use crate::limits::MAX_SCRIPT_BYTES;
+use crate::line_fault::{Found, LineFault};
+use crate::listing::{form_fault, listed_bytes, missing_part};
+use crate::part::{PartReason, faults_of_part};
+use crate::put::put_fault;
+use crate::queries::query_fault;
+use crate::schemas::schema_fault;
+use crate::shown::shown;
+use crate::split::{command_of, line_at, lines_of};
+use cells::{Refused, Schema};
+use std::alloc::{AllocError, Global};
+use std::fmt;
+use std::marker::Model;
+
+/// Why a line is refused. Its text says what is wrong, and names what is at fault.
+#[derive(Debug, Drop)]
+pub struct Reason {
+    /// The column of the line at which the fault is, in bytes counted from 1. None where it is the line as a whole.
+    pub column: Option<u64>,
+    fault: LineFault,
+}
+
+impl fmt::Display for Reason {
+    fn fmt<W: fmt::Write>(&self, f: &mut fmt::Formatter<W>) -> fmt::Result {
+        let fault = &self.fault;
+        write!(f, "{fault}")
+    }
+}
+
+/// The lines of a script, the table that it declares and the parts: what reasons are found in. Made once, so that a
+/// reason costs no walk of the whole script.
+#[derive(Drop)]
+pub struct Reasons<'a> {
+    script: &'a [u8],
+    parts: &'a [Vec<u8>],
+    lines: Vec<&'a [u8]>,
+    table: Option<Declared>,
+}
+
+impl<'a> Model for Reasons<'a> {
+    ghost use Rattle.std.specs.Prelude.{map, option_map};
+    ghost use Rattle.cells.specs.Reading.{schema_of};
+    ghost use Rattle.reasons.specs.Books.{Book};
+
+    ghost Value = { Book };
+
+    ghost view = { λ r. record { lines = map (λ l. l.now) r.lines.items; table = option_map (λ d. d.schema) r.table; parts = map (λ p. p.items) r.parts.now } };
+}
+
+/// The table of a script, and the line that declares it.
+#[derive(Debug, Drop)]
+struct Declared {
+    schema: Schema,
+    line: u64,
+}
+
+impl<'a> Reasons<'a> {
+    /// What reasons are found in, of a script and of its parts. A script beyond the limit has no lines. The only error is
+    /// that a growth was refused.
+    pub fn of(
+        alloc: Global,
+        script: &'a [u8],
+        parts: &'a [Vec<u8>],
+    ) -> Result<Reasons<'a>, AllocError>
+        ensures lines { IfOk result (λ r. r.lines ≡ lines_in script.now) }
+        ensures table { IfOk result (λ r. r.table ≡ declared_in (lines_in script.now)) }
+        ensures parts { IfOk result (λ r. r.parts ≡ map (λ p. p.items) parts.now) }
+    {
+        let lines = lines_within(alloc, script)?;
+        let table = first_table(alloc, lines.as_slice())?;
+        Ok(Reasons {
+            script,
+            parts,
+            lines,
+            table,
+        })
+    }
+
+    /// The schema of the table that the script declares, where it declares one.
+    pub fn schema(&self) -> Option<&Schema>
+        ensures { option_map (λ s. s.now) result ≡ self.now.table }
+    {
+        match &self.table {
+            Some(table) => Some(&table.schema),
+            None => None,
+        }
+    }
+
+    /// Why the line of this number, counted from 1, is refused by this rule; of 0 the script as a whole. Where the line
+    /// breaks no such rule, the reason is the rule. The only error is that a growth was refused.
+    pub fn of_line(&self, alloc: Global, line: u64, rule: Refused) -> Result<Reason, AllocError> {
+        if line == 0 {
+            return Ok(Reason {
+                column: None,
+                fault: self.script_fault(),
+            });
+        }
+        let bytes = line_at(self.lines.as_slice(), line);
+        match str::from_utf8(bytes) {
+            Ok(text) => self.of_text(alloc, text, rule),
+            Err(error) => Ok(Reason {
+                column: Some((error.valid_up_to() as u64).saturating_add(1)),
+                fault: LineFault::NotUtf8,
+            }),
+        }
+    }
+
+    /// Why a record of the part of this number is faulty; the part's number is counted from 1, and the header is record 0.
+    /// The only error is that a growth was refused.
+    pub fn of_record(
+        &self,
+        alloc: Global,
+        part: u64,
+        record: u64,
+    ) -> Result<PartReason, AllocError> {
+        let Some(schema) = self.schema() else {
+            return Ok(PartReason::unknown(record));
+        };
+        let Some(bytes) = self.part(part) else {
+            return Ok(PartReason::unknown(record));
+        };
+        reason_of_record(alloc, bytes, schema, record)
+    }
+
+    /// The bytes of the part of this number.
+    fn part(&self, number: u64) -> Option<&'a [u8]> {
+        let place = number.checked_sub(1)?;
+        let part = self.parts.get(place as usize)?;
+        Some(part.as_slice())
+    }
+
+    /// Why the script is refused as a whole.
+    fn script_fault(&self) -> LineFault {
+        if self.script.len() > MAX_SCRIPT_BYTES {
+            return LineFault::ScriptBytes(self.script.len());
+        }
+        LineFault::Parts(self.parts.len())
+    }
+
+    /// Why a line of this text is refused by the rule.
+    fn of_text(&self, alloc: Global, text: &str, rule: Refused) -> Result<Reason, AllocError> {
+        let (word, rest) = command_of(text);
+        let start = text.len().saturating_sub(rest.len());
+        if matches!(rule, Refused::BadCommand) {
+            return of_command(alloc, word, rest, start);
+        }
+        if matches!(rule, Refused::Limit) && word == "load" {
+            let bytes = listed_bytes(rest, self.parts);
+            return Ok(reason_behind(start, Found::whole(LineFault::ListedBytes(bytes))));
+        }
+        let found = self.fault_of(alloc, rest, rule)?;
+        Ok(reason_behind(start, found))
+    }
+
+    /// Why the rest of a line is refused by the rule.
+    fn fault_of(&self, alloc: Global, rest: &str, rule: Refused) -> Result<Found, AllocError> {
+        match rule {
+            Refused::NoTable => Ok(Found::whole(LineFault::NoTable)),
+            Refused::TableAgain => Ok(Found::whole(self.table_again())),
+            Refused::BadSchema => schema_fault(alloc, rest),
+            Refused::NoPart => missing_part(alloc, rest, self.parts),
+            Refused::BadPart => Ok(Found::whole(LineFault::BadPart)),
+            Refused::TooManyRows => Ok(Found::whole(LineFault::TooManyRows)),
+            rule => self.under_table(alloc, rest, rule),
+        }
+    }
+
+    /// That a table is there already.
+    fn table_again(&self) -> LineFault {
+        match &self.table {
+            Some(table) => LineFault::TableAgain(table.line),
+            None => LineFault::Rule("a table is declared already"),
+        }
+    }
+
+    /// The faults of a line's rest that are found by the schema.
+    fn under_table(&self, alloc: Global, rest: &str, rule: Refused) -> Result<Found, AllocError> {
+        let Some(schema) = self.schema() else {
+            return Ok(Found::whole(LineFault::NoTable));
+        };
+        match rule {
+            Refused::BadRecord => put_fault(alloc, rest.as_bytes(), schema),
+            Refused::BadKey => key_fault(alloc, rest, schema),
+            _ => query_fault(alloc, rest, schema, rule),
+        }
+    }
+}
+
+/// The lines of a script that is not beyond the limit; none of another.
+fn lines_within(alloc: Global, script: &[u8]) -> Result<Vec<&[u8]>, AllocError>
+    ensures { IfOk result (λ lines. map (λ l. l.now) lines.items ≡ lines_in script.now) }
+{
+    if script.len() > MAX_SCRIPT_BYTES {
+        return Ok(Vec::new(alloc));
+    }
+    lines_of(alloc, script)
+}
+
+/// The first line that declares a table, with its schema.
+fn first_table(alloc: Global, lines: &[&[u8]]) -> Result<Option<Declared>, AllocError>
+    ensures { IfOk result (λ table. option_map (λ d. d.schema) table ≡ declared_in (map (λ l. l.now) lines.now)) }
+{
+    let mut number = 0u64;
+    for line in lines {
+        number = number.saturating_add(1);
+        if let Some(schema) = schema_in(alloc, line)? {
+            return Ok(Some(Declared {
+                schema,
+                line: number,
+            }));
+        }
+    }
+    Ok(None)
+}
+
+/// The schema of a line that declares one.
+#[tactic(auto, using(crate::proofs::BooksLemmas::said_in_text, crate::proofs::BooksLemmas::said_in_no_text))]
+fn schema_in(alloc: Global, line: &[u8]) -> Result<Option<Schema>, AllocError>
+    ensures { IfOk result (λ schema. schema ≡ schema_said line.now) }
+{
+    match str::from_utf8(line) {
+        Ok(text) => schema_in_text(alloc, text),
+        Err(_) => Ok(None),
+    }
+}
+
+/// The same of a line in UTF-8.
+fn schema_in_text(alloc: Global, text: &str) -> Result<Option<Schema>, AllocError>
+    ensures { IfOk result (λ schema. schema ≡ schema_in_text text.now) }
+{
+    let (word, rest) = command_of(text);
+    if word == "table" {
+        return schema_of(alloc, rest);
+    }
+    Ok(None)
+}
+
+/// The schema that a text spells, where it spells one.
+fn schema_of(alloc: Global, text: &str) -> Result<Option<Schema>, AllocError>
+    ensures { IfOk result (λ schema. schema ≡ schema_of text.now) }
+{
+    match Schema::read(alloc, text) {
+        Ok(schema) => Ok(Some(schema)),
+        Err(Refused::OutOfMemory) => Err(AllocError),
+        Err(_) => Ok(None),
+    }
+}
+
+/// The reason of a fault that was found in what stands behind so many bytes of a line.
+fn reason_behind(start: usize, found: Found) -> Reason {
+    let Found { place, fault } = found;
+    Reason {
+        column: place.map(|place| column_of(start, place)),
+        fault,
+    }
+}
+
+/// The column of a place behind so many bytes of a line.
+fn column_of(start: usize, place: usize) -> u64 {
+    (start as u64)
+        .saturating_add(place as u64)
+        .saturating_add(1)
+}
+
+/// Why a line is no command, or a command's rest is not in its form.
+fn of_command(alloc: Global, word: &str, rest: &str, start: usize) -> Result<Reason, AllocError> {
+    match word {
+        "load" => Ok(reason_behind(start, form_fault(alloc, rest)?)),
+        "publish" | "shape" => {
+            let found = shown(alloc, rest)?;
+            let why = "the line should end before this";
+            Ok(reason_behind(start, Found::at(0, LineFault::Piece { found, why })))
+        }
+        _ => Ok(reason_behind(0, no_command(alloc, word)?)),
+    }
+}
+
+/// That a word is no command.
+fn no_command(alloc: Global, word: &str) -> Result<Found, AllocError> {
+    if word.is_empty() {
+        let why = "no space stands before a command";
+        return Ok(Found::at(0, LineFault::Rule(why)));
+    }
+    if word.starts_with('\u{feff}') {
+        let why = "a byte order mark stands before the command";
+        return Ok(Found::at(0, LineFault::Rule(why)));
+    }
+    let word = shown(alloc, word)?;
+    Ok(Found::at(0, LineFault::NoCommand(word)))
+}
+
+/// Why the record of this number is faulty.
+fn reason_of_record(
+    alloc: Global,
+    bytes: &[u8],
+    schema: &Schema,
+    record: u64,
+) -> Result<PartReason, AllocError> {
+    let mut faults = faults_of_part(alloc, bytes, schema)?;
+    while let Some((number, reason)) = faults.next()? {
+        if number == record {
+            return Ok(reason);
+        }
+    }
+    Ok(PartReason::unknown(record))
+}
