@@ -1,5 +1,5 @@
 //! The faulty records of a part, one after another.
-ghost use Rattle.std.specs.Prelude.{◌≡◌, ◌+◌, [], IfOk, MatchOption};
+ghost use Rattle.std.specs.Prelude.{◌≡◌, ◌+◌, [], IfOk, IfSome, MatchOption};
 ghost use Rattle.reasons.specs.Records.{fault_count, fault_count_in, faulty_count};
 
 use crate::header::{HeaderFault, is_header, other_names};
@@ -12,17 +12,17 @@ use std::fmt;
 use std::marker::Model;
 
 /// Why a record of a part is faulty. Its text names the record and what is wrong with it.
-#[derive(Debug, Drop)]
+#[derive(Drop)]
 pub struct PartReason {
     /// The line of the part's file on which the record begins, counted from 1 by line feeds.
     pub line: u64,
     /// The record's number: 0 is the header.
-    record: u64,
+    pub record: u64,
     fault: RecordOrHeader,
 }
 
 /// What is wrong with it.
-#[derive(Debug, Drop)]
+#[derive(Drop)]
 enum RecordOrHeader {
     Header(HeaderFault),
     Record(RecordFault),
@@ -32,10 +32,12 @@ enum RecordOrHeader {
 
 impl PartReason {
     /// What is told of a record in which no fault is found, as where no table is declared.
-    pub(crate) fn unknown(record: u64) -> PartReason {
+    pub(crate) fn unknown(number: u64) -> PartReason
+        ensures { result.record ≡ number }
+    {
         PartReason {
             line: 1,
-            record,
+            record: number,
             fault: RecordOrHeader::Unknown,
         }
     }
@@ -120,7 +122,8 @@ impl<'a> PartFaults<'a> {
     /// The next faulty record: its number, where 0 is the header, and the reason. None where none is left. The only
     /// error is that a growth was refused; then what is left is not known.
     pub fn next(&mut self) -> Result<Option<(u64, PartReason)>, AllocError>
-        ensures { IfOk result (λ found. MatchOption found ((self.old ≡ 0) × (self.new ≡ 0)) (λ _. self.old ≡ self.new + 1)) }
+        ensures one { IfOk result (λ found. MatchOption found ((self.old ≡ 0) × (self.new ≡ 0)) (λ _. self.old ≡ self.new + 1)) }
+        ensures number { IfOk result (λ found. IfSome found (λ x. x.1.record ≡ x.0)) }
     {
         if let Some(fault) = self.header.take() {
             return Ok(Some((0, of_header(fault))));
@@ -132,14 +135,16 @@ impl<'a> PartFaults<'a> {
         else {
             return Ok(None);
         };
-        self.number = faulty.number.saturating_add(1);
         let number = faulty.number;
+        self.number = number.saturating_add(1);
         Ok(Some((number, faulty.reason(self.bytes))))
     }
 }
 
 /// The reason of a faulty header.
-fn of_header(fault: HeaderFault) -> PartReason {
+fn of_header(fault: HeaderFault) -> PartReason
+    ensures { result.record ≡ 0 }
+{
     PartReason {
         line: 1,
         record: 0,
@@ -157,7 +162,9 @@ struct Faulty {
 
 impl Faulty {
     /// The reason, in a part of these bytes.
-    fn reason(self, bytes: &[u8]) -> PartReason {
+    fn reason(self, bytes: &[u8]) -> PartReason
+        ensures { result.record ≡ self.number }
+    {
         let Faulty {
             number,
             record,
