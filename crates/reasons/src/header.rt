@@ -22,7 +22,7 @@ impl fmt::Display for HeaderFault {
         match self {
             HeaderFault::Missing => write!(f, "the part has no record, and so no header"),
             HeaderFault::Names { found, wanted } => {
-                write!(f, "the header is {found}, {wanted} is wanted")
+                write!(f, "the header is {found} where {wanted} is wanted")
             }
         }
     }

@@ -1,7 +1,7 @@
 //! The reasons of a script.
-ghost use Rattle.std.specs.Prelude.{◌≡◌, IfOk, map, option_map};
+ghost use Rattle.std.specs.Prelude.{◌≡◌, ◌≤◌, ◌+◌, IfOk, IfSome, None, length, map, option_map};
 ghost use Rattle.cells.specs.Reading.{schema_of};
-ghost use Rattle.reasons.specs.Books.{declared_in, lines_in, schema_in_text, schema_said};
+ghost use Rattle.reasons.specs.Books.{declared_in, line_numbered, lines_in, schema_in_text, schema_said};
 
 use crate::keys::key_fault;
 use crate::limits::{MAX_PARTS, MAX_SCRIPT_BYTES};
@@ -102,7 +102,10 @@ impl<'a> Reasons<'a> {
 
     /// Why the line of this number, counted from 1, is refused by this rule; of 0 the script as a whole. Where the line
     /// breaks no such rule, the reason is the rule. The only error is that a growth was refused.
-    pub fn of_line(&self, alloc: Global, line: u64, rule: Refused) -> Result<Reason, AllocError> {
+    pub fn of_line(&self, alloc: Global, line: u64, rule: Refused) -> Result<Reason, AllocError>
+        ensures whole { line ≡ 0 → IfOk result (λ reason. reason.column ≡ None) }
+        ensures within { IfOk result (λ reason. IfSome reason.column (λ column. column ≤ length (line_numbered self.now.lines line) + 1)) }
+    {
         if line == 0 {
             return Ok(Reason {
                 column: None,
@@ -113,7 +116,7 @@ impl<'a> Reasons<'a> {
         match str::from_utf8(bytes) {
             Ok(text) => self.of_text(alloc, text, rule),
             Err(error) => Ok(Reason {
-                column: Some((error.valid_up_to() as u64).saturating_add(1)),
+                column: Some(column_in(bytes, error.valid_up_to())),
                 fault: LineFault::Plain("the line is no UTF-8 from here on"),
             }),
         }
@@ -158,11 +161,13 @@ impl<'a> Reasons<'a> {
     }
 
     /// Why a line of this text is refused by the rule.
-    fn of_text(&self, alloc: Global, text: &str, rule: Refused) -> Result<Reason, AllocError> {
-        let (word, rest) = command_of(text);
-        let start = text.len().saturating_sub(rest.len());
+    fn of_text(&self, alloc: Global, line: &str, rule: Refused) -> Result<Reason, AllocError>
+        ensures { IfOk result (λ reason. IfSome reason.column (λ column. column ≤ length line.now + 1)) }
+    {
+        let (word, rest) = command_of(line);
+        let start = line.len().saturating_sub(rest.len());
         if matches!(rule, Refused::BadCommand) {
-            return of_command(alloc, word, rest, start);
+            return of_command(alloc, line, word, rest);
         }
         if matches!(rule, Refused::Limit) && word == "load" {
             let fault = LineFault::TooMany {
@@ -170,10 +175,10 @@ impl<'a> Reasons<'a> {
                 what: "bytes of listed parts",
                 most: MAX_LISTED_BYTES,
             };
-            return Ok(reason_behind(start, Found::whole(fault)));
+            return Ok(reason_behind(line, start, Found::whole(fault)));
         }
         let found = self.fault_of(alloc, rest, rule)?;
-        Ok(reason_behind(start, found))
+        Ok(reason_behind(line, start, found))
     }
 
     /// Why the rest of a line is refused by the rule.
@@ -273,31 +278,42 @@ fn schema_of(alloc: Global, text: &str) -> Result<Option<Schema>, AllocError>
 }
 
 /// The reason of a fault that was found in what stands behind so many bytes of a line.
-fn reason_behind(start: usize, found: Found) -> Reason {
+fn reason_behind(line: &str, start: usize, found: Found) -> Reason
+    ensures { IfSome result.column (λ column. column ≤ length line.now + 1) }
+{
     let Found { place, fault } = found;
-    Reason {
-        column: place.map(|place| column_of(start, place)),
-        fault,
+    match place {
+        Some(place) => Reason {
+            column: Some(column_in(line.as_bytes(), start.saturating_add(place))),
+            fault,
+        },
+        None => Reason {
+            column: None,
+            fault,
+        },
     }
 }
 
-/// The column of a place behind so many bytes of a line.
-fn column_of(start: usize, place: usize) -> u64 {
-    (start as u64)
-        .saturating_add(place as u64)
-        .saturating_add(1)
+/// The column of a place in a line, counted from 1.
+fn column_in(line: &[u8], place: usize) -> u64
+    ensures { result ≤ length line.now + 1 }
+{
+    place.min(line.len()) as u64 + 1
 }
 
 /// Why a line is no command, or a command's rest is not in its form.
-fn of_command(alloc: Global, word: &str, rest: &str, start: usize) -> Result<Reason, AllocError> {
+fn of_command(alloc: Global, line: &str, word: &str, rest: &str) -> Result<Reason, AllocError>
+    ensures { IfOk result (λ reason. IfSome reason.column (λ column. column ≤ length line.now + 1)) }
+{
+    let start = line.len().saturating_sub(rest.len());
     match word {
-        "load" => Ok(reason_behind(start, form_fault(alloc, rest)?)),
+        "load" => Ok(reason_behind(line, start, form_fault(alloc, rest)?)),
         "publish" | "shape" => {
             let found = shown(alloc, rest)?;
             let why = "the line should end before this";
-            Ok(reason_behind(start, Found::at(0, LineFault::Piece { found, why })))
+            Ok(reason_behind(line, start, Found::at(0, LineFault::Piece { found, why })))
         }
-        _ => Ok(reason_behind(0, no_command(alloc, word)?)),
+        _ => Ok(reason_behind(line, 0, no_command(alloc, word)?)),
     }
 }
 

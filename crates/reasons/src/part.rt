@@ -62,7 +62,7 @@ pub struct PartFaults<'a> {
     schema: &'a Schema,
     records: Records<'a>,
     number: u64,
-    header: Option<HeaderFault>,
+    header: Option<PartReason>,
     ended: bool,
 }
 
@@ -85,7 +85,7 @@ pub fn faults_of_part<'a>(
     ensures { IfOk result (λ faults. faults ≡ fault_count schema.now part.now) }
 {
     let mut records = Records::new(alloc, part);
-    let header = header_fault(alloc, &mut records, schema)?;
+    let header = header_fault(alloc, part, &mut records, schema)?;
     let ended = header.is_some();
     Ok(PartFaults {
         alloc,
@@ -98,24 +98,25 @@ pub fn faults_of_part<'a>(
     })
 }
 
-/// Takes the first record, and tells why it is no header.
+/// Takes the first record of a part of these bytes, and tells why it is no header.
 fn header_fault(
     alloc: Global,
+    bytes: &[u8],
     records: &mut Records<'_>,
     schema: &Schema,
-) -> Result<Option<HeaderFault>, AllocError>
+) -> Result<Option<PartReason>, AllocError>
     ensures { IfOk result (λ fault. MatchOption fault (fault_count_in schema.now records.old ≡ faulty_count schema.now records.new) (λ _. fault_count_in schema.now records.old ≡ 1)) }
 {
     let mut record = ByteRecord::new(alloc);
     if !records.next(&mut record)? {
-        return Ok(Some(HeaderFault::Missing));
+        return Ok(Some(of_header(1, HeaderFault::Missing)));
     }
     let fields = fields(alloc, &record)?;
     if is_header(schema.columns(), fields.as_slice()) {
         return Ok(None);
     }
     let fault = other_names(alloc, schema.columns(), fields.as_slice())?;
-    Ok(Some(fault))
+    Ok(Some(of_header(line_of(bytes, &record), fault)))
 }
 
 impl<'a> PartFaults<'a> {
@@ -125,8 +126,8 @@ impl<'a> PartFaults<'a> {
         ensures one { IfOk result (λ found. MatchOption found ((self.old ≡ 0) × (self.new ≡ 0)) (λ _. self.old ≡ self.new + 1)) }
         ensures number { IfOk result (λ found. IfSome found (λ x. x.1.record ≡ x.0)) }
     {
-        if let Some(fault) = self.header.take() {
-            return Ok(Some((0, of_header(fault))));
+        if let Some(reason) = self.header.take() {
+            return Ok(Some((reason.record, reason)));
         }
         if self.ended {
             return Ok(None);
@@ -141,12 +142,12 @@ impl<'a> PartFaults<'a> {
     }
 }
 
-/// The reason of a faulty header.
-fn of_header(fault: HeaderFault) -> PartReason
+/// The reason of a faulty header that begins on a line.
+fn of_header(line: u64, fault: HeaderFault) -> PartReason
     ensures { result.record ≡ 0 }
 {
     PartReason {
-        line: 1,
+        line,
         record: 0,
         fault: RecordOrHeader::Header(fault),
     }
