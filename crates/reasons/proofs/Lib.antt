@@ -2,4 +2,3 @@ pub mod BooksLemmas
 pub mod FieldsLemmas
 pub mod HeaderLemmas
 pub mod LinesLemmas
-pub mod RecordLemmas

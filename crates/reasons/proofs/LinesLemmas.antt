@@ -1,12 +1,13 @@
 -- The first line of a text.
-use Rattle.std.proofs.Common.{◌∙◌, ap, arith, refl, sym}
+use Rattle.std.proofs.Common.{◌∙◌, ap, arith, refl, subst, sym}
 use Rattle.std.proofs.lemmas.Bool.Decides.{nat_tests}
 use Rattle.std.proofs.lemmas.List.{append-nil, append_assoc, map-append, take_rest}
 use Rattle.std.proofs.lemmas.List.Splits.{slice_split_first}
 use Rattle.std.specs.Borrow.{Bor}
 use Rattle.std.specs.List.{onto_first, position, position_or_len}
-use Rattle.std.specs.Prelude.{◌≡◌, ◌==◌, ◌<◌, ◌≤◌, ◌+◌, ◌-◌, ◌++◌, ℕ, Bool, true, false, cond, List, [], ◌∷◌, Some, None, drop, length, map, nat_lt, not, take}
-use Rattle.reasons.specs.Books.{between_ends}
+use Rattle.std.specs.Prelude.{◌≡◌, ◌==◌, ◌<◌, ◌≤◌, ◌+◌, ◌-◌, ◌++◌, ℕ, zero, suc, Bool, true, false, cond, List, [], ◌∷◌, Some, None, drop, length, map, nat_lt, not, slice_index_or, take}
+use Rattle.std.specs.Str.Lines.{strip_carriage_return}
+use Rattle.reasons.specs.Books.{between_ends, line_at, line_numbered}
 
 first_place : (a n at : ℕ) → cond (nat_lt a n) (Some a) None ≡ Some at → (a < n) × (a ≡ at)
 first_place a n at e = grind (arith, nat_tests)
@@ -42,3 +43,36 @@ more_lines whole parts later lines line before first =
 
 pub all_lines : (whole : List (List ℕ)) (lines : List (Bor (List ℕ))) → whole ≡ map (λ l. l.now) lines ++ [] → map (λ l. l.now) lines ≡ whole
 all_lines whole lines e = sym (e ∙ append-nil _)
+
+-- ---- the line of a number
+
+past : (lines : List (Bor (List ℕ))) (place : ℕ) → length lines ≤ place → [] ≡ line_at (map (λ l. l.now) lines) place
+past [] place h = refl
+past (l ∷ later) zero h = absurd (omega arith)
+past (l ∷ later) (suc place) h = past later place (omega (arith, h))
+
+last : (lines : List (Bor (List ℕ))) (place : ℕ) (d : Bor (List ℕ)) → suc place ≡ length lines → (slice_index_or lines place d).now ≡ line_at (map (λ l. l.now) lines) place
+last [] place d e = absurd (omega (arith, e))
+last (l ∷ []) zero d e = refl
+last (l ∷ m ∷ later) zero d e = absurd (omega (arith, e))
+last (l ∷ later) (suc place) d e = last later place d (omega (arith, e))
+
+inner : (lines : List (Bor (List ℕ))) (place : ℕ) (d : Bor (List ℕ)) → suc place < length lines → strip_carriage_return (slice_index_or lines place d).now ≡ line_at (map (λ l. l.now) lines) place
+inner [] place d h = absurd (omega arith)
+inner (l ∷ []) place d h = absurd (omega arith)
+inner (l ∷ m ∷ later) zero d h = refl
+inner (l ∷ m ∷ later) (suc place) d h = inner (m ∷ later) place d (omega (arith, h))
+
+pub past_number : (lines : List (Bor (List ℕ))) (n : ℕ) → length lines < n → [] ≡ line_numbered (map (λ l. l.now) lines) n
+past_number lines zero h = refl
+past_number lines (suc place) h = past lines place (omega (arith, h))
+
+pub last_number : (lines : List (Bor (List ℕ))) (n place : ℕ) (d : Bor (List ℕ)) → n ≡ suc place → n ≡ length lines → (slice_index_or lines place d).now ≡ line_numbered (map (λ l. l.now) lines) n
+last_number lines n place d is e =
+    let P : ℕ → Type 0 = λ m. (slice_index_or lines place d).now ≡ line_numbered (map (λ l. l.now) lines) m in
+    subst P (sym is) (last lines place d (sym is ∙ e))
+
+pub inner_number : (lines : List (Bor (List ℕ))) (n place : ℕ) (d : Bor (List ℕ)) → n ≡ suc place → n < length lines → strip_carriage_return (slice_index_or lines place d).now ≡ line_numbered (map (λ l. l.now) lines) n
+inner_number lines n place d is h =
+    let P : ℕ → Type 0 = λ m. strip_carriage_return (slice_index_or lines place d).now ≡ line_numbered (map (λ l. l.now) lines) m in
+    subst P (sym is) (inner lines place d (omega (arith, is, h)))

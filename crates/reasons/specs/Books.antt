@@ -1,7 +1,8 @@
 -- What reasons are found in: a script and its parts.
-use Rattle.std.specs.Prelude.{◌==◌, ℕ, List, [], ◌∷◌, Option, Some, None, bytes_eq, codes, length, nat_lt, if◌then◌else◌}
+use Rattle.std.specs.Prelude.{◌==◌, ℕ, zero, suc, List, [], ◌∷◌, Option, Some, None, bytes_eq, codes, length, nat_lt, if◌then◌else◌}
 use Rattle.std.specs.List.{after_first, before_first, slice_split}
 use Rattle.std.specs.Str.{is_utf8}
+use Rattle.std.specs.Str.Lines.{strip_carriage_return}
 use Rattle.cells.specs.Reading.{schema_of}
 use Rattle.cells.specs.Values.{Table}
 
@@ -41,3 +42,19 @@ or_later (Some t) later = Some t
 abbrev pub declared_in : List (List ℕ) → Option Table
 declared_in [] = None
 declared_in (line ∷ later) = or_later (schema_said line) (declared_in later)
+
+-- a line before these: without the carriage return before its line feed, which the last line has not
+abbrev pub line_before : List (List ℕ) → List ℕ → List ℕ
+line_before [] line = line
+line_before (next ∷ later) line = strip_carriage_return line
+
+-- the line at a place, counted from 0
+abbrev pub line_at : List (List ℕ) → ℕ → List ℕ
+line_at [] place = []
+line_at (line ∷ later) zero = line_before later line
+line_at (line ∷ later) (suc place) = line_at later place
+
+-- the line of a number, counted from 1; one that is not there is empty
+abbrev pub line_numbered : List (List ℕ) → ℕ → List ℕ
+line_numbered lines zero = []
+line_numbered lines (suc place) = line_at lines place

@@ -1,5 +1,5 @@
 -- Which field of a record is at fault.
-use Rattle.std.specs.Prelude.{◌≡◌, ◌≢◌, ◌⊎◌, ◌++◌, ◌∷◌, ℕ, List, None, Option, Some, length, map, slice_get, take}
+use Rattle.std.specs.Prelude.{◌≡◌, ◌≢◌, ◌⊎◌, ◌++◌, ◌∷◌, ℕ, List, None, Some, length, map, slice_get, take}
 use Rattle.std.specs.Borrow.{Bor}
 use Rattle.cells.specs.Records.{row_of}
 use Rattle.cells.specs.RowReading.{HasRead, RowStart}

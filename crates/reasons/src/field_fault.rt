@@ -3,32 +3,32 @@
 use crate::shown::shown;
 use cells::{ColumnType, MAX_TEXT_BYTES};
 use std::alloc::{AllocError, Global};
-use thiserror::Error;
+use std::fmt;
 
 /// Why a field spells no cell of its column, or no key.
-#[derive(Debug, Drop, Error)]
+#[derive(Drop)]
 pub enum FieldFault {
     /// It is no UTF-8, from this byte of the field on, counted from 1.
-    #[error("byte {0} is no UTF-8")]
     NotUtf8(usize),
     /// A text of so many bytes.
-    #[error("a text of {0} bytes, {most} at most", most = MAX_TEXT_BYTES)]
     TooLong(usize),
-    /// A number with a plus before it.
-    #[error("{0}: a number has no plus")]
-    Plus(String),
-    /// A number with a decimal point.
-    #[error("{0}: numbers are whole")]
-    Decimal(String),
-    /// A whole number that 64 bits do not hold.
-    #[error("{0}: a number has 64 bits at most")]
-    OutOfRange(String),
-    /// No number at all.
-    #[error("{0}: no whole number")]
-    NoNumber(String),
+    /// It spells no integer, for this reason.
+    NoNumber { found: String, why: &'static str },
     /// The field of the key is empty.
-    #[error("empty, and the key may not be NULL")]
     EmptyKey,
+}
+
+impl fmt::Display for FieldFault {
+    fn fmt<W: fmt::Write>(&self, f: &mut fmt::Formatter<W>) -> fmt::Result {
+        match self {
+            FieldFault::NotUtf8(place) => write!(f, "byte {place} is no UTF-8"),
+            FieldFault::TooLong(bytes) => {
+                write!(f, "a text of {bytes} bytes, {MAX_TEXT_BYTES} at most")
+            }
+            FieldFault::NoNumber { found, why } => write!(f, "{found}: {why}"),
+            FieldFault::EmptyKey => write!(f, "empty, and the key may not be NULL"),
+        }
+    }
 }
 
 /// Why the field spells no cell of this type, where it spells none. The only error is that a growth was refused.
@@ -46,23 +46,26 @@ pub fn field_fault(
 /// The same of a field in UTF-8.
 fn text_fault(alloc: Global, kind: ColumnType, text: &str) -> Result<FieldFault, AllocError> {
     match kind {
-        ColumnType::Int => Ok(number_fault(text, shown(alloc, text)?)),
+        ColumnType::Int => Ok(FieldFault::NoNumber {
+            found: shown(alloc, text)?,
+            why: why_no_number(text),
+        }),
         ColumnType::Text => Ok(FieldFault::TooLong(text.len())),
     }
 }
 
-/// Why a text that is shown so spells no integer.
-fn number_fault(text: &str, found: String) -> FieldFault {
+/// Why a text spells no integer.
+fn why_no_number(text: &str) -> &'static str {
     if is_whole(text) {
-        return FieldFault::OutOfRange(found);
+        return "a number has 64 bits at most";
     }
     if text.starts_with('+') {
-        return FieldFault::Plus(found);
+        return "a number has no plus";
     }
     if is_decimal(text) {
-        return FieldFault::Decimal(found);
+        return "numbers are whole";
     }
-    FieldFault::NoNumber(found)
+    "no whole number"
 }
 
 /// Whether the text is an optional `-` and one or more digits.

@@ -3,7 +3,7 @@
 use cells::{Mark, Token};
 
 /// What a token is for the grammar.
-#[derive(Clone, Copy, Debug)]
+#[derive(Clone, Copy)]
 pub enum Kind {
     Name,
     Literal,
@@ -147,7 +147,7 @@ fn kind_of_test_word(word: &str) -> Kind {
 }
 
 /// A place between the tokens of a query, by what was read last or what comes next.
-#[derive(Clone, Copy, Debug)]
+#[derive(Clone, Copy)]
 pub enum Step {
     Select,
     /// The places of operands: an item, the second operand of a comparison, and the bounds of BETWEEN.

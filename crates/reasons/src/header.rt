@@ -6,17 +6,26 @@ ghost use Rattle.loader.specs.Parts.{is_header, names_column};
 use crate::shown::{shown, shown_bytes};
 use cells::Column;
 use std::alloc::{AllocError, Global};
-use thiserror::Error;
+use std::fmt;
 
 /// Why a part has no header.
-#[derive(Debug, Drop, Error)]
+#[derive(Drop)]
 pub enum HeaderFault {
     /// It has no record at all.
-    #[error("the part has no record, and so no header")]
     Missing,
     /// Its first record has other names than the columns of the table.
-    #[error("the header is {found}, {wanted} is wanted")]
     Names { found: String, wanted: String },
+}
+
+impl fmt::Display for HeaderFault {
+    fn fmt<W: fmt::Write>(&self, f: &mut fmt::Formatter<W>) -> fmt::Result {
+        match self {
+            HeaderFault::Missing => write!(f, "the part has no record, and so no header"),
+            HeaderFault::Names { found, wanted } => {
+                write!(f, "the header is {found} where {wanted} is wanted")
+            }
+        }
+    }
 }
 
 /// The fault of a first record of other names, with both lists of them.
@@ -25,22 +34,33 @@ pub fn other_names(
     columns: &[Column],
     fields: &[&[u8]],
 ) -> Result<HeaderFault, AllocError> {
-    let mut wanted = String::new(alloc);
+    let wanted = wanted_names(alloc, columns)?;
+    let found = found_names(alloc, fields, columns.len())?;
+    Ok(HeaderFault::Names { found, wanted })
+}
+
+/// The names of the columns.
+fn wanted_names(alloc: Global, columns: &[Column]) -> Result<String, AllocError> {
+    let mut names = String::new(alloc);
     for (place, column) in columns.iter().enumerate() {
         let name = shown(alloc, column.name.as_str())?;
-        add_name(&mut wanted, place, name.as_str())?;
+        add_name(&mut names, place, name.as_str())?;
     }
-    let mut found = String::new(alloc);
+    Ok(names)
+}
+
+/// The fields: one more than so many at most, and two dots for what follows.
+fn found_names(alloc: Global, fields: &[&[u8]], most: usize) -> Result<String, AllocError> {
+    let mut names = String::new(alloc);
     for (place, field) in fields.iter().enumerate() {
-        // A header of many more names is told by those that stand where columns are, and one more.
-        if place > columns.len() {
-            found.push_str(",..")?;
-            return Ok(HeaderFault::Names { found, wanted });
+        if place > most {
+            names.push_str(",..")?;
+            return Ok(names);
         }
         let name = shown_bytes(alloc, field)?;
-        add_name(&mut found, place, name.as_str())?;
+        add_name(&mut names, place, name.as_str())?;
     }
-    Ok(HeaderFault::Names { found, wanted })
+    Ok(names)
 }
 
 /// Adds the name at a place of a list, with a comma before it where it is not the first.

@@ -1,83 +1,60 @@
 //! What is wrong with a line of a script.
 
-use crate::limits::{MAX_PARTS, MAX_SCRIPT_BYTES};
-use crate::query_limits::QueryLimit;
 use crate::record_fault::RecordFault;
 use crate::shown::{shown, shown_bytes};
 use crate::tokens::{Slip, first_slip, span_of};
-use cells::MAX_COLUMNS;
-use loader::MAX_LISTED_BYTES;
-use query::{MAX_QUERY_BYTES, MAX_SETS};
 use std::alloc::{AllocError, Global};
-use thiserror::Error;
+use std::fmt;
 
 /// What is wrong with a line, or with a script as a whole.
-#[derive(Debug, Drop, Error)]
+#[derive(Drop)]
 pub enum LineFault {
-    #[error("the script has {0} bytes, {most} at most", most = MAX_SCRIPT_BYTES)]
-    ScriptBytes(usize),
-    #[error("{0} parts were handed in, {most} at most", most = MAX_PARTS)]
-    Parts(usize),
-    #[error("no table is declared before this line")]
-    NoTable,
-    #[error("a table is declared already, on line {0}")]
-    TableAgain(u64),
-    #[error("the line is no UTF-8 from here on")]
-    NotUtf8,
-    #[error("{0}: the commands are table, load, put, delete, publish, report and shape, in small letters")]
-    NoCommand(String),
-    /// A piece of the line, and why it may not stand there.
-    #[error("{found}: {why}")]
-    Piece { found: String, why: &'static str },
+    /// What is wrong, where nothing is named.
+    Plain(&'static str),
+    /// A piece of the line, and what is wrong with it.
+    Piece {
+        found: String,
+        why: &'static str,
+    },
+    /// The same, and what that is about: a clause, the table or a number.
+    About {
+        found: String,
+        why: &'static str,
+        what: String,
+    },
     /// A piece of the line, and what should stand in its place.
-    #[error("{found}: {wanted} should stand here")]
-    Other { found: String, wanted: String },
-    /// What should follow where the line ends.
-    #[error("the line ends here: {0} should follow")]
-    Unfinished(String),
-    /// Why the line may not end where it does.
-    #[error("the line ends here: {why}")]
-    Ended { why: &'static str },
-    /// A piece at which no token begins.
-    #[error("{found}: {slip}")]
-    Slip { found: String, slip: Slip },
-    #[error("{0} columns, {most} at most", most = MAX_COLUMNS)]
-    Columns(usize),
-    #[error("no column is the KEY")]
-    NoKey,
-    #[error("{found}: {parts} parts were handed in")]
-    NoPart { found: String, parts: usize },
-    #[error("the listed parts have {0} bytes, {most} at most", most = MAX_LISTED_BYTES)]
-    ListedBytes(u64),
-    #[error("a listed part has a faulty record")]
-    BadPart,
-    #[error("no record stands here")]
-    NoRecord,
-    #[error("more than one record stands here")]
-    Records,
-    #[error("{0}")]
+    Other {
+        found: String,
+        wanted: String,
+    },
+    /// More of these than there may be.
+    TooMany {
+        found: u64,
+        what: &'static str,
+        most: u64,
+    },
+    /// The line on which a table was declared before.
+    TableAgain(u64),
+    /// The one record of the line spells no row.
     Record(RecordFault),
-    #[error("the draft would have more rows than --rows allows")]
-    TooManyRows,
-    #[error("the query has {0} bytes, {most} at most", most = MAX_QUERY_BYTES)]
-    QueryBytes(usize),
-    #[error("{0}")]
-    Query(QueryLimit),
-    #[error("{found}: the table is {table}")]
-    OtherTable { found: String, table: String },
-    #[error("{found}: no column of the table, in {clause}")]
-    NoColumn { found: String, clause: &'static str },
-    #[error("{found}: in no grouping set, though it stands in {clause}")]
-    NotGrouped { found: String, clause: &'static str },
-    #[error("GROUP BY has more than {most} grouping sets", most = MAX_SETS)]
-    Sets,
-    /// The rule alone, where no place is known to break it.
-    #[error("{0}")]
-    Rule(&'static str),
+}
+
+impl fmt::Display for LineFault {
+    fn fmt<W: fmt::Write>(&self, f: &mut fmt::Formatter<W>) -> fmt::Result {
+        match self {
+            LineFault::Plain(why) => write!(f, "{why}"),
+            LineFault::Piece { found, why } => write!(f, "{found}: {why}"),
+            LineFault::About { found, why, what } => write!(f, "{found}: {why} {what}"),
+            LineFault::Other { found, wanted } => write!(f, "{found}: {wanted} should stand here"),
+            LineFault::TooMany { found, what, most } => write!(f, "{found} {what}, {most} at most"),
+            LineFault::TableAgain(line) => write!(f, "a table is declared already, on line {line}"),
+            LineFault::Record(fault) => write!(f, "{fault}"),
+        }
+    }
 }
 
 /// A fault, and its place in a text, in bytes counted from 0; none where it is the text as a whole.
-#[derive(Debug, Drop)]
+#[derive(Drop)]
 pub struct Found {
     pub place: Option<usize>,
     pub fault: LineFault,
@@ -98,22 +75,17 @@ impl Found {
     }
 }
 
-/// The piece of the text where the token of this number stands, and its place; the end of the tokens with no piece
-/// where there is none.
-pub fn token_at(
-    alloc: Global,
-    text: &[u8],
-    number: usize,
-) -> Result<(usize, Option<String>), AllocError> {
+/// What stands where the token of this number is, and its place: behind all tokens the end of the line.
+pub fn token_at(alloc: Global, text: &[u8], number: usize) -> Result<(usize, String), AllocError> {
     let span = span_of(text, number);
     if span.start == span.end {
-        return Ok((span.start, None));
+        return Ok((span.start, String::from_str(alloc, "the end of the line")?));
     }
     let found = shown_bytes(alloc, &text[span.start..span.end])?;
-    Ok((span.start, Some(found)))
+    Ok((span.start, found))
 }
 
-/// That the token of this number may not stand there, or the end.
+/// That the token of this number, or the end, may not stand where it does.
 pub fn refused_token(
     alloc: Global,
     text: &[u8],
@@ -121,13 +93,7 @@ pub fn refused_token(
     why: &'static str,
 ) -> Result<Found, AllocError> {
     let (place, found) = token_at(alloc, text, number)?;
-    Ok(Found::at(
-        place,
-        match found {
-            Some(found) => LineFault::Piece { found, why },
-            None => LineFault::Ended { why },
-        },
-    ))
+    Ok(Found::at(place, LineFault::Piece { found, why }))
 }
 
 /// The first place at which no token begins, of a text that is no list of tokens.
@@ -135,9 +101,10 @@ pub fn slip_in(alloc: Global, text: &str) -> Result<Found, AllocError> {
     match first_slip(text.as_bytes()) {
         Some((place, slip)) => {
             let found = first_piece(alloc, text, place, slip)?;
-            Ok(Found::at(place, LineFault::Slip { found, slip }))
+            let why = slip.words();
+            Ok(Found::at(place, LineFault::Piece { found, why }))
         }
-        None => Ok(Found::whole(LineFault::Rule("the text is no list of tokens"))),
+        None => Ok(Found::whole(LineFault::Plain("the text is no list of tokens"))),
     }
 }
 
@@ -146,7 +113,7 @@ fn first_piece(alloc: Global, text: &str, place: usize, slip: Slip) -> Result<St
     let rest = text.get(place..).unwrap_or("");
     let len = match slip {
         Slip::Touched | Slip::OutOfRange => word_len(rest.as_bytes()),
-        Slip::NotClosed | Slip::TooLong(_) => rest.len(),
+        Slip::NotClosed | Slip::TooLong => rest.len(),
         Slip::NotEquals => 2,
         _ => rest.chars().next().map_or(0, |letter| letter.len_utf8()),
     };

@@ -15,14 +15,14 @@ pub fn form_fault(alloc: Global, rest: &str) -> Result<Found, AllocError> {
         }
         place = place.saturating_add(number.len()).saturating_add(1);
     }
-    Ok(Found::whole(LineFault::Rule("these are no part numbers")))
+    Ok(Found::whole(LineFault::Plain("these are no part numbers")))
 }
 
 /// That this stands where a part number should.
 fn wrong_number(alloc: Global, place: usize, number: &str) -> Result<Found, AllocError> {
     if number.is_empty() {
         let why = "part numbers stand here, with one space between neighbours";
-        return Ok(Found::at(place, LineFault::Rule(why)));
+        return Ok(Found::at(place, LineFault::Plain(why)));
     }
     let found = shown(alloc, number)?;
     let why = "no part number";
@@ -35,12 +35,13 @@ pub fn missing_part(alloc: Global, rest: &str, parts: &[Vec<u8>]) -> Result<Foun
     for number in rest.split(' ') {
         if part_numbered(parts, number).is_none() {
             let found = shown(alloc, number)?;
-            let parts = parts.len();
-            return Ok(Found::at(place, LineFault::NoPart { found, parts }));
+            let what = parts.len().to_string(alloc)?;
+            let why = "no part of this number, of those handed in:";
+            return Ok(Found::at(place, LineFault::About { found, why, what }));
         }
         place = place.saturating_add(number.len()).saturating_add(1);
     }
-    Ok(Found::whole(LineFault::Rule("a number is that of no part")))
+    Ok(Found::whole(LineFault::Plain("a number is that of no part")))
 }
 
 /// The bytes of the listed parts, counted at each listing.

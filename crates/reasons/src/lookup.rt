@@ -1,10 +1,10 @@
 //! The reasons of a script.
-ghost use Rattle.std.specs.Prelude.{◌≡◌, IfOk, map, option_map};
+ghost use Rattle.std.specs.Prelude.{◌≡◌, ◌≤◌, ◌+◌, IfOk, IfSome, None, length, map, option_map};
 ghost use Rattle.cells.specs.Reading.{schema_of};
-ghost use Rattle.reasons.specs.Books.{declared_in, lines_in, schema_in_text, schema_said};
+ghost use Rattle.reasons.specs.Books.{declared_in, line_numbered, lines_in, schema_in_text, schema_said};
 
 use crate::keys::key_fault;
-use crate::limits::MAX_SCRIPT_BYTES;
+use crate::limits::{MAX_PARTS, MAX_SCRIPT_BYTES};
 use crate::line_fault::{Found, LineFault};
 use crate::listing::{form_fault, listed_bytes, missing_part};
 use crate::part::{PartReason, faults_of_part};
@@ -14,12 +14,20 @@ use crate::schemas::schema_fault;
 use crate::shown::shown;
 use crate::split::{command_of, line_at, lines_of};
 use cells::{Refused, Schema};
+use loader::MAX_LISTED_BYTES;
 use std::alloc::{AllocError, Global};
 use std::fmt;
 use std::marker::Model;
 
+const NO_TABLE: &str = "no table is declared before this line";
+
+const TOO_MANY_ROWS: &str = "the draft would have more rows than --rows allows";
+
+const COMMANDS: &str =
+    "the commands are table, load, put, delete, publish, report and shape, in small letters";
+
 /// Why a line is refused. Its text says what is wrong, and names what is at fault.
-#[derive(Debug, Drop)]
+#[derive(Drop)]
 pub struct Reason {
     /// The column of the line at which the fault is, in bytes counted from 1. None where it is the line as a whole.
     pub column: Option<u64>,
@@ -54,7 +62,7 @@ impl<'a> Model for Reasons<'a> {
 }
 
 /// The table of a script, and the line that declares it.
-#[derive(Debug, Drop)]
+#[derive(Drop)]
 struct Declared {
     schema: Schema,
     line: u64,
@@ -94,7 +102,10 @@ impl<'a> Reasons<'a> {
 
     /// Why the line of this number, counted from 1, is refused by this rule; of 0 the script as a whole. Where the line
     /// breaks no such rule, the reason is the rule. The only error is that a growth was refused.
-    pub fn of_line(&self, alloc: Global, line: u64, rule: Refused) -> Result<Reason, AllocError> {
+    pub fn of_line(&self, alloc: Global, line: u64, rule: Refused) -> Result<Reason, AllocError>
+        ensures whole { line ≡ 0 → IfOk result (λ reason. reason.column ≡ None) }
+        ensures within { IfOk result (λ reason. IfSome reason.column (λ column. column ≤ length (line_numbered self.now.lines line) + 1)) }
+    {
         if line == 0 {
             return Ok(Reason {
                 column: None,
@@ -105,27 +116,25 @@ impl<'a> Reasons<'a> {
         match str::from_utf8(bytes) {
             Ok(text) => self.of_text(alloc, text, rule),
             Err(error) => Ok(Reason {
-                column: Some((error.valid_up_to() as u64).saturating_add(1)),
-                fault: LineFault::NotUtf8,
+                column: Some(column_in(bytes, error.valid_up_to())),
+                fault: LineFault::Plain("the line is no UTF-8 from here on"),
             }),
         }
     }
 
-    /// Why a record of the part of this number is faulty; the part's number is counted from 1, and the header is record 0.
-    /// The only error is that a growth was refused.
-    pub fn of_record(
-        &self,
-        alloc: Global,
-        part: u64,
-        record: u64,
-    ) -> Result<PartReason, AllocError> {
+    /// Why the first faulty record of a part is faulty, as a run tells both numbers: that of the part, counted from 1, and
+    /// that of the record, where the header is 0. Of another record it is not told why. The only error is that a growth
+    /// was refused.
+    pub fn of_record(&self, alloc: Global, part: u64, number: u64) -> Result<PartReason, AllocError>
+        ensures { IfOk result (λ reason. reason.record ≡ number) }
+    {
         let Some(schema) = self.schema() else {
-            return Ok(PartReason::unknown(record));
+            return Ok(PartReason::unknown(number));
         };
         let Some(bytes) = self.part(part) else {
-            return Ok(PartReason::unknown(record));
+            return Ok(PartReason::unknown(number));
         };
-        reason_of_record(alloc, bytes, schema, record)
+        reason_of_record(alloc, bytes, schema, number)
     }
 
     /// The bytes of the part of this number.
@@ -138,35 +147,51 @@ impl<'a> Reasons<'a> {
     /// Why the script is refused as a whole.
     fn script_fault(&self) -> LineFault {
         if self.script.len() > MAX_SCRIPT_BYTES {
-            return LineFault::ScriptBytes(self.script.len());
+            return LineFault::TooMany {
+                found: self.script.len() as u64,
+                what: "bytes of a script",
+                most: MAX_SCRIPT_BYTES as u64,
+            };
         }
-        LineFault::Parts(self.parts.len())
+        LineFault::TooMany {
+            found: self.parts.len() as u64,
+            what: "parts",
+            most: MAX_PARTS as u64,
+        }
     }
 
     /// Why a line of this text is refused by the rule.
-    fn of_text(&self, alloc: Global, text: &str, rule: Refused) -> Result<Reason, AllocError> {
-        let (word, rest) = command_of(text);
-        let start = text.len().saturating_sub(rest.len());
+    fn of_text(&self, alloc: Global, line: &str, rule: Refused) -> Result<Reason, AllocError>
+        ensures { IfOk result (λ reason. IfSome reason.column (λ column. column ≤ length line.now + 1)) }
+    {
+        let (word, rest) = command_of(line);
+        let start = line.len().saturating_sub(rest.len());
         if matches!(rule, Refused::BadCommand) {
-            return of_command(alloc, word, rest, start);
+            return of_command(alloc, line, word, rest);
         }
         if matches!(rule, Refused::Limit) && word == "load" {
-            let bytes = listed_bytes(rest, self.parts);
-            return Ok(reason_behind(start, Found::whole(LineFault::ListedBytes(bytes))));
+            let fault = LineFault::TooMany {
+                found: listed_bytes(rest, self.parts),
+                what: "bytes of listed parts",
+                most: MAX_LISTED_BYTES,
+            };
+            return Ok(reason_behind(line, start, Found::whole(fault)));
         }
         let found = self.fault_of(alloc, rest, rule)?;
-        Ok(reason_behind(start, found))
+        Ok(reason_behind(line, start, found))
     }
 
     /// Why the rest of a line is refused by the rule.
     fn fault_of(&self, alloc: Global, rest: &str, rule: Refused) -> Result<Found, AllocError> {
         match rule {
-            Refused::NoTable => Ok(Found::whole(LineFault::NoTable)),
+            Refused::NoTable => Ok(Found::whole(LineFault::Plain(NO_TABLE))),
             Refused::TableAgain => Ok(Found::whole(self.table_again())),
             Refused::BadSchema => schema_fault(alloc, rest),
             Refused::NoPart => missing_part(alloc, rest, self.parts),
-            Refused::BadPart => Ok(Found::whole(LineFault::BadPart)),
-            Refused::TooManyRows => Ok(Found::whole(LineFault::TooManyRows)),
+            Refused::BadPart => Ok(Found::whole(LineFault::Plain(
+                "a listed part has a faulty record",
+            ))),
+            Refused::TooManyRows => Ok(Found::whole(LineFault::Plain(TOO_MANY_ROWS))),
             rule => self.under_table(alloc, rest, rule),
         }
     }
@@ -175,14 +200,14 @@ impl<'a> Reasons<'a> {
     fn table_again(&self) -> LineFault {
         match &self.table {
             Some(table) => LineFault::TableAgain(table.line),
-            None => LineFault::Rule("a table is declared already"),
+            None => LineFault::Plain("a table is declared already"),
         }
     }
 
     /// The faults of a line's rest that are found by the schema.
     fn under_table(&self, alloc: Global, rest: &str, rule: Refused) -> Result<Found, AllocError> {
         let Some(schema) = self.schema() else {
-            return Ok(Found::whole(LineFault::NoTable));
+            return Ok(Found::whole(LineFault::Plain(NO_TABLE)));
         };
         match rule {
             Refused::BadRecord => put_fault(alloc, rest.as_bytes(), schema),
@@ -253,31 +278,42 @@ fn schema_of(alloc: Global, text: &str) -> Result<Option<Schema>, AllocError>
 }
 
 /// The reason of a fault that was found in what stands behind so many bytes of a line.
-fn reason_behind(start: usize, found: Found) -> Reason {
+fn reason_behind(line: &str, start: usize, found: Found) -> Reason
+    ensures { IfSome result.column (λ column. column ≤ length line.now + 1) }
+{
     let Found { place, fault } = found;
-    Reason {
-        column: place.map(|place| column_of(start, place)),
-        fault,
+    match place {
+        Some(place) => Reason {
+            column: Some(column_in(line.as_bytes(), start.saturating_add(place))),
+            fault,
+        },
+        None => Reason {
+            column: None,
+            fault,
+        },
     }
 }
 
-/// The column of a place behind so many bytes of a line.
-fn column_of(start: usize, place: usize) -> u64 {
-    (start as u64)
-        .saturating_add(place as u64)
-        .saturating_add(1)
+/// The column of a place in a line, counted from 1.
+fn column_in(line: &[u8], place: usize) -> u64
+    ensures { result ≤ length line.now + 1 }
+{
+    place.min(line.len()) as u64 + 1
 }
 
 /// Why a line is no command, or a command's rest is not in its form.
-fn of_command(alloc: Global, word: &str, rest: &str, start: usize) -> Result<Reason, AllocError> {
+fn of_command(alloc: Global, line: &str, word: &str, rest: &str) -> Result<Reason, AllocError>
+    ensures { IfOk result (λ reason. IfSome reason.column (λ column. column ≤ length line.now + 1)) }
+{
+    let start = line.len().saturating_sub(rest.len());
     match word {
-        "load" => Ok(reason_behind(start, form_fault(alloc, rest)?)),
+        "load" => Ok(reason_behind(line, start, form_fault(alloc, rest)?)),
         "publish" | "shape" => {
             let found = shown(alloc, rest)?;
             let why = "the line should end before this";
-            Ok(reason_behind(start, Found::at(0, LineFault::Piece { found, why })))
+            Ok(reason_behind(line, start, Found::at(0, LineFault::Piece { found, why })))
         }
-        _ => Ok(reason_behind(0, no_command(alloc, word)?)),
+        _ => Ok(reason_behind(line, 0, no_command(alloc, word)?)),
     }
 }
 
@@ -285,28 +321,29 @@ fn of_command(alloc: Global, word: &str, rest: &str, start: usize) -> Result<Rea
 fn no_command(alloc: Global, word: &str) -> Result<Found, AllocError> {
     if word.is_empty() {
         let why = "no space stands before a command";
-        return Ok(Found::at(0, LineFault::Rule(why)));
+        return Ok(Found::at(0, LineFault::Plain(why)));
     }
     if word.starts_with('\u{feff}') {
         let why = "a byte order mark stands before the command";
-        return Ok(Found::at(0, LineFault::Rule(why)));
+        return Ok(Found::at(0, LineFault::Plain(why)));
     }
-    let word = shown(alloc, word)?;
-    Ok(Found::at(0, LineFault::NoCommand(word)))
+    let found = shown(alloc, word)?;
+    let why = COMMANDS;
+    Ok(Found::at(0, LineFault::Piece { found, why }))
 }
 
-/// Why the record of this number is faulty.
+/// Why the record of this number is faulty, where it is the first faulty one.
 fn reason_of_record(
     alloc: Global,
     bytes: &[u8],
     schema: &Schema,
-    record: u64,
-) -> Result<PartReason, AllocError> {
+    number: u64,
+) -> Result<PartReason, AllocError>
+    ensures { IfOk result (λ reason. reason.record ≡ number) }
+{
     let mut faults = faults_of_part(alloc, bytes, schema)?;
-    while let Some((number, reason)) = faults.next()? {
-        if number == record {
-            return Ok(reason);
-        }
+    match faults.next()? {
+        Some((first, reason)) if first == number => Ok(reason),
+        _ => Ok(PartReason::unknown(number)),
     }
-    Ok(PartReason::unknown(record))
 }

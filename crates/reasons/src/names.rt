@@ -7,7 +7,7 @@ use cells::{Column, Mark, Schema, Token, is_reserved};
 use std::alloc::{AllocError, Global};
 
 /// A clause of a query.
-#[derive(Clone, Copy, Debug, PartialEq, Eq)]
+#[derive(Clone, Copy, PartialEq, Eq)]
 pub enum Clause {
     Select,
     From,

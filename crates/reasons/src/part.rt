@@ -1,5 +1,5 @@
 //! The faulty records of a part, one after another.
-ghost use Rattle.std.specs.Prelude.{◌≡◌, ◌+◌, [], IfOk, MatchOption};
+ghost use Rattle.std.specs.Prelude.{◌≡◌, ◌+◌, [], IfOk, IfSome, MatchOption};
 ghost use Rattle.reasons.specs.Records.{fault_count, fault_count_in, faulty_count};
 
 use crate::header::{HeaderFault, is_header, other_names};
@@ -12,17 +12,17 @@ use std::fmt;
 use std::marker::Model;
 
 /// Why a record of a part is faulty. Its text names the record and what is wrong with it.
-#[derive(Debug, Drop)]
+#[derive(Drop)]
 pub struct PartReason {
     /// The line of the part's file on which the record begins, counted from 1 by line feeds.
     pub line: u64,
     /// The record's number: 0 is the header.
-    record: u64,
+    pub record: u64,
     fault: RecordOrHeader,
 }
 
 /// What is wrong with it.
-#[derive(Debug, Drop)]
+#[derive(Drop)]
 enum RecordOrHeader {
     Header(HeaderFault),
     Record(RecordFault),
@@ -32,10 +32,12 @@ enum RecordOrHeader {
 
 impl PartReason {
     /// What is told of a record in which no fault is found, as where no table is declared.
-    pub(crate) fn unknown(record: u64) -> PartReason {
+    pub(crate) fn unknown(number: u64) -> PartReason
+        ensures { result.record ≡ number }
+    {
         PartReason {
             line: 1,
-            record,
+            record: number,
             fault: RecordOrHeader::Unknown,
         }
     }
@@ -60,7 +62,7 @@ pub struct PartFaults<'a> {
     schema: &'a Schema,
     records: Records<'a>,
     number: u64,
-    header: Option<HeaderFault>,
+    header: Option<PartReason>,
     ended: bool,
 }
 
@@ -83,7 +85,7 @@ pub fn faults_of_part<'a>(
     ensures { IfOk result (λ faults. faults ≡ fault_count schema.now part.now) }
 {
     let mut records = Records::new(alloc, part);
-    let header = header_fault(alloc, &mut records, schema)?;
+    let header = header_fault(alloc, part, &mut records, schema)?;
     let ended = header.is_some();
     Ok(PartFaults {
         alloc,
@@ -96,34 +98,36 @@ pub fn faults_of_part<'a>(
     })
 }
 
-/// Takes the first record, and tells why it is no header.
+/// Takes the first record of a part of these bytes, and tells why it is no header.
 fn header_fault(
     alloc: Global,
+    bytes: &[u8],
     records: &mut Records<'_>,
     schema: &Schema,
-) -> Result<Option<HeaderFault>, AllocError>
+) -> Result<Option<PartReason>, AllocError>
     ensures { IfOk result (λ fault. MatchOption fault (fault_count_in schema.now records.old ≡ faulty_count schema.now records.new) (λ _. fault_count_in schema.now records.old ≡ 1)) }
 {
     let mut record = ByteRecord::new(alloc);
     if !records.next(&mut record)? {
-        return Ok(Some(HeaderFault::Missing));
+        return Ok(Some(of_header(1, HeaderFault::Missing)));
     }
     let fields = fields(alloc, &record)?;
     if is_header(schema.columns(), fields.as_slice()) {
         return Ok(None);
     }
     let fault = other_names(alloc, schema.columns(), fields.as_slice())?;
-    Ok(Some(fault))
+    Ok(Some(of_header(line_of(bytes, &record), fault)))
 }
 
 impl<'a> PartFaults<'a> {
     /// The next faulty record: its number, where 0 is the header, and the reason. None where none is left. The only
     /// error is that a growth was refused; then what is left is not known.
     pub fn next(&mut self) -> Result<Option<(u64, PartReason)>, AllocError>
-        ensures { IfOk result (λ found. MatchOption found ((self.old ≡ 0) × (self.new ≡ 0)) (λ _. self.old ≡ self.new + 1)) }
+        ensures one { IfOk result (λ found. MatchOption found ((self.old ≡ 0) × (self.new ≡ 0)) (λ _. self.old ≡ self.new + 1)) }
+        ensures number { IfOk result (λ found. IfSome found (λ x. x.1.record ≡ x.0)) }
     {
-        if let Some(fault) = self.header.take() {
-            return Ok(Some((0, of_header(fault))));
+        if let Some(reason) = self.header.take() {
+            return Ok(Some((reason.record, reason)));
         }
         if self.ended {
             return Ok(None);
@@ -132,16 +136,18 @@ impl<'a> PartFaults<'a> {
         else {
             return Ok(None);
         };
-        self.number = faulty.number.saturating_add(1);
         let number = faulty.number;
+        self.number = number.saturating_add(1);
         Ok(Some((number, faulty.reason(self.bytes))))
     }
 }
 
-/// The reason of a faulty header.
-fn of_header(fault: HeaderFault) -> PartReason {
+/// The reason of a faulty header that begins on a line.
+fn of_header(line: u64, fault: HeaderFault) -> PartReason
+    ensures { result.record ≡ 0 }
+{
     PartReason {
-        line: 1,
+        line,
         record: 0,
         fault: RecordOrHeader::Header(fault),
     }
@@ -157,7 +163,9 @@ struct Faulty {
 
 impl Faulty {
     /// The reason, in a part of these bytes.
-    fn reason(self, bytes: &[u8]) -> PartReason {
+    fn reason(self, bytes: &[u8]) -> PartReason
+        ensures { result.record ≡ self.number }
+    {
         let Faulty {
             number,
             record,

@@ -1,22 +1,10 @@
 //! Which limit of a query its tokens pass.
 
+use crate::line_fault::{Found, LineFault};
 use crate::names::{Clause, is_aggregate};
+use crate::tokens::span_of;
 use cells::{Mark, Token};
 use query::{MAX_GROUPING_COLUMNS, MAX_ITEMS, MAX_OPEN_PARENTHESES};
-use thiserror::Error;
-
-/// The limit that is passed, and what was found.
-#[derive(Clone, Copy, Debug, Drop, Error)]
-pub enum QueryLimit {
-    #[error("more than {most} parentheses are open here", most = MAX_OPEN_PARENTHESES)]
-    Parentheses,
-    #[error("{0} items, {most} at most", most = MAX_ITEMS)]
-    Items(usize),
-    #[error("{0} aggregates in HAVING, {most} at most", most = MAX_ITEMS)]
-    Aggregates(usize),
-    #[error("more than {most} columns in a GROUPING", most = MAX_GROUPING_COLUMNS)]
-    GroupingColumns,
-}
 
 /// What was counted up to a token.
 #[derive(Clone, Copy)]
@@ -31,7 +19,7 @@ struct Counts {
 }
 
 /// The index of the first token at which more parentheses are open than may be.
-pub fn first_too_deep(tokens: &[Token]) -> Option<usize> {
+fn first_too_deep(tokens: &[Token]) -> Option<usize> {
     let mut opened = 0usize;
     let mut closed = 0usize;
     for (at, token) in tokens.iter().enumerate() {
@@ -47,10 +35,15 @@ pub fn first_too_deep(tokens: &[Token]) -> Option<usize> {
     None
 }
 
-/// The limit that a query of these tokens passes, with the index of the token where it does, if one is at fault alone.
-pub fn passed_limit(tokens: &[Token]) -> Option<(Option<usize>, QueryLimit)> {
+/// The limit that a query of these tokens passes, in this text.
+pub fn limit_fault(text: &[u8], tokens: &[Token]) -> Found {
     if let Some(at) = first_too_deep(tokens) {
-        return Some((Some(at), QueryLimit::Parentheses));
+        let fault = too_many(
+            MAX_OPEN_PARENTHESES.saturating_add(1),
+            "parentheses open here",
+            MAX_OPEN_PARENTHESES,
+        );
+        return Found::at(span_of(text, at).start, fault);
     }
     let mut counts = Counts {
         clause: Clause::Select,
@@ -62,16 +55,27 @@ pub fn passed_limit(tokens: &[Token]) -> Option<(Option<usize>, QueryLimit)> {
     for (at, token) in tokens.iter().enumerate() {
         counts = counts.behind(token);
         if counts.names > MAX_GROUPING_COLUMNS {
-            return Some((Some(at), QueryLimit::GroupingColumns));
+            let fault = too_many(
+                counts.names,
+                "columns up to here in a GROUPING",
+                MAX_GROUPING_COLUMNS,
+            );
+            return Found::at(span_of(text, at).start, fault);
         }
     }
     if counts.items > MAX_ITEMS {
-        return Some((None, QueryLimit::Items(counts.items)));
+        return Found::whole(too_many(counts.items, "items", MAX_ITEMS));
     }
-    if counts.aggregates > MAX_ITEMS {
-        return Some((None, QueryLimit::Aggregates(counts.aggregates)));
+    Found::whole(too_many(counts.aggregates, "aggregates in HAVING", MAX_ITEMS))
+}
+
+/// More of these than there may be.
+fn too_many(found: usize, what: &'static str, most: usize) -> LineFault {
+    LineFault::TooMany {
+        found: found as u64,
+        what,
+        most: most as u64,
     }
-    None
 }
 
 impl Counts {

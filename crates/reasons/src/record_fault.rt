@@ -10,24 +10,33 @@ use crate::shown::shown;
 use cells::{Column, Refused, Row, RowReader, Schema};
 use csv::ByteRecord;
 use std::alloc::{AllocError, Global};
-use thiserror::Error;
+use std::fmt;
 
 /// Why the fields of a record spell no row.
-#[derive(Debug, Drop, Error)]
+#[derive(Drop)]
 pub enum RecordFault {
     /// There are so many fields, and another number of columns.
-    #[error("fields found: {found}, wanted: {wanted}")]
     Fields {
         found: usize,
         wanted: usize,
     },
     /// The field at this place spells no cell of its column, and those before it do; or each spells one and the key is NULL.
-    #[error("column {column}: {fault}")]
     Field {
         place: usize,
         column: String,
         fault: FieldFault,
     },
+}
+
+impl fmt::Display for RecordFault {
+    fn fmt<W: fmt::Write>(&self, f: &mut fmt::Formatter<W>) -> fmt::Result {
+        match self {
+            RecordFault::Fields { found, wanted } => {
+                write!(f, "fields found: {found}, wanted: {wanted}")
+            }
+            RecordFault::Field { column, fault, .. } => write!(f, "column {column}: {fault}"),
+        }
+    }
 }
 
 /// Why the fields spell no row of the schema. None exactly where they spell one.

@@ -15,7 +15,7 @@ pub fn schema_fault(alloc: Global, text: &str) -> Result<Found, AllocError> {
 }
 
 /// A place between the tokens of a schema, by what comes next.
-#[derive(Clone, Copy, Debug, PartialEq, Eq)]
+#[derive(Clone, Copy, PartialEq, Eq)]
 enum Step {
     TableName,
     Open,
@@ -44,9 +44,13 @@ fn tokens_fault(alloc: Global, text: &str, tokens: &[Token]) -> Result<Found, Al
     }
     let columns = column_count(tokens);
     if columns > MAX_COLUMNS {
-        return Ok(Found::whole(LineFault::Columns(columns)));
+        return Ok(Found::whole(LineFault::TooMany {
+            found: columns as u64,
+            what: "columns",
+            most: MAX_COLUMNS as u64,
+        }));
     }
-    Ok(Found::whole(LineFault::NoKey))
+    Ok(Found::whole(LineFault::Plain("no column is the KEY")))
 }
 
 /// The index of the first token that goes on with no schema, whatever follows, and what may stand there; their number

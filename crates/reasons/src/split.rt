@@ -2,7 +2,8 @@
 ghost use Rattle.std.specs.Prelude.{◌==◌, ◌≡◌, ◌∷◌, ◌<◌, [], IfOk, IfSome, length, map};
 ghost use Rattle.std.specs.List.{after_first, before_first, position};
 ghost use Rattle.std.specs.Option.{option_map_or};
-ghost use Rattle.reasons.specs.Books.{between_ends};
+ghost use Rattle.std.specs.Str.Lines.{strip_carriage_return};
+ghost use Rattle.reasons.specs.Books.{between_ends, line_numbered};
 
 use std::alloc::{AllocError, Global};
 
@@ -43,15 +44,28 @@ fn end_at(text: &[u8]) -> Option<usize>
 
 /// The line of this number, counted from 1, without the carriage return before its line feed. A last line keeps its
 /// own, and a line that is not there is empty.
-pub fn line_at<'a>(lines: &[&'a [u8]], number: u64) -> &'a [u8] {
-    let Some(place) = number.checked_sub(1) else {
+pub fn line_at<'a>(lines: &[&'a [u8]], number: u64) -> &'a [u8]
+    ensures { result.now ≡ line_numbered (map (λ l. l.now) lines.now) number }
+{
+    if number == 0 {
         return &[];
-    };
-    let Some(line) = lines.get(place as usize).copied() else {
+    }
+    if number > lines.len() as u64 {
         return &[];
-    };
+    }
+    let line = lines[number as usize - 1];
+    if number == lines.len() as u64 {
+        return line;
+    }
+    without_return(line)
+}
+
+/// The line without one carriage return at its end.
+fn without_return(line: &[u8]) -> &[u8]
+    ensures { result.now ≡ strip_carriage_return line.now }
+{
     match line {
-        [front @ .., b'\r'] if number < lines.len() as u64 => front,
+        [front @ .., b'\r'] => front,
         _ => line,
     }
 }

@@ -6,7 +6,7 @@ use cells::{Mark, Token};
 use std::alloc::{AllocError, Global};
 
 /// A place between the tokens of a query.
-#[derive(Clone, Copy, Debug)]
+#[derive(Clone, Copy)]
 pub struct Place {
     step: Step,
     /// The step behind the operand that is read.
@@ -148,14 +148,10 @@ impl Place {
 
     fn habit_of_word(self, word: &str) -> Option<&'static str> {
         match word {
-            "ORDER" | "LIMIT" | "OFFSET" | "FETCH" | "UNION" if self.may_end() => {
-                Some("the query should end here")
-            }
+            "ORDER" | "LIMIT" | "UNION" if self.may_end() => { Some("the query should end here") }
             "AS" => Some("items and tables have no other names"),
-            "JOIN" | "INNER" | "LEFT" | "RIGHT" | "FULL" | "CROSS" | "NATURAL" => {
-                Some("a query reads one table, and there are no joins")
-            }
-            "LIKE" | "ILIKE" => Some("texts are compared whole, and there is no LIKE"),
+            "JOIN" | "INNER" | "LEFT" => { Some("a query reads one table, and there are no joins") }
+            "LIKE" => Some("texts are compared whole, and there is no LIKE"),
             "INT" | "TEXT" | "KEY" => Some("a reserved word is no name"),
             _ if self.has_operand() => self.habit_at_operand(word),
             _ => None,

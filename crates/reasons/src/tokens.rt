@@ -2,42 +2,49 @@
 ghost use Rattle.std.specs.Prelude.{◌≤◌, ◌<◌, IfOk, IfSome, length};
 
 use cells::MAX_TEXT_BYTES;
-use thiserror::Error;
 
 /// Why no token begins at a place.
-#[derive(Clone, Copy, Debug, Drop, Error)]
+#[derive(Clone, Copy)]
 pub enum Slip {
-    #[error("names stand without quotes, and texts in single quotes")]
     DoubleQuote,
-    #[error("no semicolon stands at the end")]
     Semicolon,
-    #[error("not equal is written <>")]
     NotEquals,
-    #[error("numbers are whole")]
     DecimalPoint,
-    #[error("a column is named without its table")]
     Dot,
-    #[error("a number has no plus, and there is no arithmetic")]
     Plus,
-    #[error("a minus stands directly before a digit, and there is no arithmetic")]
     Minus,
-    #[error("there is no arithmetic")]
     Arithmetic,
-    #[error("a letter, a digit or _ may not touch a number")]
     Touched,
-    #[error("a number has 64 bits at most")]
     OutOfRange,
-    #[error("the text is not closed")]
     NotClosed,
-    #[error("a text of {0} bytes, {most} at most", most = MAX_TEXT_BYTES)]
-    TooLong(usize),
-    #[error("no token begins so")]
+    TooLong,
     NoToken,
+}
+
+impl Slip {
+    /// What is wrong, in words.
+    pub fn words(self) -> &'static str {
+        match self {
+            Slip::DoubleQuote => "names stand without quotes, and texts in single quotes",
+            Slip::Semicolon => "no semicolon stands at the end",
+            Slip::NotEquals => "not equal is written <>",
+            Slip::DecimalPoint => "numbers are whole",
+            Slip::Dot => "a column is named without its table",
+            Slip::Plus => "a number has no plus, and there is no arithmetic",
+            Slip::Minus => "a minus stands directly before a digit, and there is no arithmetic",
+            Slip::Arithmetic => "there is no arithmetic",
+            Slip::Touched => "a letter, a digit or _ may not touch a number",
+            Slip::OutOfRange => "a number has 64 bits at most",
+            Slip::NotClosed => "the text is not closed",
+            Slip::TooLong => "a text has 1024 bytes at most",
+            Slip::NoToken => "no token begins so",
+        }
+    }
 }
 
 /// From where to where a token stands in a text, in bytes counted from 0. Both are the end of the last token where it is
 /// the place behind all tokens.
-#[derive(Clone, Copy, Debug)]
+#[derive(Clone, Copy)]
 pub struct Span {
     pub start: usize,
     pub end: usize,
@@ -195,7 +202,7 @@ fn quoted_len(text: &[u8]) -> Result<usize, Slip>
         } else if byte_at(text, at + 1) == b'\'' {
             at += 2;
         } else if bytes > MAX_TEXT_BYTES {
-            return Err(Slip::TooLong(bytes));
+            return Err(Slip::TooLong);
         } else {
             return Ok(at + 1);
         }

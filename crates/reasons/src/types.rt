@@ -4,7 +4,7 @@ use crate::names::{Clause, column_of, is_aggregate};
 use cells::{ColumnType, Mark, Schema, Token, is_reserved};
 
 /// What of a query has another type than it needs.
-#[derive(Clone, Copy, Debug)]
+#[derive(Clone, Copy)]
 pub enum TypeFault {
     /// SUM of a text column.
     SumOfTexts,

@@ -1,4 +1,4 @@
-use Rattle.std.proofs.Common.{◌<◌, ◌-◌, length}
+use Rattle.std.proofs.Common.{◌-◌, length}
 use Rattle.reasons.proofs.tokens.quoted_len.Given as goal
 
 abbrev pub decreases-loop-at : goal.decreases-loop-at
