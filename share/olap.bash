@@ -2,10 +2,10 @@
 
 _olap() {
     local word=${COMP_WORDS[COMP_CWORD]} before=${COMP_WORDS[COMP_CWORD - 1]} place
-    local options="--workers --depth --small --hash --rows --strict --help"
+    local options="--workers --depth --small --hash --rows --strict --explain --help"
     COMPREPLY=()
     if ((COMP_CWORD == 1)); then
-        mapfile -t COMPREPLY < <(compgen -W "run live help --help --version" -- "$word")
+        mapfile -t COMPREPLY < <(compgen -W "run live check help --help --version" -- "$word")
         return
     fi
     # (the `=` of an option is a word of its own)
@@ -25,10 +25,11 @@ _olap() {
     esac
     case ${COMP_WORDS[1]} in
         help)
-            mapfile -t COMPREPLY < <(compgen -W "run live" -- "$word")
+            mapfile -t COMPREPLY < <(compgen -W "run live check language $(echo {1..15})" -- "$word")
             return
             ;;
         live) options+=" --query --viewers --shots" ;;
+        check) options="--help" ;;
         run) ;;
         *) return ;;
     esac

@@ -113,16 +113,30 @@ REFUSED = [
 ]
 
 UNREAD = [
-    refused("a script that is not there", ["run", "none.olap"], "olap: cannot read none.olap\n"),
-    run("a script that is a folder", ["folder"], {"folder": None}, status=2, errors="olap: cannot read folder\n"),
+    refused("a script that is not there", ["run", "none.olap"], "olap: cannot read none.olap: no such file\n"),
+    run("a script that is a folder", ["folder"], {"folder": None}, status=2, errors="olap: cannot read folder: it is a folder\n"),
     run(
         "a part that is not there",
         ["two.olap", "part1", "none", "part2"],
         {"two.olap": TWO, **PARTS},
         status=2,
-        errors="olap: cannot read none\n",
+        errors="olap: cannot read none: no such file\n",
     ),
-    Case("standard input that is a folder", [], {"folder": None}, "folder", status=2, errors="olap: cannot read -\n"),
+    run(
+        "a part in a file that is no folder",
+        ["two.olap", "two.olap/part"],
+        {"two.olap": TWO},
+        status=2,
+        errors="olap: cannot read two.olap/part: not a directory\n",
+    ),
+    Case(
+        "standard input that is a folder",
+        [],
+        {"folder": None},
+        "folder",
+        status=2,
+        errors="olap: cannot read -: it is a folder\n",
+    ),
 ]
 
 LOADED_WRITES = "line 3 refused 5\nline 5 edition 1\nCOUNT(*)\n2\n"
@@ -139,7 +153,14 @@ STREAMS = [
         LOADED_WRITES,
     ),
     run("a file of the name -", ["-"], {"-": TWO}, TWO_WRITES),
-    Case("no file of the name -", ["run", "-"], {"two.olap": TWO}, "two.olap", status=2, errors="olap: cannot read -\n"),
+    Case(
+        "no file of the name -",
+        ["run", "-"],
+        {"two.olap": TWO},
+        "two.olap",
+        status=2,
+        errors="olap: cannot read -: no such file\n",
+    ),
 ]
 
 CASES = RUNS + HELP + REFUSED + UNREAD + STREAMS

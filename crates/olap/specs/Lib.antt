@@ -2,3 +2,4 @@ pub mod CommandLine
 pub mod Folders
 pub mod Jobs
 pub mod Programs
+pub mod Topics

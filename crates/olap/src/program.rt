@@ -11,10 +11,12 @@ ghost use Rattle.olap.specs.Jobs.{IsHelp};
 ghost use Rattle.olap.specs.Programs.{AskForHelp, AskToWrite, IsOutputOf, IsOutputOfJob};
 
 use crate::close::{NOTHING_RUN, WRITTEN, close_finished};
-use crate::input::{Folder, Input, read_input};
+use crate::explaining::{Explaining, Told};
+use crate::input::{Folder, Input, Unread, Unreadable, read_input};
 use crate::job::{Job, WordsFault};
+use crate::tell::{Errors, Tell};
 use crate::words::job_of;
-use crew::Open;
+use crew::{Gate, Open};
 use report::Pour;
 use script::{Finish, HashChoice, How, OnRefusal, Setup, Viewing, run_last};
 use std::alloc::Global;
@@ -29,8 +31,9 @@ use std::thread::Threads;
 /// At 0 the output of that run was written whole, or help was asked for; where the run is strict, no line
 /// was refused. At 1 a strict run stopped after the first refused line, and its output up to that line was
 /// written. At 2 nothing was run, since the words are refused or a file can't be read; at 3 the run ended
-/// early. `rt` starts the threads of a report's workers.
-pub fn run_words<F: Folder, W: Write + Drop, E: Write, R: Threads + Wait + Sync>(
+/// early. `rt` starts the threads of a report's workers, and has the standard error to which reasons go, where the words
+/// ask for them by `--explain`.
+pub fn run_words<F: Folder, W: Write + Drop, E: Write, R: Threads + Wait + Sync + Eprint>(
     rt: &R,
     alloc: Global,
     given: &[String],
@@ -56,7 +59,7 @@ pub fn run_words<F: Folder, W: Write + Drop, E: Write, R: Threads + Wait + Sync>
 
 /// Runs a job over the files that it names, and gives the program's status and the writer back, as
 /// [`run_words`] does.
-fn run_job<F: Folder, W: Write + Drop, E: Write, R: Threads + Wait + Sync>(
+fn run_job<F: Folder, W: Write + Drop, E: Write, R: Threads + Wait + Sync + Eprint>(
     rt: &R,
     alloc: Global,
     job: &Job,
@@ -73,22 +76,49 @@ fn run_job<F: Folder, W: Write + Drop, E: Write, R: Threads + Wait + Sync>(
 {
     // Where there is no room for the parts, no file is read, and the first is named.
     let Ok(room) = Vec::with_capacity(alloc, job.parts.len()) else {
-        return (cannot_read(job.script.as_str(), err), out);
+        let name = job.script.as_str();
+        let why = Unread::Memory;
+        return (cannot_read(Unreadable { name, why }, err), out);
     };
     match read_input(folder, job, room) {
-        Ok(input) => run_input(
-            rt,
-            alloc,
-            &job.how,
-            job.hash,
-            job.viewing(),
-            job.on_refusal,
-            &input,
-            out,
-            err,
-        ),
-        Err(name) => (cannot_read(name, err), out),
+        Ok(input) => run_told(rt, alloc, &Errors::new(rt), job, &input, out, err),
+        Err(unread) => (cannot_read(unread, err), out),
     }
+}
+
+/// Runs a job over what was read for it, and gives the program's status and the writer back, as [`run_input`] does. `teller`
+/// is told why lines are refused, where the job asks for it.
+fn run_told<'a, T: Tell + Sync, W: Write + Drop, E: Write, R: Threads + Wait + Sync>(
+    rt: &'a R,
+    alloc: Global,
+    teller: &'a T,
+    job: &'a Job,
+    input: &'a Input,
+    out: BufWriter<W>,
+    err: &mut E,
+) -> (u8, BufWriter<W>)
+    ensures status { (result.0 ≡ 0) ⊎ ((result.0 ≡ 1) ⊎ (result.0 ≡ 3)) }
+    ensures written { result.0 ≡ 0 → Writes (IsRunBy job.now.on_refusal (hash_of_choice job.now.hash) (givens job.now.how.rows input.now.parts.items) job.now.live input.now.script.items Finish.Through)
+        (writer_contents W.contents out) (writer_contents W.contents result.1) }
+    ensures stopped { result.0 ≡ 1 → Writes (IsRunBy job.now.on_refusal (hash_of_choice job.now.hash) (givens job.now.how.rows input.now.parts.items) job.now.live input.now.script.items Finish.Stopped)
+        (writer_contents W.contents out) (writer_contents W.contents result.1) }
+    ensures flushed { (result.0 ≡ 0) ⊎ (result.0 ≡ 1) → writer_buffer result.1 ≡ [] }
+    ensures beginning { BeginsToWrite (HoweverFinished (IsRunBy job.now.on_refusal (hash_of_choice job.now.hash) (givens job.now.how.rows input.now.parts.items) job.now.live input.now.script.items))
+        (writer_contents W.contents out) (writer_contents W.contents result.1) }
+{
+    let gate = Explaining::new(teller, alloc, Told::of_run(job.explains), job, input);
+    run_input(
+        rt,
+        alloc,
+        &job.how,
+        job.hash,
+        job.viewing(),
+        job.on_refusal,
+        input,
+        &gate,
+        out,
+        err,
+    )
 }
 
 /// Runs the script that standard input holds, with the defaults and no parts, and gives the program's
@@ -108,9 +138,11 @@ pub fn run_standard_input<I: Read + Drop, W: Write + Drop, E: Write, R: Threads 
         → BeginsToWrite (IsOutputOf (I.remaining input)) (writer_contents W.contents out) (writer_contents W.contents result.1) }
 {
     let mut script = Vec::new(alloc);
-    let Ok(_) = input.read_to_end(&mut script) else {
-        return (cannot_read("-", err), out);
-    };
+    if let Err(error) = input.read_to_end(&mut script) {
+        let name = "-";
+        let why = Unread::from(error.kind());
+        return (cannot_read(Unreadable { name, why }, err), out);
+    }
     let parts = Vec::new(alloc);
     let input = Input { script, parts };
     run_input(
@@ -121,6 +153,7 @@ pub fn run_standard_input<I: Read + Drop, W: Write + Drop, E: Write, R: Threads 
         None,
         OnRefusal::GoesOn,
         &input,
+        &Open,
         out,
         err,
     )
@@ -128,9 +161,9 @@ pub fn run_standard_input<I: Read + Drop, W: Write + Drop, E: Write, R: Threads 
 
 /// Runs the script over the parts, with viewers beside it where there are some, flushes what it wrote, and gives the program's
 /// status and the writer back: 0 where the output was written whole, 1 where the run stopped after a refused line, and none of
-/// what it wrote waits in the buffer; and 3 where a beginning of it was written, and why it ended is on `err`. The memory of the
-/// run's table is left to the system.
-pub fn run_input<'a, W: Write + Drop, E: Write, R: Threads + Wait + Sync>(
+/// what it wrote waits in the buffer; and 3 where a beginning of it was written, and why it ended is on `err`. The gate is told of
+/// the run's steps. The memory of the run's table is left to the system.
+pub fn run_input<'a, G: Gate, W: Write + Drop, E: Write, R: Threads + Wait + Sync>(
     rt: &'a R,
     alloc: Global,
     how: &'a How,
@@ -138,6 +171,7 @@ pub fn run_input<'a, W: Write + Drop, E: Write, R: Threads + Wait + Sync>(
     viewing: Option<Viewing<&'a str>>,
     on_refusal: OnRefusal,
     input: &'a Input,
+    gate: &'a G,
     out: BufWriter<W>,
     err: &mut E,
 ) -> (u8, BufWriter<W>)
@@ -159,7 +193,7 @@ pub fn run_input<'a, W: Write + Drop, E: Write, R: Threads + Wait + Sync>(
         parts: input.parts.as_slice(),
         viewing,
         on_refusal,
-        gate: &Open,
+        gate,
     };
     let ended = run_last(&setup, hash, input.script.as_slice(), &mut pour);
     let mut out = pour.into_inner();
@@ -167,11 +201,12 @@ pub fn run_input<'a, W: Write + Drop, E: Write, R: Threads + Wait + Sync>(
     (status, out)
 }
 
-/// Says which file can't be read.
-fn cannot_read<E: Write>(name: &str, err: &mut E) -> u8
+/// Says which file can't be read, and why.
+pub fn cannot_read<E: Write>(unread: Unreadable<'_>, err: &mut E) -> u8
     ensures { result ≡ 2 }
 {
-    let _ = writeln!(err, "olap: cannot read {name}");
+    let Unreadable { name, why } = unread;
+    let _ = writeln!(err, "olap: cannot read {name}: {why}");
     NOTHING_RUN
 }
 

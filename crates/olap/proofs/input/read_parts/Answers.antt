@@ -16,8 +16,8 @@ loop-name-preserved g c =
       room = omega (arith, c.loop-name.invariant.room, c.push.ensures.capacity);
     }
 
-pub returns-in_default-clause-named : goal.returns-in_default-clause-named
-returns-in_default-clause-named g c =
-    first_unread (g.F.Folder.was_read c.args.folder.now) (g.F.Folder.was_refused c.args.folder.now) c.args.names.now c.loop-name.name-index c.name-item.result c.as_str-in_default.result.now
-    c.loop-name.invariant.read c.loop-name-test.true c.name-item.is c.as_str-in_default.ensures
-    (subst (g.F.Folder.was_refused c.args.folder.now) (c.as_str.ensures ∙ sym c.as_str-in_default.ensures) c.in_default.ensures.refused)
+pub returns-in-Err-clause-named : goal.returns-in-Err-clause-named
+returns-in-Err-clause-named g c =
+    first_unread (g.F.Folder.was_read c.args.folder.now) (g.F.Folder.was_refused c.args.folder.now) c.args.names.now c.loop-name.name-index c.name-item.result c.not_read.result.name.now
+    c.loop-name.invariant.read c.loop-name-test.true c.name-item.is c.not_read.ensures
+    (subst (g.F.Folder.was_refused c.args.folder.now) (c.as_str.ensures ∙ sym c.not_read.ensures) c.in-Err.ensures.refused)

@@ -15,9 +15,9 @@ returns-in-Ok-read_input-clause-written g c = λ ok.
     let parts : List (List ℕ) = map (λ p. p.items) c.in-Ok-read_input.input.parts.items in
     let run : Givens = record { limit = c.args.job.now.how.rows; parts = parts } in
     writes_as (IsRunBy c.args.job.now.on_refusal (hash_of_choice c.args.job.now.hash) run c.args.job.now.live script Through) (IsOutputOfJob file c.args.job.now Through)
-    (writer_contents g.W.Write.contents c.args.out) (writer_contents g.W.Write.contents c.run_input.result.1)
+    (writer_contents g.W.Write.contents c.args.out) (writer_contents g.W.Write.contents c.run_told.result.1)
     (output_of_job file c.args.job.now script parts c.in-Ok-read_input.ensures.script c.in-Ok-read_input.ensures.parts Through)
-    (rw (← c.viewing.ensures) (c.run_input.ensures.written ok))
+    (c.run_told.ensures.written ok)
 
 pub returns-in-Ok-read_input-clause-stopped : goal.returns-in-Ok-read_input-clause-stopped
 returns-in-Ok-read_input-clause-stopped g c = λ stopped.
@@ -26,9 +26,9 @@ returns-in-Ok-read_input-clause-stopped g c = λ stopped.
     let parts : List (List ℕ) = map (λ p. p.items) c.in-Ok-read_input.input.parts.items in
     let run : Givens = record { limit = c.args.job.now.how.rows; parts = parts } in
     writes_as (IsRunBy c.args.job.now.on_refusal (hash_of_choice c.args.job.now.hash) run c.args.job.now.live script Stopped) (IsOutputOfJob file c.args.job.now Stopped)
-    (writer_contents g.W.Write.contents c.args.out) (writer_contents g.W.Write.contents c.run_input.result.1)
+    (writer_contents g.W.Write.contents c.args.out) (writer_contents g.W.Write.contents c.run_told.result.1)
     (output_of_job file c.args.job.now script parts c.in-Ok-read_input.ensures.script c.in-Ok-read_input.ensures.parts Stopped)
-    (rw (← c.viewing.ensures) (c.run_input.ensures.stopped stopped))
+    (c.run_told.ensures.stopped stopped)
 
 pub returns-in-Ok-read_input-clause-beginning : goal.returns-in-Ok-read_input-clause-beginning
 returns-in-Ok-read_input-clause-beginning g c = λ early.
@@ -37,6 +37,6 @@ returns-in-Ok-read_input-clause-beginning g c = λ early.
     let parts : List (List ℕ) = map (λ p. p.items) c.in-Ok-read_input.input.parts.items in
     let run : Givens = record { limit = c.args.job.now.how.rows; parts = parts } in
     begins_however (IsRunBy c.args.job.now.on_refusal (hash_of_choice c.args.job.now.hash) run c.args.job.now.live script) (IsOutputOfJob file c.args.job.now)
-    (writer_contents g.W.Write.contents c.args.out) (writer_contents g.W.Write.contents c.run_input.result.1)
+    (writer_contents g.W.Write.contents c.args.out) (writer_contents g.W.Write.contents c.run_told.result.1)
     (output_of_job file c.args.job.now script parts c.in-Ok-read_input.ensures.script c.in-Ok-read_input.ensures.parts)
-    (rw (← c.viewing.ensures) c.run_input.ensures.beginning)
+    c.run_told.ensures.beginning

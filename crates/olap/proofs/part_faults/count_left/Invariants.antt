@@ -1,0 +1,4 @@
+use Rattle.olap.proofs.part_faults.count_left.Given as goal
+
+abbrev pub decreases-loop-count : goal.decreases-loop-count
+decreases-loop-count l = l.faults

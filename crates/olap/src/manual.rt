@@ -1,0 +1,121 @@
+//! The manual: pages that `olap help` prints beside the help of the commands, one of the language and one for each refusal.
+ghost use Rattle.std.specs.Prelude.{◌≡◌, ◌⊎◌, IfSome};
+ghost use Rattle.cells.specs.Refusals.{number_of};
+ghost use Rattle.olap.specs.Topics.{IsNamed};
+
+use crate::close::{NOTHING_RUN, close_run};
+use crate::pages;
+use cells::{Refused, whole_number_of};
+use script::Ended;
+use std::io::{BufWriter, Write};
+
+/// What the manual has a page of.
+#[derive(Clone, Copy, Debug, PartialEq, Eq, Drop)]
+pub enum Topic {
+    /// The language of scripts.
+    Language,
+    /// The command `check`.
+    Check,
+    /// A refusal.
+    Refusal(Refused),
+}
+
+/// What the word after `help` names: `language`, `check`, or a refusal by its number. None where there is no such page.
+pub fn topic_of(word: &str) -> Option<Topic>
+    ensures { IfSome result (IsNamed word.now) }
+{
+    match word {
+        "language" => Some(Topic::Language),
+        "check" => Some(Topic::Check),
+        _ => {
+            let refusal = refusal_of(whole_number_of(word)?)?;
+            Some(Topic::Refusal(refusal))
+        }
+    }
+}
+
+/// The refusal of this number, where there is one.
+fn refusal_of(number: u64) -> Option<Refused>
+    ensures { IfSome result (λ refusal. number_of refusal ≡ number) }
+{
+    match number {
+        1 => Some(Refused::NoTable),
+        2 => Some(Refused::TableAgain),
+        3 => Some(Refused::BadCommand),
+        4 => Some(Refused::BadSchema),
+        5 => Some(Refused::NoPart),
+        6 => Some(Refused::BadPart),
+        7 => Some(Refused::BadRecord),
+        8 => Some(Refused::BadKey),
+        9 => Some(Refused::TooManyRows),
+        10 => Some(Refused::QuerySyntax),
+        11 => Some(Refused::Unknown),
+        12 => Some(Refused::NotGrouped),
+        13 => Some(Refused::WrongType),
+        14 => Some(Refused::TooManySets),
+        15 => Some(Refused::Limit),
+        90 => Some(Refused::OutOfMemory),
+        91 => Some(Refused::NoWorker),
+        92 => Some(Refused::WriteFailed),
+        93 => Some(Refused::NotShown),
+        _ => None,
+    }
+}
+
+impl Topic {
+    /// Its page.
+    pub fn page(self) -> &'static str {
+        match self {
+            Topic::Language => pages::LANGUAGE,
+            Topic::Check => pages::CHECK,
+            Topic::Refusal(refusal) => page_of(refusal),
+        }
+    }
+}
+
+/// The page of a refusal.
+fn page_of(refusal: Refused) -> &'static str {
+    match refusal {
+        Refused::NoTable => pages::NO_TABLE,
+        Refused::TableAgain => pages::TABLE_AGAIN,
+        Refused::BadCommand => pages::BAD_COMMAND,
+        Refused::BadSchema => pages::BAD_SCHEMA,
+        Refused::NoPart => pages::NO_PART,
+        Refused::BadPart => pages::BAD_PART,
+        Refused::BadRecord => pages::BAD_RECORD,
+        Refused::BadKey => pages::BAD_KEY,
+        Refused::TooManyRows => pages::TOO_MANY_ROWS,
+        Refused::QuerySyntax => pages::QUERY_SYNTAX,
+        Refused::Unknown => pages::UNKNOWN,
+        Refused::NotGrouped => pages::NOT_GROUPED,
+        Refused::WrongType => pages::WRONG_TYPE,
+        Refused::TooManySets => pages::TOO_MANY_SETS,
+        Refused::Limit => pages::LIMIT,
+        Refused::OutOfMemory => pages::OUT_OF_MEMORY,
+        Refused::NoWorker => pages::NO_WORKER,
+        Refused::WriteFailed => pages::WRITE_FAILED,
+        Refused::NotShown => pages::NOT_SHOWN,
+    }
+}
+
+/// Shows a page on standard output, and gives the program's status: 0 where the whole page was written, else 3, and `err` says so.
+pub fn show<W: Write + Drop, E: Write>(page: &str, mut out: BufWriter<W>, err: &mut E) -> u8
+    ensures { (result ≡ 0) ⊎ (result ≡ 3) }
+{
+    let ended = match out.write_all(page.as_bytes()) {
+        Ok(()) => Ok(()),
+        Err(_) => Err(Ended::WriteFailed),
+    };
+    close_run(ended, &mut out, err)
+}
+
+/// Says which pages there are, where there is none of this name.
+pub fn refuse_page<E: Write>(word: &str, err: &mut E) -> u8
+    ensures { result ≡ 2 }
+{
+    let _ = writeln!(
+        err,
+        "error: no help of '{word}'\n\nThere is help of run, live, check and language, and of the numbers 1 to 15 and 90 to 93."
+    );
+    NOTHING_RUN
+}

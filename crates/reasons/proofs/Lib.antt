@@ -1,0 +1,4 @@
+pub mod BooksLemmas
+pub mod FieldsLemmas
+pub mod HeaderLemmas
+pub mod LinesLemmas

@@ -1,0 +1,4 @@
+pub mod Books
+pub mod Fields
+pub mod Names
+pub mod Records
