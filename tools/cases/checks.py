@@ -41,7 +41,7 @@ CASES = [
         ["publish", TABLE, "put 1,a,1.5", "load 2", "report SELECT COUNT(*) FROM SALES;", "delete a"],
         told(1, "publish", 1, None, "no table is declared before this line")
         + told(3, "put 1,a,1.5", 7, None, "column UNITS: 1.5: numbers are whole")
-        + told(4, "load 2", 5, "2", "2: 1 parts were handed in")
+        + told(4, "load 2", 5, "2", "2: no part of this number, of those handed in: 1")
         + told(5, "report SELECT COUNT(*) FROM SALES;", 10, ";", ";: no semicolon stands at the end")
         + told(6, "delete a", 8, "a", "a: the key, a number, should stand here"),
         [GOOD],
@@ -52,7 +52,7 @@ CASES = [
         told(3, "publish now", 3, "now", "now: the line should end before this")
         + f"part1.csv:2: record 1, fields found: 1, wanted: 3 {PART}\n"
         + f"part1.csv:4: record 3, column ID: x: no whole number {PART}\n"
-        + f"part3.csv:1: record 0: the header is ID, ID,REGION,UNITS is wanted {PART}\n",
+        + f"part3.csv:1: record 0: the header is ID where ID,REGION,UNITS is wanted {PART}\n",
         [HEADER + "1\n2,b,2\nx,c,3\n", "nothing\n", "ID\n1\n"],
     ),
     check("a part that no line lists", [TABLE, "load 1"], "", [GOOD, "nothing\n"]),
@@ -70,7 +70,7 @@ CASES = [
     check(
         "a script of one byte too many",
         [],
-        f"{SCRIPT}: the script has 1048577 bytes, 1048576 at most (15 Limit)\n",
+        f"{SCRIPT}: 1048577 bytes of a script, 1048576 at most (15 Limit)\n",
         words=["check", "long.olap"],
     ),
     check("no script", [], words=["check"], status=2, errors="error: no SCRIPT\n\nFor more information, try 'olap help check'.\n"),

@@ -84,14 +84,14 @@ QUERIES = [
 ]
 
 LINES = [
-    *both("a report alone", [TABLE, ("report", 10)], f"{SCRIPT}:2:7: the line ends here: SELECT should follow (10 QuerySyntax)\n"),
-    *line(10, f"report SELECT COUNT(*) FROM SALES WHERE REGION = {LONG}", LONG, f"{LONG[:40]}..: a text of 1025 bytes, 1024 at most"),
+    *both("a report alone", [TABLE, ("report", 10)], f"{SCRIPT}:2:7: the end of the line: SELECT should stand here (10 QuerySyntax)\n"),
+    *line(10, f"report SELECT COUNT(*) FROM SALES WHERE REGION = {LONG}", LONG, f"{LONG[:40]}..: a text has 1024 bytes at most"),
     *line(3, "Report SELECT COUNT(*) FROM SALES", "Report", f"Report: {COMMANDS}"),
     *line(3, "SELECT COUNT(*) FROM SALES", "SELECT", f"SELECT: {COMMANDS}"),
     *line(3, "publish now", "now", "now: the line should end before this"),
     *line(3, "load 1, 2", "1,", "1,: no part number"),
     *line(3, "load sales.csv", "sales.csv", "sales.csv: no part number"),
-    *line(5, "load 1", "1", "1: 0 parts were handed in"),
+    *line(5, "load 1", "1", "1: no part of this number, of those handed in: 0"),
     *line(7, "put 1,north,10.0", None, "column UNITS: 10.0: numbers are whole"),
     *line(7, "put 1,north,+5", None, "column UNITS: +5: a number has no plus"),
     *line(7, "put 1,north", None, "fields found: 2, wanted: 3"),
@@ -121,8 +121,8 @@ HEADER = "ID,REGION,UNITS\n"
 PARTS = [
     *part("a record over two lines", HEADER + '1,a,1\n2,"b\nc",2\n3,"x\ny",+3\n4,d,4\n', 3, 5, ", column UNITS: +3: a number has no plus"),
     *part("a field too many", HEADER + "1,a,1\n2,b,2,2\n", 2, 3, ", fields found: 4, wanted: 3"),
-    *part("a text of 1,025 bytes", HEADER + f"1,{'a' * 1025},1\n", 1, 2, ", column REGION: a text of 1025 bytes, 1024 at most"),
-    *part("semicolons for commas", "ID;REGION;UNITS\n1;a;1\n", 0, 1, ": the header is ID;REGION;UNITS, ID,REGION,UNITS is wanted"),
+    *part("a text of 1,025 bytes", HEADER + f"1,{'a' * 1025},1\n", 1, 2, ", column REGION: a text has 1024 bytes at most"),
+    *part("semicolons for commas", "ID;REGION;UNITS\n1;a;1\n", 0, 1, ": the header is ID;REGION;UNITS where ID,REGION,UNITS is wanted"),
     *part("no record at all", "", 0, 1, ": the part has no record, and so no header"),
 ]
 
@@ -162,14 +162,14 @@ SEVERAL = [
         ["run", "--explain", SCRIPT],
         {SCRIPT: b"#" * 1_048_577},
         output="line 0 refused 15\n",
-        errors=f"{SCRIPT}: the script has 1048577 bytes, 1048576 at most (15 Limit)\n",
+        errors=f"{SCRIPT}: 1048577 bytes of a script, 1048576 at most (15 Limit)\n",
     ),
     Case(
         "65 parts",
         ["run", "--explain", SCRIPT, *["part.csv"] * 65],
         {SCRIPT: TABLE, "part.csv": HEADER},
         output="line 0 refused 15\n",
-        errors=f"{SCRIPT}: 65 parts were handed in, 64 at most (15 Limit)\n",
+        errors=f"{SCRIPT}: 65 parts, 64 at most (15 Limit)\n",
     ),
 ]
 
