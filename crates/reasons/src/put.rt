@@ -28,9 +28,14 @@ fn count_fault(
     if !records.next(record)? {
         return Ok(Some("no record stands here"));
     }
-    let mut other = ByteRecord::new(alloc);
-    if records.next(&mut other)? {
+    if has_more(alloc, &mut records)? {
         return Ok(Some("more than one record stands here"));
     }
     Ok(None)
+}
+
+/// Whether a record is left.
+fn has_more(alloc: Global, records: &mut Records<'_>) -> Result<bool, AllocError> {
+    let mut record = ByteRecord::new(alloc);
+    records.next(&mut record)
 }
