@@ -25,10 +25,13 @@ fn count_fault(
     record: &mut ByteRecord,
 ) -> Result<Option<&'static str>, AllocError> {
     let mut records = Records::new(alloc, text);
-    if !records.next(record)? {
+    let first = records.next(record);
+    let more = has_more(alloc, &mut records);
+    drop(records);
+    if !first? {
         return Ok(Some("no record stands here"));
     }
-    if has_more(alloc, &mut records)? {
+    if more? {
         return Ok(Some("more than one record stands here"));
     }
     Ok(None)
