@@ -342,8 +342,11 @@ fn reason_of_record(
     ensures { IfOk result (λ reason. reason.record ≡ number) }
 {
     let mut faults = faults_of_part(alloc, bytes, schema)?;
-    match faults.next()? {
-        Some((first, reason)) if first == number => Ok(reason),
+    let first = faults.next();
+    // What is left of the part is let go before the reason is looked at, on one way for all.
+    drop(faults);
+    match first? {
+        Some((_, reason)) if reason.record == number => Ok(reason),
         _ => Ok(PartReason::unknown(number)),
     }
 }

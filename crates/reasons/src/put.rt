@@ -25,12 +25,20 @@ fn count_fault(
     record: &mut ByteRecord,
 ) -> Result<Option<&'static str>, AllocError> {
     let mut records = Records::new(alloc, text);
-    if !records.next(record)? {
+    let first = records.next(record);
+    let more = has_more(alloc, &mut records);
+    drop(records);
+    if !first? {
         return Ok(Some("no record stands here"));
     }
-    let mut other = ByteRecord::new(alloc);
-    if records.next(&mut other)? {
+    if more? {
         return Ok(Some("more than one record stands here"));
     }
     Ok(None)
+}
+
+/// Whether a record is left.
+fn has_more(alloc: Global, records: &mut Records<'_>) -> Result<bool, AllocError> {
+    let mut record = ByteRecord::new(alloc);
+    records.next(&mut record)
 }
