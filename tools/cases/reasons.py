@@ -121,7 +121,7 @@ HEADER = "ID,REGION,UNITS\n"
 PARTS = [
     *part("a record over two lines", HEADER + '1,a,1\n2,"b\nc",2\n3,"x\ny",+3\n4,d,4\n', 3, 5, ", column UNITS: +3: a number has no plus"),
     *part("a field too many", HEADER + "1,a,1\n2,b,2,2\n", 2, 3, ", fields found: 4, wanted: 3"),
-    *part("a text of 1,025 bytes", HEADER + f"1,{'a' * 1025},1\n", 1, 2, ", column REGION: a text has 1024 bytes at most"),
+    *part("a text of 1,025 bytes", HEADER + f"1,{'a' * 1025},1\n", 1, 2, ", column REGION: a text of 1025 bytes, 1024 at most"),
     *part("semicolons for commas", "ID;REGION;UNITS\n1;a;1\n", 0, 1, ": the header is ID;REGION;UNITS where ID,REGION,UNITS is wanted"),
     *part("no record at all", "", 0, 1, ": the part has no record, and so no header"),
 ]

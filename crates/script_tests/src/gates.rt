@@ -1,7 +1,7 @@
-//! A gate that is told of each publish.
+//! Gates that are told of each publish and of each refusal.
 
 use crate::runs::CUTTING;
-use cells::Fnv;
+use cells::{Fnv, Refused};
 use crew::Gate;
 use report::Pour;
 use script::{Ended, How, run};
@@ -71,5 +71,52 @@ fn the_gate_is_told_of_no_edition_that_does_not_stand(rt: HostRuntime) -> Result
     let gate = Told::nothing();
     let ended = ended(&rt, rt.alloc(), b"table T (K INT KEY)\npublish", &gate);
     assert_eq!(rt; gate.editions.load(SeqCst), u64::from(ended.is_ok()));
+    Ok(())
+}
+
+/// A gate that keeps the numbers of the lines that it was told are refused, each a digit, in order. The loads of faulty
+/// parts are apart.
+#[derive(Drop)]
+struct Heard {
+    lines: AtomicU64,
+    loads: AtomicU64,
+}
+
+/// One more digit at the end of what is kept.
+fn keep(digits: &AtomicU64, digit: u64) {
+    let before = digits.load(SeqCst);
+    digits.store(before.wrapping_mul(10).wrapping_add(digit), SeqCst);
+}
+
+impl Gate for Heard {
+    fn refused(&self, line: u64, _fault: Refused) {
+        keep(&self.lines, line);
+    }
+
+    fn refused_record(&self, line: u64, _part: u64, _record: u64) {
+        keep(&self.loads, line);
+    }
+}
+
+/// Each refused line is told once, in order, of whatever command it is.
+#[test]
+fn the_gate_is_told_of_each_refusal(rt: HostRuntime) -> Result<(), Fail> {
+    let gate = Heard {
+        lines: AtomicU64::new(0),
+        loads: AtomicU64::new(0),
+    };
+    let parts = [Vec::from_slice(rt.alloc(), b"K\nx\n")?];
+    let mut out = Pour::new(Vec::new(rt.alloc()));
+    run::<Fnv, _, _, _>(
+        &rt,
+        rt.alloc(),
+        b"publish\ntable T (K INT KEY)\nput 1\nload 1\nput 2\nload 2\nreport T\npublish\nshape x",
+        &parts,
+        &How::of(1, CUTTING, 1),
+        &gate,
+        &mut out,
+    )?;
+    assert_eq!(rt; gate.lines.load(SeqCst), 15679);
+    assert_eq!(rt; gate.loads.load(SeqCst), 4);
     Ok(())
 }
