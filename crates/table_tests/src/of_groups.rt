@@ -1,6 +1,7 @@
 //! Groups while rows are folded into them: how many there are, since no clause rests on how a group is found; and partial
 //! results behind a refusal.
-ghost use Rattle.std.specs.Prelude.{◌≡◌, ◌≤◌, IfOk, IsTrue, length};
+ghost use Rattle.std.specs.Prelude.{◌≡◌, ◌<◌, ◌≤◌, ℕ, IfOk, IsTrue, length};
+ghost use Rattle.std.specs.List.{AllByRecursion};
 ghost use Rattle.groups.specs.Groups.{kept};
 ghost use Rattle.groups.specs.Partials.{MayMeet, Stands, rows_of};
 
@@ -199,10 +200,24 @@ fn groups_by_columns(
     if count > 2_000 {
         return Ok(0);
     }
-    let Some(folding) = Folding::of_rows(alloc, plan, &columns, 0, count)? else {
+    let rows = indexes(alloc, count)?;
+    let Some(folding) = Folding::of_rows(alloc, plan, &columns, rows.as_slice(), false)? else {
         return Ok(0);
     };
     Ok(folding.groups())
+}
+
+/// The indexes of so many rows.
+fn indexes(alloc: Global, count: usize) -> Result<Vec<u32>, AllocError>
+    requires { count ≤ 2000 }
+    ensures below { (n : ℕ) → count ≤ n → IfOk result (λ v. AllByRecursion (λ i. i < n) v.items) }
+    ensures long { IfOk result (λ v. length v.items ≡ count) }
+{
+    let mut indexes = Vec::with_capacity(alloc, count)?;
+    for index in 0..count {
+        indexes.push(index as u32)?;
+    }
+    Ok(indexes)
 }
 
 /// The same by both columns.
