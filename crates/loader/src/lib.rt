@@ -12,6 +12,7 @@ mod shares;
 mod tries;
 
 pub use fault::PartFault;
+pub use header::is_header;
 pub use limits::MAX_LISTED_BYTES;
 pub use loading::load;
-pub use records::{Records, read_record};
+pub use records::{Records, fields, read_record};

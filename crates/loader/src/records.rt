@@ -121,8 +121,8 @@ fn sole_record(alloc: Global, text: &[u8]) -> Result<Option<ByteRecord>, AllocEr
     Ok(Some(row))
 }
 
-/// The fields of a record.
-pub(crate) fn fields<'a>(alloc: Global, row: &'a ByteRecord) -> Result<Vec<&'a [u8]>, AllocError>
+/// The fields of a record, in their order. The only error is that a growth was refused.
+pub fn fields<'a>(alloc: Global, row: &'a ByteRecord) -> Result<Vec<&'a [u8]>, AllocError>
     ensures { IfOk result (λ v. map (λ f. f.now) v.items ≡ fields_of row.entry.now) }
 {
     let mut fields = Vec::new(alloc);

@@ -1,4 +1,2 @@
 pub mod BooksLemmas
-pub mod FieldsLemmas
-pub mod HeaderLemmas
 pub mod LinesLemmas

@@ -2,11 +2,11 @@
 ghost use Rattle.std.specs.Prelude.{◌≡◌, ◌+◌, [], IfOk, IfSome, MatchOption};
 ghost use Rattle.reasons.specs.Records.{fault_count, fault_count_in, faulty_count};
 
-use crate::header::{HeaderFault, is_header, other_names};
-use crate::record_fault::{RecordFault, fields, record_fault};
+use crate::header::{HeaderFault, other_names};
+use crate::record_fault::{RecordFault, record_fault};
 use cells::Schema;
 use csv::ByteRecord;
-use loader::Records;
+use loader::{Records, fields, is_header};
 use std::alloc::{AllocError, Global};
 use std::fmt;
 use std::marker::Model;

@@ -1,10 +1,10 @@
 //! Why the rest of a `put` line is no record of a row.
 
 use crate::line_fault::{Found, LineFault};
-use crate::record_fault::{explained, fields};
+use crate::record_fault::explained;
 use cells::Schema;
 use csv::ByteRecord;
-use loader::Records;
+use loader::{Records, fields};
 use std::alloc::{AllocError, Global};
 
 /// Why a text has not exactly one record, or its fields spell no row.

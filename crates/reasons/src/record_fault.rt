@@ -1,5 +1,5 @@
 //! Why the fields of a record spell no row.
-ghost use Rattle.std.specs.Prelude.{◌≡◌, ◌<◌, IfOk, IfSome, MatchOption, length, map};
+ghost use Rattle.std.specs.Prelude.{◌<◌, IfOk, IfSome, MatchOption, length};
 ghost use Rattle.cells.specs.Records.{row_of};
 ghost use Rattle.csv.specs.Records.{fields_of};
 ghost use Rattle.reasons.specs.Fields.{BeginRow, Explains, IsAt, IsFirstBad, bytes_of};
@@ -9,6 +9,7 @@ use crate::field_fault::{FieldFault, field_fault};
 use crate::shown::shown;
 use cells::{Column, Refused, Row, RowReader, Schema};
 use csv::ByteRecord;
+use loader::fields;
 use std::alloc::{AllocError, Global};
 use std::fmt;
 
@@ -58,17 +59,6 @@ pub fn record_fault(
         }
         Err(_) => Err(AllocError),
     }
-}
-
-/// The fields of a record.
-pub fn fields<'a>(alloc: Global, row: &'a ByteRecord) -> Result<Vec<&'a [u8]>, AllocError>
-    ensures { IfOk result (λ v. map (λ f. f.now) v.items ≡ fields_of row.entry.now) }
-{
-    let mut fields = Vec::new(alloc);
-    for field in row {
-        fields.push(field)?;
-    }
-    Ok(fields)
 }
 
 /// Why fields spell no row, where they spell none. The number of fields is looked at first, since one that is missing
