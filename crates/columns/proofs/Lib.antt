@@ -1,2 +1,3 @@
 pub mod ColumnsLemmas
 pub mod HoldLemmas
+pub mod WithLemmas

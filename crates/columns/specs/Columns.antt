@@ -1,6 +1,6 @@
 -- Columns of rows: column by column their cells, in the order of the rows, as numbers that stand for cells.
-use Rattle.std.specs.Prelude.{◌≡◌, ℕ, suc, ◌<◌, ◌==◌, ℤ, pos, ◌-ℤ◌, if◌then◌else◌, List, [], ◌∷◌, length, map, slice_index_or, Option, Some, None, IfSome, ⊤}
-use Rattle.std.specs.List.{AllByRecursion}
+use Rattle.std.specs.Prelude.{◌≡◌, ℕ, ◌<◌, ◌==◌, pos, ◌-ℤ◌, Bool, true, if◌then◌else◌, List, length, map, slice_index_or, Option, Some, None, ⊤}
+use Rattle.std.specs.List.{AllByRecursion, list_any}
 use Rattle.cells.specs.Values.{RowValue}
 use Rattle.cells.specs.declared.cell.Cell.{Cell}
 use Rattle.cells.specs.declared.cell.Cell.TheVariants.{Null, Int}
@@ -40,15 +40,18 @@ decoded cells codes = map (λ code. cell_of cells code) codes
 abbrev pub cells_of : ColumnValue → List Cell
 cells_of column = decoded column.cells column.by_row
 
--- columns, of which some were left out
+-- columns, each with the index that it has in the rows
 abbrev pub ColumnsValue : Type 0
-ColumnsValue = List (Option ColumnValue)
+ColumnsValue = List (ℕ × ColumnValue)
 
--- those that are there, the first of which has this index, have the rows' cells
-abbrev pub HoldFrom : ℕ → List RowValue → ColumnsValue → Type 0
-HoldFrom index rows [] = ⊤
-HoldFrom index rows (c ∷ columns) = IfSome c (λ column. cells_of column ≡ cells_at index rows) × HoldFrom (suc index) rows columns
+-- whether a column has the index
+abbrev pub has : ColumnsValue → ℕ → Bool
+has columns index = list_any (λ c. c.0 == index) columns
 
--- the columns hold the rows: each that is there has their cells of its index
+-- each of the indexes has a column
+abbrev pub HaveAll : List ℕ → ColumnsValue → Type 0
+HaveAll indexes columns = AllByRecursion (λ index. has columns index ≡ true) indexes
+
+-- the columns hold the rows: each has their cells of its index
 pub record Hold (rows : List RowValue) (columns : ColumnsValue) : Type 0 where
-  pub each : HoldFrom 0 rows columns
+  pub each : AllByRecursion (λ c. cells_of c.1 ≡ cells_at c.0 rows) columns

@@ -32,11 +32,6 @@ pub(crate) fn number_code(cell: &Cell) -> Option<u32>
     }
 }
 
-/// Whether a cell has the code of a number. It takes no memory.
-pub(crate) fn has_number_code(cell: &Cell) -> bool {
-    number_code(cell).is_some()
-}
-
 /// The code of an integer that has one.
 fn code_of(number: i64) -> Option<u32>
     ensures { IfSome result (λ code. number_cell code ≡ Int number) }

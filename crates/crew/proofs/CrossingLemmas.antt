@@ -14,7 +14,7 @@ use Rattle.cells.specs.declared.cell.Cell.{Cell}
 use Rattle.cells.specs.declared.hash.KeyHash as KeyHash
 use Rattle.columns.specs.contracts.code_column.CodeColumn as CodeColumn
 use Rattle.columns.specs.contracts.columns.Columns as Columns
-use Rattle.crew.specs.contracts.gathering.Gathering as Gathering
+use Rattle.columns.specs.contracts.named_column.NamedColumn as NamedColumn
 use Rattle.crew.specs.contracts.listing.Listing as Listing
 use Rattle.groups.specs.contracts.accumulators.Accumulators as Accumulators
 use Rattle.groups.specs.contracts.aggregation.Aggregation as Aggregation
@@ -51,18 +51,14 @@ module _ (H : RattleType) (cells : KeyHash.Ghosts H.Denot Cell) (s : IsSend H) (
   pub folding_send : (life : NamedLft) → IsSend (Folding.the_field life H cells).row
   folding_send life = let plan = plan_sync in let aggregation = aggregation_send in let set_bag = set_bag_send in search (sendable, crosses) depth 40
 
-  module _ (o : Ord.Ghosts Cell) (e : PartialEq.Ghosts Cell) (p : PartialOrd.Ghosts Cell) where
-    piece_sync : IsSync (Piece.the_field CellType.the_row RowType.the_row H o e p cells).row
-    piece_sync = let node = field_sync _ _ cell_send cell_sync row_send row_sync in search (sendable, crosses) depth 40
-
-  pub gathering_sync : (life : NamedLft) (G : RattleType) → IsSync G → IsSync (Gathering.the_field life H G cells).row
-  gathering_sync life G g = let plan = plan_sync in search (piece_sync, sendable, crosses) depth 40
-
   column_sync : IsSync (CodeColumn.the_field H cells).row
   column_sync = let cell = cell_sync in search (HashMap-sync, sendable, crosses) depth 40
 
+  named_sync : IsSync (NamedColumn.the_field H cells).row
+  named_sync = let column = column_sync in search (sendable, crosses) depth 40
+
   columns_sync : IsSync (Columns.the_field H cells).row
-  columns_sync = let column = column_sync in search (sendable, crosses) depth 40
+  columns_sync = let column = named_sync in search (sendable, crosses) depth 40
 
   pub listing_sync : (life list : NamedLft) → IsSync (Listing.the_field life list H cells).row
   listing_sync life list = let plan = plan_sync in let columns = columns_sync in search (sendable, crosses) depth 40

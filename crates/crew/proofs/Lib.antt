@@ -1,3 +1,4 @@
+pub mod AloneLemmas
 pub mod BackLemmas
 pub mod CrossingLemmas
 pub mod GatheringLemmas

@@ -120,7 +120,7 @@ module _ {H : Type 0} (listed : Listed) (dealt : AreDealt listed.count listed.li
   -- ---- one worker
 
   -- what went in so far may be joined with a list
-  pub list_meets : (before list : Folding H) (place : ℕ) (it : MayGatherRows listed.columns listed.count) → MayTake (FoldsLists listed) (length listed.lists) (Some before) place →
+  pub list_meets : (before list : Folding H) (place : ℕ) (it : MayGatherRows listed.columns listed.count) → MayTake (FoldsLists listed) (length listed.lists) before place →
       Folds listed.plan (kept listed.plan.condition (rows_listed listed.lists it.rows place)) list → MayJoin before list
   list_meets before list place it may_take folds =
       let all : List RowValue = picked_rows it.rows (concat listed.lists) in
@@ -139,10 +139,10 @@ module _ {H : Type 0} (listed : Listed) (dealt : AreDealt listed.count listed.li
       }
 
   -- and then its rows went in, too
-  pub took_list : (before list new : Folding H) (places : List ℕ) (place : ℕ) → FoldsLists listed places (Some before) →
+  pub took_list : (before list new : Folding H) (places : List ℕ) (place : ℕ) → FoldsLists listed places before →
       ((rows : List RowValue) → Hold rows listed.columns → Folds listed.plan (kept listed.plan.condition (rows_listed listed.lists rows place)) list) →
       ((xs ys : List RowValue) → Folds listed.plan xs before → Folds listed.plan ys list → Folds listed.plan (xs ++ ys) new) →
-      FoldsLists listed (places ++ place ∷ []) (Some new)
+      FoldsLists listed (places ++ place ∷ []) new
   took_list before list new places place firsts seconds joins = record {
     folds = λ rows held counted. subst (λ l. Folds listed.plan l new) (sym (kept_more listed.plan (rows_listed listed.lists rows) places place))
         (joins (kept_at listed.plan (rows_listed listed.lists rows) places) (kept listed.plan.condition (rows_listed listed.lists rows place))
@@ -153,21 +153,21 @@ module _ {H : Type 0} (listed : Listed) (dealt : AreDealt listed.count listed.li
 
   -- what each made is of the rows, whatever rows the columns hold
   each_folds : (rows : List RowValue) → Hold rows listed.columns → length rows ≡ listed.count → (shares : List (List ℕ)) (foldings : List (Folding H)) →
-      AllZip (FoldsLists listed) shares (map Some foldings) → AllZip (λ places. Folds listed.plan (kept_at listed.plan (rows_listed listed.lists rows) places)) shares foldings
+      AllZip (FoldsLists listed) shares foldings → AllZip (λ places. Folds listed.plan (kept_at listed.plan (rows_listed listed.lists rows) places)) shares foldings
   each_folds rows held counted [] [] all = tt
   each_folds rows held counted [] (one ∷ foldings) all = absurd all
   each_folds rows held counted (places ∷ shares) [] all = absurd all
   each_folds rows held counted (places ∷ shares) (one ∷ foldings) all = (all.0.folds rows held counted, each_folds rows held counted shares foldings all.1)
 
-  pub lists_folded : (rows : List RowValue) → Hold rows listed.columns → length rows ≡ listed.count → (made : List (Option (Folding H))) (foldings : List (Folding H)) → made ≡ map Some foldings →
-      AreShared (FoldsLists listed) (length listed.lists) made → AreMadeOf (Folds listed.plan) (kept listed.plan.condition rows) foldings
-  lists_folded rows held counted made foldings is shared =
+  pub lists_folded : (rows : List RowValue) → Hold rows listed.columns → length rows ≡ listed.count → (foldings : List (Folding H)) →
+      AreShared (FoldsLists listed) (length listed.lists) foldings → AreMadeOf (Folds listed.plan) (kept listed.plan.condition rows) foldings
+  lists_folded rows held counted foldings shared =
       let all : List RowValue = picked_rows rows (concat listed.lists) in
       let are = folded listed.plan (rows_listed listed.lists rows) (length listed.lists) all foldings (lists_whole listed.lists rows) (record {
         shares = shared.shares;
         are_shares = shared.are_shares;
         whole = shared.whole;
-        given_for = each_folds rows held counted shared.shares foldings (subst (AllZip (FoldsLists listed) shared.shares) is shared.given_for);
+        given_for = each_folds rows held counted shared.shares foldings shared.given_for;
       }) in
       record {
         parts = are.parts;
@@ -175,10 +175,10 @@ module _ {H : Type 0} (listed : Listed) (dealt : AreDealt listed.count listed.li
         each = are.each;
       }
 
-  pub lists_may_be_joined : (it : MayGatherRows listed.columns listed.count) (made : List (Option (Folding H))) (foldings : List (Folding H)) → made ≡ map Some foldings →
-      AreShared (FoldsLists listed) (length listed.lists) made → MayBeJoined listed.plan foldings
-  lists_may_be_joined it made foldings is shared = record {
+  pub lists_may_be_joined : (it : MayGatherRows listed.columns listed.count) (foldings : List (Folding H)) →
+      AreShared (FoldsLists listed) (length listed.lists) foldings → MayBeJoined listed.plan foldings
+  lists_may_be_joined it foldings shared = record {
     rows = kept listed.plan.condition it.rows;
-    made = lists_folded it.rows it.held it.counted made foldings is shared;
+    made = lists_folded it.rows it.held it.counted foldings shared;
     few = omega (arith, it.few, it.counted, kept_short (keeps listed.plan.condition) it.rows);
   }

@@ -30,11 +30,6 @@ rows_at pieces places = flat_map (rows_at_place pieces) places
 abbrev pub kept_at : PlanTree → (ℕ → List RowValue) → List ℕ → List RowValue
 kept_at plan part places = flat_map (λ place. kept plan.condition (part place)) places
 
--- a plan, and pieces of a table for it
-pub record Planned : Type 0 where
-  pub plan : PlanTree
-  pub pieces : List PieceValue
-
 -- each was made of some of the rows, and together these are all rows, in some order
 pub record AreMadeOf {Made : Type 0} (makes : List RowValue → Made → Type 0) (all : List RowValue) (made : List Made) : Type 0 where
   pub parts : List (List RowValue)

@@ -1,5 +1,5 @@
 -- Rows whose columns are at hand, as workers share them: list by list.
-use Rattle.std.specs.Prelude.{◌≡◌, ℕ, ◌≤◌, ◌^◌, List, [], IsPermutation, length, max, min, slice_index_or, Option, IfSome}
+use Rattle.std.specs.Prelude.{◌≡◌, ℕ, ◌≤◌, ◌^◌, List, [], IsPermutation, length, max, min, slice_index_or}
 use Rattle.std.specs.Int.{div_ceil}
 use Rattle.std.specs.List.{concat, range_with_len}
 use Rattle.cells.specs.Values.{RowValue}
@@ -39,8 +39,7 @@ pub record MayGatherRows (columns : ColumnsValue) (count : ℕ) : Type 0 where
   pub counted : length rows ≡ count
   pub few : count ≤ 2 ^ 32
 
--- whatever rows the columns hold, if there is a folding, those of them for which WHERE is true went into it from the lists at
--- these places
-pub record FoldsLists {H : Type 0} (listed : Listed) (places : List ℕ) (made : Option (Folding H)) : Type 0 where
+-- whatever rows the columns hold, those of them for which WHERE is true went in from the lists at these places
+pub record FoldsLists {H : Type 0} (listed : Listed) (places : List ℕ) (made : Folding H) : Type 0 where
   pub folds : (rows : List RowValue) → Hold rows listed.columns → length rows ≡ listed.count →
-      IfSome made (Folds listed.plan (kept_at listed.plan (rows_listed listed.lists rows) places))
+      Folds listed.plan (kept_at listed.plan (rows_listed listed.lists rows) places) made

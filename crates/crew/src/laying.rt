@@ -1,9 +1,9 @@
 //! The columns of the rows of a table's pieces, which workers lay out.
 ghost use Rattle.std.specs.Prelude.{◌≡◌, ◌<◌, ◌≤◌, ◌⊎◌, [], length, min, slice_index_or, vec_len, IfErr, IfOk};
 ghost use Rattle.cells.specs.declared.refused.Refused.TheVariants as Refused;
-ghost use Rattle.columns.specs.Columns.{Hold};
+ghost use Rattle.columns.specs.Columns.{HaveAll};
 ghost use Rattle.crew.specs.Gathering.{rows_at, rows_in};
-ghost use Rattle.crew.specs.Laying.{HoldAll};
+ghost use Rattle.crew.specs.Laying.{HoldAll, LaidOut, LaidOutAll};
 ghost use Rattle.crew.specs.Limits.{piece_limit, workers_of};
 ghost use Rattle.crew.specs.Shares.{AreShared};
 
@@ -17,8 +17,8 @@ use std::sync::Wait;
 use std::thread::Threads;
 use trie::Piece;
 
-/// The columns of the rows of all pieces, of which there are at most [`MAX_PIECES`](crate::MAX_PIECES), for a table of `width`
-/// columns, of which that of the key, the one at the index `key`, is left out unless all keys are integers of 32 bits. As many workers as the smaller of `workers`,
+/// The columns of the rows of all pieces, of which there are at most [`MAX_PIECES`](crate::MAX_PIECES): those of the indexes
+/// `named`, which may be named more than once. As many workers as the smaller of `workers`,
 /// taken as 1 at least and [`MAX_SEATS`](crate::MAX_SEATS) at most, and the number of pieces draw pieces until none are left,
 /// each in a thread of its own. The rows stand in the order in which the workers drew their pieces, which another run may
 /// change. The columns own copies of the cells. The gate is told of each piece that a worker takes, before and after, also
@@ -30,19 +30,18 @@ pub fn columns_of<H: KeyHash<Cell> + KeyHash<Tuple> + Send + Sync, G: Gate, R: T
     rt: &R,
     alloc: Global,
     pieces: &[Piece<Cell, Row, H>],
-    width: usize,
-    key: usize,
+    named: &[usize],
     workers: u64,
     gate: &G,
 ) -> Result<Columns<H>, Refused>
     requires pieces { length pieces.now ≤ piece_limit }
     ensures held { IfOk result (HoldAll (rows_in pieces.now)) }
+    ensures named { IfOk result (HaveAll named.now) }
     ensures refused { IfErr result (λ e. (e ≡ Refused.NoWorker) ⊎ (e ≡ Refused.OutOfMemory)) }
 {
     let laying = Laying {
         pieces,
-        width,
-        key,
+        named,
         gate,
     };
     let parts = parts_of(rt, alloc, &laying, workers)?;
@@ -58,7 +57,7 @@ fn parts_of<'a, H: KeyHash<Cell> + Send + Sync, G: Gate, R: Threads + Wait>(
     workers: u64,
 ) -> Result<Vec<Columns<H>>, Refused>
     requires pieces { length laying.now.pieces.now ≤ piece_limit }
-    ensures shared { IfOk result (λ v. AreShared (λ places. Hold (rows_at laying.now.pieces.now places)) (length laying.now.pieces.now) v.items) }
+    ensures shared { IfOk result (λ v. AreShared (λ places. LaidOut laying.now.named.now (rows_at laying.now.pieces.now places)) (length laying.now.pieces.now) v.items) }
     ensures workers { IfOk result (λ v. vec_len v ≡ min (workers_of workers) (length laying.now.pieces.now)) }
     ensures refused { IfErr result (λ e. (e ≡ Refused.NoWorker) ⊎ (e ≡ Refused.OutOfMemory)) }
 {
@@ -69,21 +68,12 @@ fn parts_of<'a, H: KeyHash<Cell> + Send + Sync, G: Gate, R: Threads + Wait>(
 #[derive(Drop)]
 struct Laying<'a, H: KeyHash<Cell>, G> {
     pieces: &'a [Piece<Cell, Row, H>],
-    // how many columns the table has
-    width: usize,
-    key: usize,
+    // the indexes of the columns that are wanted
+    named: &'a [usize],
     gate: &'a G,
 }
 
 impl<'a, H: KeyHash<Cell>, G> Laying<'a, H, G> {
-    /// Columns of no rows. That of the key is to have no list of its cells, of which each is another one.
-    fn none(&self, alloc: Global) -> Result<Columns<H>, AllocError>
-        ensures { IfOk result (Hold []) }
-    {
-        let columns = Columns::new(alloc, self.width)?;
-        Ok(columns.with_unlisted(self.key))
-    }
-
     /// The piece at the place.
     fn piece(&self, place: u64) -> &Piece<Cell, Row, H>
         requires { place < length self.now.pieces.now }
@@ -96,24 +86,25 @@ impl<'a, H: KeyHash<Cell>, G> Laying<'a, H, G> {
 
 impl<'a, H: KeyHash<Cell> + Send + Sync, G: Gate> Task for Laying<'a, H, G> {
     ghost use Rattle.std.specs.Prelude.{length};
-    ghost use Rattle.columns.specs.Columns.{Hold};
     ghost use Rattle.crew.specs.Gathering.{rows_at};
+    ghost use Rattle.crew.specs.Laying.{LaidOut};
 
     type Made = Columns<H>;
 
     ghost count = { λ l. length l.pieces.now };
 
-    ghost makes = { λ l places made. Hold (rows_at l.pieces.now places) made };
+    ghost makes = { λ l places made. LaidOut l.named.now (rows_at l.pieces.now places) made };
 
     fn begin(&self, alloc: Global) -> Result<Columns<H>, AllocError> {
-        self.none(alloc)
+        Columns::of_named(alloc, self.named)
     }
 
     fn take(&self, _alloc: Global, made: &mut Columns<H>, place: u64) -> Result<(), AllocError> {
         self.gate.entered(place);
         let taken = made.take(self.piece(place));
         self.gate.left(place);
-        taken
+        taken?;
+        Ok(())
     }
 }
 
@@ -124,16 +115,15 @@ fn appended<'a, H: KeyHash<Cell>, G>(
     laying: &Laying<'a, H, G>,
     parts: Vec<Columns<H>>,
 ) -> Result<Columns<H>, AllocError>
-    requires { AreShared (λ places. Hold (rows_at laying.now.pieces.now places)) (length laying.now.pieces.now) parts.items }
-    ensures { IfOk result (HoldAll (rows_in laying.now.pieces.now)) }
+    requires { AreShared (λ places. LaidOut laying.now.named.now (rows_at laying.now.pieces.now places)) (length laying.now.pieces.now) parts.items }
+    ensures { IfOk result (LaidOutAll laying.now.named.now (rows_in laying.now.pieces.now)) }
 {
     let mut parts = parts.into_iter();
     let Some(mut all) = parts.next() else {
-        return laying.none(alloc);
+        return Ok(Columns::of_named(alloc, laying.named)?);
     };
     for part in parts {
-        all.append(&part)?;
+        all = all.with(alloc, &part)?;
     }
-    all.forget_hints();
     Ok(all)
 }

@@ -1,5 +1,5 @@
 //! The groups of rows whose columns are at hand, which workers gather list by list.
-ghost use Rattle.std.specs.Prelude.{◌≡◌, ◌<◌, ◌≤◌, ◌⊎◌, ◌++◌, ◌∷◌, ℕ, List, [], length, map, min, slice_index_or, vec_len, IfErr, IfOk, IfSome, Some};
+ghost use Rattle.std.specs.Prelude.{◌≡◌, ◌<◌, ◌≤◌, ◌⊎◌, ◌++◌, ◌∷◌, ℕ, List, [], length, min, vec_len, IfErr, IfOk};
 ghost use Rattle.cells.specs.Values.{RowValue};
 ghost use Rattle.cells.specs.declared.refused.Refused.TheVariants as Refused;
 ghost use Rattle.columns.specs.Columns.{Hold};
@@ -10,6 +10,7 @@ ghost use Rattle.crew.specs.Tasks.{MayTake};
 ghost use Rattle.groups.specs.Dealing.{indexes_of};
 ghost use Rattle.groups.specs.Folds.{Folds, MayEnd};
 ghost use Rattle.groups.specs.Groups.{kept};
+ghost use Rattle.groups.specs.Needed.{Serve};
 
 use crate::gathering::joined;
 use crate::sharing::{share_out, workers_of};
@@ -20,6 +21,7 @@ use groups::{Dealt, Folding, deal_out};
 use query::Plan;
 use std::alloc::{AllocError, Global};
 use std::marker::Model;
+use std::mem;
 use std::sync::Wait;
 use std::thread::Threads;
 
@@ -35,8 +37,6 @@ const MOST_ROWS: u64 = 4_194_304;
 /// `workers`, taken as 1 at least and [`MAX_SEATS`](crate::MAX_SEATS) at most, and the number of lists draw these until none are
 /// left, each in a thread of its own; which worker takes which list has no effect. It owns what it keeps.
 ///
-/// None where a column that the plan needs was left out: then the rows are to be gathered from their pieces.
-///
 /// [`Refused::NoWorker`] where a thread could not be started; otherwise [`Refused::OutOfMemory`] where there was no
 /// memory, here or for a worker. All threads that were started are joined before this returns, however it ends.
 pub fn gather_rows<'a, H: KeyHash<Cell> + KeyHash<Tuple> + Send + Sync, R: Threads + Wait>(
@@ -46,11 +46,12 @@ pub fn gather_rows<'a, H: KeyHash<Cell> + KeyHash<Tuple> + Send + Sync, R: Threa
     columns: &Columns<H>,
     count: u64,
     workers: u64,
-) -> Result<Option<Folding<'a, H>>, Refused>
+) -> Result<Folding<'a, H>, Refused>
     requires rows { MayGatherRows columns.now count }
+    requires serve { Serve plan.now columns.now }
     ensures folds { (rows : List RowValue) → Hold rows columns.now → length rows ≡ count →
-        IfOk result (λ made. IfSome made (Folds plan.now (kept plan.now.condition rows))) }
-    ensures end { IfOk result (λ made. IfSome made MayEnd) }
+        IfOk result (Folds plan.now (kept plan.now.condition rows)) }
+    ensures end { IfOk result MayEnd }
     ensures refused { IfErr result (λ e. (e ≡ Refused.NoWorker) ⊎ (e ≡ Refused.OutOfMemory)) }
 {
     let lists = list_count(count, workers);
@@ -69,12 +70,13 @@ fn gather_lists<'a, H: KeyHash<Cell> + KeyHash<Tuple> + Send + Sync, R: Threads 
     count: u64,
     dealt: &Dealt,
     workers: u64,
-) -> Result<Option<Folding<'a, H>>, Refused>
+) -> Result<Folding<'a, H>, Refused>
     requires rows { MayGatherRows columns.now count }
+    requires serve { Serve plan.now columns.now }
     requires dealt { AreDealt count (indexes_of dealt.now.lists.items) }
     ensures folds { (rows : List RowValue) → Hold rows columns.now → length rows ≡ count →
-        IfOk result (λ made. IfSome made (Folds plan.now (kept plan.now.condition rows))) }
-    ensures end { IfOk result (λ made. IfSome made MayEnd) }
+        IfOk result (Folds plan.now (kept plan.now.condition rows)) }
+    ensures end { IfOk result MayEnd }
     ensures refused { IfErr result (λ e. (e ≡ Refused.NoWorker) ⊎ (e ≡ Refused.OutOfMemory)) }
 {
     let listing = Listing {
@@ -85,20 +87,17 @@ fn gather_lists<'a, H: KeyHash<Cell> + KeyHash<Tuple> + Send + Sync, R: Threads 
         apart: dealt.apart,
     };
     let foldings = list_foldings(rt, alloc, &listing, workers)?;
-    let Some(foldings) = all_of(alloc, foldings)? else {
-        return Ok(None);
-    };
-    Ok(Some(joined(alloc, plan, foldings)?))
+    Ok(joined(alloc, plan, foldings)?)
 }
 
-/// A folding of each worker, of the lists that it drew, or None where one of them could not be folded. There are as many
-/// workers as the smaller of `workers` and the number of lists.
+/// A folding of each worker, of the lists that it drew. There are as many workers as the smaller of `workers` and the number of
+/// lists.
 fn list_foldings<'a, H: KeyHash<Cell> + KeyHash<Tuple> + Send + Sync, R: Threads + Wait>(
     rt: &R,
     alloc: Global,
     listing: &Listing<'a, '_, H>,
     workers: u64,
-) -> Result<Vec<Option<Folding<'a, H>>>, Refused>
+) -> Result<Vec<Folding<'a, H>>, Refused>
     ensures shared { IfOk result (λ v. AreShared (FoldsLists listing.now) (length listing.now.lists) v.items) }
     ensures workers { IfOk result (λ v. vec_len v ≡ min (workers_of workers) (length listing.now.lists)) }
     ensures refused { IfErr result (λ e. (e ≡ Refused.NoWorker) ⊎ (e ≡ Refused.OutOfMemory)) }
@@ -135,6 +134,7 @@ impl<'a, 'l, H: KeyHash<Cell>> Model for Listing<'a, 'l, H> {
     ghost use Rattle.cells.specs.Codes.{coded_cell};
     ghost use Rattle.crew.specs.Listing.{AreDealt, Listed, MayGatherRows};
     ghost use Rattle.groups.specs.Dealing.{indexes_of};
+    ghost use Rattle.groups.specs.Needed.{Serve};
     ghost use Rattle.query.specs.Codes.{coded_predicate};
 
     ghost Value = { Listed };
@@ -143,45 +143,44 @@ impl<'a, 'l, H: KeyHash<Cell>> Model for Listing<'a, 'l, H> {
 
     ghost view = { λ l. record { plan = l.plan.now; columns = l.columns.now; count = l.count; lists = indexes_of l.lists.now } };
 
-    ghost invariant = { λ l. MayGatherRows l.columns.now l.count × AreDealt l.count (indexes_of l.lists.now) };
+    ghost invariant = { λ l. MayGatherRows l.columns.now l.count × AreDealt l.count (indexes_of l.lists.now) × Serve l.plan.now l.columns.now };
 }
 
 impl<'a, 'l, H: KeyHash<Cell> + KeyHash<Tuple>> Listing<'a, 'l, H> {
-    /// It does nothing: that the columns hold so many rows, which are few enough, and that each is in one of the lists, is known
-    /// of each value.
+    /// It does nothing: that the columns hold so many rows, which are few enough, that each is in one of the lists, and that the
+    /// columns are those that the plan needs, is known of each value.
     fn rows_are_few(&self)
         ensures held { MayGatherRows self.now.columns self.now.count }
         ensures dealt { AreDealt self.now.count self.now.lists }
+        ensures serve { Serve self.now.plan self.now.columns }
     {
         let _ = &self.plan;
     }
 
-    /// The folding of the list at the place; None where it can't be folded from the columns.
-    fn list(&self, alloc: Global, place: u64) -> Result<Option<Folding<'a, H>>, AllocError>
+    /// The folding of the list at the place.
+    fn list(&self, alloc: Global, place: u64) -> Result<Folding<'a, H>, AllocError>
         requires { place < length self.now.lists }
         ensures { (rows : List RowValue) → Hold rows self.now.columns →
-            IfOk result (λ made. IfSome made (Folds self.now.plan (kept self.now.plan.condition (rows_listed self.now.lists rows place)))) }
+            IfOk result (Folds self.now.plan (kept self.now.plan.condition (rows_listed self.now.lists rows place))) }
     {
         self.rows_are_few();
         let rows = self.lists[place as usize].as_slice();
         Folding::of_rows(alloc, self.plan, self.columns, rows, self.apart)
     }
 
-    /// What was folded of some lists, with the list at the place after them; None where that can't be folded.
+    /// What was folded of some lists, with the list at the place after them.
     fn with_list(
         &self,
         alloc: Global,
         before: Folding<'a, H>,
         place: u64,
-    ) -> Result<Option<Folding<'a, H>>, AllocError>
-        requires { MayTake (FoldsLists self.now) (length self.now.lists) (Some before) place }
-        ensures { (places : List ℕ) → FoldsLists self.now places (Some before.entry) → IfOk result (FoldsLists self.now (places ++ place ∷ [])) }
+    ) -> Result<Folding<'a, H>, AllocError>
+        requires { MayTake (FoldsLists self.now) (length self.now.lists) before place }
+        ensures { (places : List ℕ) → FoldsLists self.now places before.entry → IfOk result (FoldsLists self.now (places ++ place ∷ [])) }
     {
         self.rows_are_few();
-        let Some(list) = self.list(alloc, place)? else {
-            return Ok(None);
-        };
-        Ok(Some(before.join(alloc, list)?))
+        let list = self.list(alloc, place)?;
+        Ok(before.join(alloc, list)?)
     }
 }
 
@@ -189,39 +188,20 @@ impl<'a, 'l, H: KeyHash<Cell> + KeyHash<Tuple> + Send + Sync> Task for Listing<'
     ghost use Rattle.std.specs.Prelude.{length};
     ghost use Rattle.crew.specs.Listing.{FoldsLists};
 
-    type Made = Option<Folding<'a, H>>;
+    type Made = Folding<'a, H>;
 
     ghost count = { λ l. length l.lists };
 
     ghost makes = { λ l places made. FoldsLists l places made };
 
-    fn begin(&self, alloc: Global) -> Result<Option<Folding<'a, H>>, AllocError> {
-        Ok(Some(Folding::new(alloc, self.plan)?))
+    fn begin(&self, alloc: Global) -> Result<Folding<'a, H>, AllocError> {
+        Folding::new(alloc, self.plan)
     }
 
-    fn take(
-        &self,
-        alloc: Global,
-        made: &mut Option<Folding<'a, H>>,
-        place: u64,
-    ) -> Result<(), AllocError> {
-        if let Some(before) = made.take() {
-            *made = self.with_list(alloc, before, place)?;
-        }
+    fn take(&self, alloc: Global, made: &mut Folding<'a, H>, place: u64) -> Result<(), AllocError> {
+        let none = Folding::new(alloc, self.plan)?;
+        let before = mem::replace(made, none);
+        *made = self.with_list(alloc, before, place)?;
         Ok(())
     }
-}
-
-/// All foldings, where each worker has one.
-fn all_of<T: Drop>(alloc: Global, some: Vec<Option<T>>) -> Result<Option<Vec<T>>, AllocError>
-    ensures { IfOk result (λ made. IfSome made (λ all. some.items ≡ map Some all.items)) }
-{
-    let mut all = Vec::with_capacity(alloc, some.len())?;
-    for one in some {
-        let Some(one) = one else {
-            return Ok(None);
-        };
-        all.push(one)?;
-    }
-    Ok(Some(all))
 }

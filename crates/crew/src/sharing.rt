@@ -18,7 +18,7 @@ use std::thread::Threads;
 /// of the workers. There are as many workers as the smaller of `workers`, which counts as 1 where it is 0, and as
 /// [`MAX_SEATS`] where it is more, and `count`, which is at most [`MAX_PIECES`](crate::MAX_PIECES). No worker has a fixed
 /// share: each draws one place after another until none are left, so it is not said who draws which, but each place is
-/// drawn once.
+/// drawn once. A single worker needs no thread: it is the caller's.
 ///
 /// [`Refused::NoWorker`] comes where a thread could not be started; otherwise [`Refused::OutOfMemory`] where there was
 /// no memory, here or for a worker. All threads that were started are joined before this returns, however it ends. It
@@ -41,13 +41,33 @@ pub fn share_out<K: Task, R: Threads + Wait>(
     if count == 0 {
         return Ok(Vec::new(alloc));
     }
+    let workers = workers_of(workers).min(count);
+    if workers == 1 {
+        return alone(alloc, count, task);
+    }
     draws_rise();
-    let (deal, seats) = Deal::new(alloc, count, workers_of(workers).min(count))?;
+    let (deal, seats) = Deal::new(alloc, count, workers)?;
     // The lists are made before a thread is started, so that none is wanted between the work and the end of the deal.
     let all = Vec::with_capacity(alloc, seats.len())?;
     let Returned { seats, given } = run_all(rt, alloc, &deal, seats, task)?;
     deal.close(seats);
     all_given(all, given)
+}
+
+// What one worker makes of all places, in the thread of the caller.
+fn alone<K: Task>(alloc: Global, count: u64, task: &K) -> Result<Vec<K::Made>, Refused>
+    requires count { (K.count task.now ≡ count) × (1 ≤ count) }
+    ensures shared { IfOk result (λ v. AreShared (K.makes task.now) count v.items) }
+    ensures workers { IfOk result (λ v. vec_len v ≡ 1) }
+    ensures refused { IfErr result (λ e. e ≡ Refused.OutOfMemory) }
+{
+    let mut made = task.begin(alloc)?;
+    for place in 0..count {
+        task.take(alloc, &mut made, place)?;
+    }
+    let mut all = Vec::with_capacity(alloc, 1)?;
+    all.push(made)?;
+    Ok(all)
 }
 
 // As many workers as are asked for, but one at least, and no more than there are seats.

@@ -3,67 +3,15 @@ use Rattle.std.specs.Prelude.{◌≡◌, ℕ, ◌+◌, ◌<◌, ◌≤◌, ◌�
 use Rattle.std.specs.List.{cons_option}
 use Rattle.std.proofs.Common.{get_or, ap, sym, ◌∙◌, subst, arith, inl, inr}
 use Rattle.std.proofs.Math.Seq.{take-nil}
-use Rattle.std.proofs.lemmas.List.{length-set, length-take, take_more, append_assoc, append-nil, drop_more, drop-set-lt, take_more_set, drop_all, take_all, take-append-drop}
+use Rattle.std.proofs.lemmas.List.{length-set, length-take, take_more, append_assoc, append-nil, drop_more, drop-set-lt, take_more_set, drop_all, take_all}
 use Rattle.std.proofs.lemmas.List.Elements.{filter_map-append}
-use Rattle.aggs.specs.Accs.{AccsFit, acc_of, acc_together, kind_of}
+use Rattle.aggs.specs.Accs.{AccsFit, acc_together}
 use Rattle.aggs.specs.declared.acc.Acc.{Acc}
-use Rattle.cells.specs.Values.{RowValue}
-use Rattle.groups.specs.Accumulators.{aggregation_of, aggregations_of, AllFit, CanStep, accs_together, stepped}
-use Rattle.groups.specs.Groups.{cell_at}
+use Rattle.groups.specs.Accumulators.{aggregation_of, aggregations_of, AllFit, accs_together}
 use Rattle.groups.specs.declared.aggregation.Aggregation.{Aggregation}
 use Rattle.query.specs.declared.item.Item.{Item}
 
 module _ {H : Type 0} where
-  -- the first i of the accumulators have taken the row
-  pub record Stepping (row : RowValue) (aggregations : List Aggregation) (old : List (Acc H)) (i : ℕ) (accs : List (Acc H)) : Type 0 where
-    pub same : take i accs ++ stepped row (drop i aggregations) (drop i accs) ≡ stepped row aggregations old
-    pub can : CanStep row (drop i aggregations) (drop i accs)
-
-  pub stepping_first : (row : RowValue) (aggregations : List Aggregation) (old accs : List (Acc H)) → accs ≡ old → CanStep row aggregations old → Stepping row aggregations old 0 accs
-  stepping_first row aggregations old accs e can = record { same = ap (stepped row aggregations) e; can = subst (CanStep row aggregations) (sym e) can }
-
-  module _ {row : RowValue} {aggregations : List Aggregation} {old accs : List (Acc H)} {i : ℕ} (now : Stepping row aggregations old i accs)
-      (none : Aggregation) (within : i < length aggregations) where
-    abbrev a : Aggregation
-    a = get_or aggregations i none
-
-    rest : drop i aggregations ≡ a ∷ drop (i + 1) aggregations
-    rest = drop_more aggregations i none within
-
-    -- there is no accumulator more
-    pub stepping_short : length accs ≤ i → accs ≡ stepped row aggregations old
-    stepping_short past =
-        let none : drop i accs ≡ [] = drop_all i accs past in
-        let same : take i accs ++ stepped row (a ∷ drop (i + 1) aggregations) [] ≡ stepped row aggregations old = rw (rest, none) at now.same in
-        sym (take_all i accs past) ∙ sym (append-nil (take i accs)) ∙ same
-
-    module _ (x : Acc H) (there : i < length accs) (here : x ≡ get_or accs i x) where
-      left : drop i accs ≡ x ∷ drop (i + 1) accs
-      left = drop_more accs i x there ∙ ap (λ b. b ∷ drop (i + 1) accs) (sym here)
-
-      can_here : CanStep row (a ∷ drop (i + 1) aggregations) (x ∷ drop (i + 1) accs)
-      can_here = subst (λ l. CanStep row (a ∷ drop (i + 1) aggregations) l) left (subst (λ l. CanStep row l (drop i accs)) rest now.can)
-
-      pub stepping_may : AccsFit x (acc_of (kind_of x) (cell_at a.column row ∷ []))
-      stepping_may = can_here.0
-
-      pub stepping_more : (v : Acc H) → v ≡ acc_together x (acc_of (kind_of x) (cell_at a.column row ∷ [])) → Stepping row aggregations old (i + 1) (set accs i v)
-      stepping_more v e =
-          let after : drop (i + 1) (set accs i v) ≡ drop (i + 1) accs = drop-set-lt (i + 1) accs i v (omega arith) in
-          let before : take (i + 1) (set accs i v) ≡ take i accs ++ v ∷ [] = take_more_set accs i v there in
-          record {
-            same = rw (before, after) (append_assoc (take i accs) (v ∷ []) (stepped row (drop (i + 1) aggregations) (drop (i + 1) accs))
-                ∙ ap (λ w. take i accs ++ w ∷ stepped row (drop (i + 1) aggregations) (drop (i + 1) accs)) e
-                ∙ ap (λ l. take i accs ++ stepped row (a ∷ drop (i + 1) aggregations) l) (sym left)
-                ∙ ap (λ l. take i accs ++ stepped row l (drop i accs)) (sym rest) ∙ now.same);
-            can = rw after can_here.1;
-          }
-
-  pub stepping_all : {row : RowValue} {aggregations : List Aggregation} {old accs : List (Acc H)} {i : ℕ} → Stepping row aggregations old i accs →
-      length aggregations ≤ i → accs ≡ stepped row aggregations old
-  stepping_all {row} {aggregations} {old} {accs} {i} now past =
-      sym (take-append-drop i accs) ∙ (rw (drop_all i aggregations past) at now.same)
-
   -- made are the accumulators of the lists whose rest are xs and ys
   pub record Joining (firsts seconds made xs ys : List (Acc H)) : Type 0 where
     pub same : made ++ accs_together xs ys ≡ accs_together firsts seconds

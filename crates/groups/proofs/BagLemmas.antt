@@ -3,16 +3,16 @@ use Rattle.std.specs.Prelude.{◌≡◌, ℕ, zero, suc, ◌+◌, ◌<◌, ◌�
 use Rattle.std.specs.List.{AllByRecursion}
 use Rattle.std.specs.List.Sorted.{IsPermutation}
 use Rattle.std.proofs.Common.{get_or, ap, ap₂, sym, ◌∙◌, subst, arith, inl, inr}
-use Rattle.std.proofs.lemmas.List.{append_assoc, append-nil, get_or_read, length-append, length-map}
-use Rattle.std.proofs.lemmas.List.Sorted.{IsPermutation-append_comm, IsPermutation-append_left, IsPermutation-append_right, IsPermutation-refl, IsPermutation-trans, length_permutation}
-use Rattle.aggs.specs.Accs.{AccsFit, acc_kind, acc_of, acc_room, acc_together}
+use Rattle.std.proofs.lemmas.List.{append_assoc, append-nil, length-append, length-map}
+use Rattle.std.proofs.lemmas.List.Sorted.{IsPermutation-append_comm, IsPermutation-append_left, IsPermutation-append_right, IsPermutation-refl, IsPermutation-trans}
+use Rattle.aggs.specs.Accs.{acc_room}
 use Rattle.aggs.specs.Room.{cell_limit}
 use Rattle.aggs.specs.declared.acc.Acc.{Acc}
 use Rattle.cells.specs.TupleOrder.{tuple_eq, tuple_eq-equiv}
 use Rattle.cells.specs.Values.{RowValue}
 use Rattle.cells.specs.declared.cell.Cell.{Cell}
-use Rattle.groups.specs.Accumulators.{AllFit, CanStep, accs_of, accs_together, both, group, group_or, is_start, no_rows, stepped}
-use Rattle.groups.specs.Bags.{AreParts, CanTake, Covers, Group, HasRoom, IsPart, Takes, joined, picked}
+use Rattle.groups.specs.Accumulators.{AllFit, accs_of, accs_together, both, group, group_or, is_start, no_rows}
+use Rattle.groups.specs.Bags.{AreParts, Covers, Group, IsPart, joined}
 use Rattle.groups.specs.Coarsening.{TakesGroup}
 use Rattle.groups.specs.Groups.{cell_at, column_of, members, tuple_of}
 use Rattle.groups.specs.Laws.{accs_join, group_any_order, group_joins}
@@ -29,22 +29,6 @@ module _ (H : Type 0) where
     acc_room H a.kind (column_of a.column xs) (column_of a.column ys) (omega (arith, few, length-map xs (cell_at a.column), length-map ys (cell_at a.column))),
     all_fit aggregations xs ys few,
   )
-
-  can_step : (row : RowValue) (part : List RowValue) → length part + 1 ≤ cell_limit → (aggregations : List Aggregation) → CanStep row aggregations (accs_of {H = H} aggregations part)
-  can_step row part few [] = tt
-  can_step row part few (a ∷ aggregations) = (
-    subst (λ k. AccsFit (acc_of {H = H} a.kind (column_of a.column part)) (acc_of k (cell_at a.column row ∷ []))) (sym (acc_kind H a.kind (column_of a.column part)))
-        (acc_room H a.kind (column_of a.column part) (cell_at a.column row ∷ []) (omega (arith, few, length-map part (cell_at a.column)))),
-    can_step row part few aggregations,
-  )
-
-module _ {H : Type 0} where
-  stepped_is : (row : RowValue) (aggregations : List Aggregation) (part : List RowValue) →
-      stepped row aggregations (accs_of {H = H} aggregations part) ≡ accs_together (accs_of aggregations part) (accs_of aggregations (row ∷ []))
-  stepped_is row [] part = refl
-  stepped_is row (a ∷ aggregations) part = ap₂ (λ (x : Acc H) (rest : List (Acc H)). x ∷ rest)
-      (ap (λ k. acc_together (acc_of {H = H} a.kind (column_of a.column part)) (acc_of k (cell_at a.column row ∷ []))) (acc_kind H a.kind (column_of a.column part)))
-      (stepped_is row aggregations part)
 
 some_both : (xs ys : List RowValue) → no_rows xs ≡ false → no_rows (xs ++ ys) ≡ false
 some_both [] ys e = cc
@@ -91,13 +75,6 @@ module _ {H : Type 0} (aggregations : List Aggregation) (columns : List ℕ) whe
     subst P (sym (are.0).accs) (each p (omega (arith, few, length-append p (joined parts)))),
     parts_have P more each groups parts are.1 (omega (arith, few, length-append p (joined parts))),
   )
-
-  pub can_take : (row : RowValue) (groups : List (Group H)) → HasRoom aggregations columns groups → CanTake aggregations row groups
-  can_take row groups room = record {
-    each = parts_have (CanStep row aggregations) 1 (λ part few. can_step H row part few aggregations) groups (room.covers).parts (room.covers).each
-        (omega (arith, room.few, length_permutation room.rows (joined (room.covers).parts) (room.covers).all));
-    new = can_step H row [] (omega (arith, room.few)) aggregations;
-  }
 
   record Later (groups : List (Group H)) (parts : List (List RowValue)) (part : List RowValue) : Type 0 where
     new : List (List RowValue)
@@ -153,35 +130,6 @@ module _ {H : Type 0} (aggregations : List Aggregation) (columns : List ℕ) whe
     covers_part rows old new covers (inl joins) =
         covers_later rows old new _ covers (joined_at joins.were old covers.parts joins.index covers.each joins.within joins.at) joins.is
     covers_part rows old new covers (inr e) = covers_later rows old new _ covers (added_at old covers.parts covers.each) e
-
-  part_at : (groups : List (Group H)) (parts : List (List RowValue)) (i : ℕ) (d : Group H) → AreParts aggregations columns groups parts → i < length groups →
-      IsPart aggregations columns (get_or groups i d) (get_or parts i [])
-  part_at [] parts i d are h = absurd (omega arith)
-  part_at (g ∷ groups) [] i d are h = absurd are
-  part_at (g ∷ groups) (p ∷ parts) zero d are h = are.0
-  part_at (g ∷ groups) (p ∷ parts) (suc i) d are h = part_at groups parts i d are.1 (omega arith)
-
-  -- a row is a part of one row
-  pub covers_more : (row : RowValue) (rows : List RowValue) (old new : List (Group H)) → Covers aggregations columns rows old →
-      Takes aggregations columns row old new → Covers aggregations columns (rows ++ row ∷ []) new
-  covers_more row rows old new covers takes = covers_part (tuple_of columns row) (accs_of aggregations (row ∷ [])) (row ∷ [])
-      (record { some = refl; alike = (refl, tt); accs = refl }) rows old new covers (as_group takes)
-    where
-      as_group : Takes aggregations columns row old new → TakesGroup (tuple_of columns row) (accs_of aggregations (row ∷ [])) old new
-      as_group (inl steps) =
-          let part = get_or covers.parts steps.index [] in
-          let g : Group H = (tuple_of columns row, steps.accs) in
-          let is : steps.accs ≡ accs_of aggregations part =
-          sym (ap (λ (h : Group H). h.1) (steps.at g)) ∙ (part_at old covers.parts steps.index g covers.each steps.within).accs in
-          inl (record {
-            index = steps.index;
-            were = steps.accs;
-            within = steps.within;
-            at = steps.at;
-            is = steps.is ∙ ap (λ a. set old steps.index (tuple_of columns row, a))
-                (ap (stepped row aggregations) is ∙ stepped_is row aggregations part ∙ ap (λ a. accs_together a (accs_of aggregations (row ∷ []))) (sym is));
-          })
-      as_group (inr e) = inr (e ∙ ap (λ a. old ++ (tuple_of columns row, a) ∷ []) (stepped_is row aggregations [] ∙ sym (accs_join aggregations [] (row ∷ []))))
 
   -- ---- the parts of groups of which some come before one, and some after it
   pub record AreCut (before : List (Group H)) (g : Group H) (after : List (Group H)) (parts : List (List RowValue)) : Type 0 where
@@ -242,24 +190,3 @@ module _ {H : Type 0} (aggregations : List Aggregation) (columns : List ℕ) whe
       met_from (group aggregations columns [] t) groups t ≡ group aggregations columns rows t
   met_covers rows groups t covers = met_joined groups covers.parts [] t covers.each
       ∙ sym (group_any_order aggregations columns t rows (joined covers.parts) covers.all)
-
--- ---- a bag takes a row
-module _ {H : Type 0} (aggregations : List Aggregation) (columns : List ℕ) (row : RowValue) where
-  pub takes_found : (old new : List (Group H)) (index : ℕ) (g : Group H) (accs : List (Acc H)) (cells : List Cell) → cells ≡ row.cells → index < length old → g ≡ get_or old index g →
-      (get_or old index (picked columns cells, [])).0 ≡ picked columns cells → accs ≡ stepped row aggregations g.1 → new ≡ set old index (g.0, accs) →
-      Takes aggregations columns row old new
-  takes_found old new index g accs cells same h is found step e =
-      let read : (d : Group H) → g ≡ get_or old index d = get_or_read old index g h is in
-      let tuple : g.0 ≡ tuple_of columns row = ap (λ (x : Group H). x.0) (read (picked columns cells, [])) ∙ found ∙ ap (picked columns) same in
-      inl (record {
-        index = index;
-        accs = g.1;
-        within = h;
-        at = λ d. sym (read d) ∙ ap (λ (t : List Cell). (t, g.1)) tuple;
-        is = e ∙ ap (set old index) (ap₂ (λ (t : List Cell) (xs : List (Acc H)). (t, xs)) tuple step);
-      })
-
-  pub takes_new : (old new : List (Group H)) (tuple : List Cell) (accs none : List (Acc H)) (cells : List Cell) → cells ≡ row.cells → tuple ≡ picked columns cells →
-      none ≡ accs_of aggregations [] → accs ≡ stepped row aggregations none → new ≡ old ++ (tuple, accs) ∷ [] → Takes aggregations columns row old new
-  takes_new old new tuple accs none cells same is empty step e = inr (e
-      ∙ ap (λ g. old ++ g ∷ []) (ap₂ (λ (t : List Cell) (xs : List (Acc H)). (t, xs)) (is ∙ ap (picked columns) same) (step ∙ ap (stepped row aggregations) empty)))

@@ -5,7 +5,7 @@ use Rattle.std.specs.List.Sorted.{IsPermutation}
 use Rattle.std.proofs.Common.{get_or, ap, ap₂, sym, ◌∙◌, subst, arith, eq-eqb, inl, inr}
 use Rattle.std.proofs.lemmas.Bool.{ne_eqb}
 use Rattle.std.proofs.lemmas.Bool.Decides.{eqb_tells}
-use Rattle.std.proofs.lemmas.List.{append_assoc, get_or_read, length-map, map-append}
+use Rattle.std.proofs.lemmas.List.{append_assoc, get_or_read, length-map, map-append, take_more}
 use Rattle.std.proofs.lemmas.List.Folds.{flat_map-map}
 use Rattle.std.proofs.lemmas.List.FromFn.{map-range_with_len_more}
 use Rattle.std.proofs.lemmas.List.Sorted.{IsPermutation-append_comm, IsPermutation-append_left, IsPermutation-append_right, IsPermutation-refl, IsPermutation-trans}
@@ -14,14 +14,17 @@ use Rattle.aggs.specs.Accs.{acc_of}
 use Rattle.aggs.specs.declared.acc.Acc.{Acc}
 use Rattle.cells.specs.Values.{RowValue}
 use Rattle.cells.specs.declared.cell.Cell.{Cell}
+use Rattle.columns.specs.Columns.{ColumnsValue, HaveAll}
 use Rattle.groups.specs.Accumulators.{accs_of, no_rows}
 use Rattle.groups.specs.Bags.{AreParts, Covers, Group, IsPart}
 use Rattle.groups.specs.Columnar.{TalliesRows, accs_at, groups_from, no_acc}
 use Rattle.groups.specs.Groups.{cell_at, tuple_of}
 use Rattle.groups.specs.Numbered.{AreNumbered, NumberAll}
+use Rattle.groups.specs.Pools.{IsPool, sets_of}
 use Rattle.groups.specs.Tallying.{keep_if, those_of}
 use Rattle.groups.specs.declared.aggregation.Aggregation.{Aggregation}
-use Rattle.groups.proofs.TuplesLemmas.{take_next, zip_push}
+use Rattle.groups.specs.declared.pool.SetBag.{SetBag}
+use Rattle.groups.proofs.TuplesLemmas.{all_push, take_next, zip_push}
 
 -- ---- each thing is of one number
 module _ {X : Type 0} where
@@ -164,3 +167,24 @@ covers_rows {H} aggregations set rows numbers tuples tallies now all =
 pub each_long : {A B : Type 0} (f : A → List B) (count : ℕ) (xs : List A) → AllByRecursion (λ l. length l ≡ count) (map f xs) → AllByRecursion (λ x. length (f x) ≡ count) xs
 each_long f count [] all = tt
 each_long f count (x ∷ xs) all = (all.0, each_long f count xs all.1)
+
+-- ---- source by source
+module _ {H : Type 0} where
+  -- the columns of the set of the source at i
+  pub set_there : (columns : ColumnsValue) (sources : List (SetBag H)) (i : ℕ) (source : SetBag H) → i < length sources → source ≡ get_or sources i source → AllByRecursion (λ set. HaveAll set columns) (sets_of sources) →
+      HaveAll source.set.items columns
+  set_there columns [] i source h is all = absurd (omega (arith, h))
+  set_there columns (s ∷ sources) zero source h is all = subst (λ (f : SetBag H). HaveAll f.set.items columns) (sym is) all.0
+  set_there columns (s ∷ sources) (suc i) source h is all = set_there columns sources i source (omega (arith, h)) is all.1
+
+  pub sets_next : (sources : List (SetBag H)) (i : ℕ) (source new : SetBag H) (filled added : List (SetBag H)) → i < length sources → source ≡ get_or sources i source → new.set.items ≡ source.set.items →
+      sets_of filled ≡ sets_of (take i sources) → added ≡ filled ++ new ∷ [] → sets_of added ≡ sets_of (take (i + 1) sources)
+  sets_next sources i source new filled added h is same sets e =
+      ap sets_of e ∙ map-append (λ (f : SetBag H). f.set.items) filled (new ∷ []) ∙ ap₂ (λ (l : List (List ℕ)) (s : List ℕ). l ++ s ∷ []) sets same ∙
+      sym (map-append (λ (f : SetBag H). f.set.items) (take i sources) (source ∷ [])) ∙ ap (λ (f : SetBag H). sets_of (take i sources ++ f ∷ [])) is ∙ ap sets_of (sym (take_more sources i source h))
+
+  pub pool_next : (aggregations : List Aggregation) (rows : List RowValue) (new : SetBag H) (filled added : List (SetBag H)) → IsPool aggregations rows filled → Covers aggregations new.set.items rows new.bag →
+      added ≡ filled ++ new ∷ [] → IsPool aggregations rows added
+  pool_next aggregations rows new filled added pool covers e = record {
+    each = subst (AllByRecursion (λ (f : SetBag H). Covers aggregations f.set.items rows f.bag)) (sym e) (all_push (λ (f : SetBag H). Covers aggregations f.set.items rows f.bag) filled new pool.each covers);
+  }

@@ -3,7 +3,7 @@ use Rattle.std.specs.Prelude.{◌≡◌, ℕ, suc, ◌+◌, ◌<◌, ◌≤◌, 
 use Rattle.std.specs.List.{AllByRecursion}
 use Rattle.std.proofs.Common.{get_or, nat_lt, ap, ap₂, sym, ◌∙◌, subst, arith, eq-eqb}
 use Rattle.std.proofs.lemmas.Bool.{ltb-false, ltb-true}
-use Rattle.std.proofs.lemmas.List.{append-nil, get_or_default, get_or-map as get_at, get_or_read, length-append, length-map, length-take, map-append, take_all, take_more}
+use Rattle.std.proofs.lemmas.List.{append-nil, get_or_default, get_or-map as get_at, length-append, length-map, length-take, map-append, take_all, take_more}
 use Rattle.std.proofs.lemmas.List.Elements.{filter-append}
 use Rattle.std.proofs.Math.ListN.{get_or-map}
 use Rattle.std.proofs.lemmas.List.Sums.{fails_before_first, passes_at_first}
@@ -187,12 +187,11 @@ asked_next law p named width all places some added i lent tuple b is below h now
     (kept_next p all places some i h now b (asked ∙ ap (truth_for p named width) (one ∙ two) ∙ marked law p named width is below (get_or all (get_or places i 0) no_row)))
 
 -- the cell of a row in a column
-pub cell_of_place : (column : ColumnValue) (lent : List ℕ) (index place : ℕ) (all : List RowValue) (code : ℕ) (cell : Cell) → cells_of column ≡ cells_at index all → lent ≡ column.by_row →
-    place < length lent → code ≡ get_or lent place code → cell ≡ cell_of column.cells code → cell ≡ cell_at index (get_or all place no_row)
-cell_of_place column lent index place all code cell is same within at read =
-    let there : code ≡ get_or column.by_row place 0 = get_or_read lent place code within at 0 ∙ ap (λ l. get_or l place 0) same in
-    read ∙ ap (cell_of column.cells) there ∙ sym (get_at (λ c. cell_of column.cells c) column.by_row place 0 Null (omega (arith, within, ap (λ l. length l) same))) ∙ ap (λ l. get_or l place Null) is ∙
-    get_or-map (cell_at index) all place no_row
+pub cell_of_place : (column : ColumnValue) (lent : List ℕ) (index place : ℕ) (all : List RowValue) (cell : Cell) → cells_of column ≡ cells_at index all → lent ≡ column.by_row → place < length lent →
+    cell ≡ cell_of column.cells (get_or lent place 0) → cell ≡ cell_at index (get_or all place no_row)
+cell_of_place column lent index place all cell is same within read =
+    read ∙ ap (λ l. cell_of column.cells (get_or l place 0)) same ∙
+    sym (get_at (λ c. cell_of column.cells c) column.by_row place 0 Null (omega (arith, within, ap (λ l. length l) same))) ∙ ap (λ l. get_or l place Null) is ∙ get_or-map (cell_at index) all place no_row
 
 -- ---- no predicate
 pub kept_all : (rows : List RowValue) → kept None rows ≡ rows

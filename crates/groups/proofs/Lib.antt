@@ -11,6 +11,7 @@ pub mod MeetingLemmas
 pub mod OrderLemmas
 pub mod PartingLemmas
 pub mod NumberedLemmas
+pub mod NeededLemmas
 pub mod TallyingLemmas
 pub mod DifferingLemmas
 pub mod ColumnarLemmas
@@ -23,5 +24,4 @@ pub mod RisingLemmas
 pub mod SetTuplesLemmas
 pub mod SourcesLemmas
 pub mod TuplesLemmas
-pub mod VisitingLemmas
 pub mod HavingLemmas

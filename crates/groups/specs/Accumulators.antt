@@ -1,12 +1,12 @@
 -- The accumulators of a group: one for each aggregate of the select list, in its order.
 use Rattle.std.specs.Prelude.{ℕ, Bool, true, false, not, ◌&&◌, List, [], ◌∷◌, map, Option, Some, None, if◌then◌else◌, ⊤}
 use Rattle.std.specs.List.{filter_map}
-use Rattle.aggs.specs.Accs.{AccsFit, acc_of, acc_together, kind_of}
+use Rattle.aggs.specs.Accs.{AccsFit, acc_of, acc_together}
 use Rattle.aggs.specs.declared.acc.Acc.{Acc}
 use Rattle.aggs.specs.declared.acc.Kind.TheVariants as kind
 use Rattle.cells.specs.Values.{RowValue}
 use Rattle.cells.specs.declared.cell.Cell.{Cell}
-use Rattle.groups.specs.Groups.{cell_at, column_of, members}
+use Rattle.groups.specs.Groups.{column_of, members}
 use Rattle.groups.specs.declared.aggregation.Aggregation.{Aggregation}
 use Rattle.query.specs.declared.item.Item.{Item}
 use Rattle.query.specs.declared.item.Item.TheVariants as item
@@ -46,19 +46,6 @@ module _ {H : Type 0} where
   accs_together [] bs = []
   accs_together (a ∷ xs) [] = []
   accs_together (a ∷ xs) (b ∷ ys) = acc_together a b ∷ accs_together xs ys
-
-  -- accumulators after one row more
-  abbrev pub stepped : RowValue → List Aggregation → List (Acc H) → List (Acc H)
-  stepped row [] accs = accs
-  stepped row (a ∷ aggregations) [] = []
-  stepped row (a ∷ aggregations) (x ∷ accs) =
-      acc_together x (acc_of (kind_of x) (cell_at a.column row ∷ [])) ∷ stepped row aggregations accs
-
-  -- each of them has room for the row's cell
-  abbrev pub CanStep : RowValue → List Aggregation → List (Acc H) → Type 0
-  CanStep row [] accs = ⊤
-  CanStep row (a ∷ aggregations) [] = ⊤
-  CanStep row (a ∷ aggregations) (x ∷ accs) = AccsFit x (acc_of (kind_of x) (cell_at a.column row ∷ [])) × CanStep row aggregations accs
 
   -- they have room for each other
   abbrev pub AllFit : List (Acc H) → List (Acc H) → Type 0

@@ -1,5 +1,5 @@
 -- Bags of groups: a list of groups that rows go into, of which several may have one tuple.
-use Rattle.std.specs.Prelude.{◌≡◌, ℕ, ◌+◌, ◌<◌, ◌≤◌, false, ◌⊎◌, List, [], ◌∷◌, ◌++◌, length, map, set, slice_index_or}
+use Rattle.std.specs.Prelude.{◌≡◌, ℕ, ◌+◌, ◌<◌, ◌≤◌, false, List, ◌++◌, length, map, slice_index_or}
 use Rattle.std.specs.List.{AllByRecursion, AllZip, flat_map}
 use Rattle.std.specs.List.Sorted.{IsPermutation}
 use Rattle.aggs.specs.Room.{cell_limit}
@@ -7,7 +7,7 @@ use Rattle.aggs.specs.declared.acc.Acc.{Acc}
 use Rattle.cells.specs.Values.{RowValue}
 use Rattle.cells.specs.declared.cell.Cell.{Cell}
 use Rattle.cells.specs.declared.cell.Cell.TheVariants.{Null}
-use Rattle.groups.specs.Accumulators.{CanStep, accs_of, no_rows, stepped}
+use Rattle.groups.specs.Accumulators.{accs_of, no_rows}
 use Rattle.groups.specs.Groups.{tuple_of}
 use Rattle.groups.specs.declared.aggregation.Aggregation.{Aggregation}
 
@@ -43,31 +43,7 @@ module _ {H : Type 0} (aggregations : List Aggregation) (columns : List ℕ) whe
     pub each : AreParts groups parts
     pub all : IsPermutation rows (joined parts)
 
-  -- the row has gone into a group of its tuple
-  pub record Steps (row : RowValue) (old new : List (Group H)) : Type 0 where
-    pub index : ℕ
-    pub accs : List (Acc H)
-    pub within : index < length old
-    pub at : (d : Group H) → slice_index_or old index d ≡ (tuple_of columns row, accs)
-    pub is : new ≡ set old index (tuple_of columns row, stepped row aggregations accs)
-
-  -- the row has gone into a group of its tuple, or into a new one
-  abbrev pub Takes : RowValue → List (Group H) → List (Group H) → Type 0
-  Takes row old new =
-      Steps row old new ⊎ (new ≡ old ++ (tuple_of columns row, stepped row aggregations (accs_of aggregations [])) ∷ [])
-
 module _ {H : Type 0} (aggregations : List Aggregation) where
-  -- each group has room for the row, and so has a new one
-  pub record CanTake (row : RowValue) (groups : List (Group H)) : Type 0 where
-    pub each : AllByRecursion (λ g. CanStep row aggregations g.1) groups
-    pub new : CanStep {H = H} row aggregations (accs_of aggregations [])
-
-  -- so few rows went into the groups that one more may go there
-  pub record HasRoom (columns : List ℕ) (groups : List (Group H)) : Type 0 where
-    pub rows : List RowValue
-    pub covers : Covers aggregations columns rows groups
-    pub few : length rows < cell_limit
-
   -- few enough rows went into the groups
   pub record IsCounted (columns : List ℕ) (groups : List (Group H)) : Type 0 where
     pub rows : List RowValue

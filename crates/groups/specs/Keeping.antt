@@ -1,10 +1,9 @@
 -- The rows that WHERE keeps, found by the columns that it names.
-use Rattle.std.specs.Prelude.{◌≡◌, ℕ, ◌+◌, ◌<◌, ◌≤◌, ◌^◌, Bool, false, List, length, map, slice_index_or, Some}
+use Rattle.std.specs.Prelude.{◌≡◌, ℕ, ◌<◌, ◌≤◌, Bool, false, List, length, map, slice_index_or, Some}
 use Rattle.std.specs.List.{AllByRecursion, range_with_len}
 use Rattle.cells.specs.TotalOrder.{cell_total}
 use Rattle.cells.specs.Values.{RowValue}
 use Rattle.cells.specs.declared.cell.Cell.{Cell}
-use Rattle.columns.specs.Columns.{ColumnsValue, Hold}
 use Rattle.groups.specs.Groups.{cell_at_index, is_true, kept, index_in}
 use Rattle.groups.specs.Numbered.{picked_rows}
 use Rattle.groups.specs.Tallying.{passing}

@@ -3,9 +3,9 @@ pub mod Accumulators
 pub mod Partials
 pub mod Codes
 pub mod Bags
-pub mod Visiting
 pub mod Parting
 pub mod Numbered
+pub mod Needed
 pub mod Tallying
 pub mod Differing
 pub mod Columnar

@@ -1,10 +1,10 @@
 //! The accumulators of a group.
 ghost use Rattle.std.specs.Prelude.{◌≡◌, [], IfOk};
-ghost use Rattle.groups.specs.Accumulators.{AllFit, CanStep, accs_of, accs_together, stepped};
+ghost use Rattle.groups.specs.Accumulators.{AllFit, accs_of, accs_together};
 
 use crate::aggregation::Aggregation;
 use aggs::Acc;
-use cells::{Cell, KeyHash, Row};
+use cells::{Cell, KeyHash};
 use std::alloc::{AllocError, Global};
 use std::marker::Model;
 
@@ -63,27 +63,6 @@ impl<H: KeyHash<Cell>> Accumulators<H> {
         ensures { result.now ≡ self.now }
     {
         self.accs.as_slice()
-    }
-
-    /// Makes them the accumulators of their rows and this one behind them. After a refusal, which is want of memory,
-    /// some of them have taken the row and others have not: they stand for no rows.
-    pub fn step(
-        &mut self,
-        alloc: Global,
-        row: &Row,
-        aggregations: &[Aggregation],
-    ) -> Result<(), AllocError>
-        requires { CanStep row.now aggregations.now self.old }
-        ensures { IfOk result (λ _. self.new ≡ stepped row.now aggregations.now self.old) }
-    {
-        for (i, aggregation) in aggregations.iter().enumerate() {
-            let Some(acc) = self.accs.get_mut(i) else {
-                return Ok(());
-            };
-            let cell = row.cells().get(aggregation.column).unwrap_or(&Cell::Null);
-            acc.step(alloc, cell)?;
-        }
-        Ok(())
     }
 
     /// The accumulators of both lists of rows put together, as far as both go.

@@ -1,14 +1,15 @@
 //! WHERE asked of row after row of columns, where asking once for rows that are alike would gain nothing.
-ghost use Rattle.std.specs.Prelude.{◌≡◌, ◌<◌, List, true, IfOk, IfSome, slice_index_or};
+ghost use Rattle.std.specs.Prelude.{◌≡◌, ◌<◌, ◌∷◌, [], List, true, IfOk, OnOk, slice_index_or};
 ghost use Rattle.std.specs.List.{AllByRecursion};
 ghost use Rattle.cells.specs.Values.{RowValue};
-ghost use Rattle.columns.specs.Columns.{Hold};
+ghost use Rattle.columns.specs.Columns.{HaveAll, Hold, has};
 ghost use Rattle.groups.specs.Groups.{cell_at, is_true, tuple_of};
 ghost use Rattle.groups.specs.Keeping.{KeptBy, truth_for};
-ghost use Rattle.groups.specs.Numbered.{no_row};
+ghost use Rattle.groups.specs.Numbered.{HaveRows, no_row};
 ghost use Rattle.query.specs.Naming.{columns_named};
 
 use crate::keeping::put_cells_for;
+use crate::needed::column_of;
 use crate::numbered::most_tuples;
 use cells::{Cell, KeyHash};
 use columns::Columns;
@@ -24,7 +25,7 @@ pub fn are_many<H: KeyHash<Cell>>(columns: &Columns<H>, named: &[usize], rows: u
 }
 
 /// Those of the places whose rows the predicate is true for, which is asked of each. `named` are the columns that it names, and
-/// `width` is more than each of their indexes. None where one of them was left out.
+/// `width` is more than each of their indexes.
 pub fn asked_of_each<H: KeyHash<Cell>>(
     alloc: Global,
     predicate: &Predicate<usize>,
@@ -32,25 +33,25 @@ pub fn asked_of_each<H: KeyHash<Cell>>(
     named: &[usize],
     width: usize,
     places: &[u32],
-) -> Result<Option<Vec<u32>>, AllocError>
+) -> Result<Vec<u32>, AllocError>
+    requires rows { HaveRows columns.now places.now }
+    requires there { HaveAll named.now columns.now }
     requires named { named.now ≡ columns_named predicate.now }
     requires width { AllByRecursion (λ k. k < width) named.now }
     ensures { (all : List RowValue) → Hold all columns.now →
-        IfOk result (λ made. IfSome made (λ v. KeptBy predicate.now all places.now v.items)) }
+        IfOk result (λ v. KeptBy predicate.now all places.now v.items) }
 {
     truth_by_columns();
     let mut tuple = Vec::with_capacity(alloc, named.len())?;
     let mut cells = Vec::with_capacity(alloc, width)?;
     let mut kept = Vec::new(alloc);
     for place in places {
-        if !put_tuple(&mut tuple, columns, named, *place)? {
-            return Ok(None);
-        }
+        put_tuple(&mut tuple, columns, named, *place)?;
         if is_true_for(predicate, &mut cells, named, width, tuple.as_slice())? {
             kept.push(*place)?;
         }
     }
-    Ok(Some(kept))
+    Ok(kept)
 }
 
 /// Whether the predicate is true for a row with this tuple in the named columns. `cells` serves to ask it.
@@ -68,40 +69,37 @@ fn is_true_for(
     Ok(matches!(truth, Truth::True))
 }
 
-/// Puts the tuple of a row in the named columns in the place of all that is there. False where one of them was left out.
+/// Puts the tuple of a row in the named columns in the place of all that is there.
 fn put_tuple<H: KeyHash<Cell>>(
     tuple: &mut Vec<Cell>,
     columns: &Columns<H>,
     named: &[usize],
     place: u32,
-) -> Result<bool, AllocError>
+) -> Result<(), AllocError>
+    requires row { HaveRows columns.now (place ∷ []) }
+    requires there { HaveAll named.now columns.now }
     ensures { (all : List RowValue) → Hold all columns.now →
-        IfOk result (λ there. there ≡ true → tuple.new.items ≡ tuple_of named.now (slice_index_or all place no_row)) }
+        OnOk result (tuple.new.items ≡ tuple_of named.now (slice_index_or all place no_row)) }
 {
     tuple.clear();
     for index in named {
-        let Some(cell) = cell_of_row(columns, *index, place)? else {
-            return Ok(false);
-        };
+        let cell = cell_of_row(columns, *index, place)?;
         tuple.push(cell)?;
     }
-    Ok(true)
+    Ok(())
 }
 
-/// The cell of a row in the column of the index. None where it was left out.
+/// The cell of a row in the column of the index.
 fn cell_of_row<H: KeyHash<Cell>>(
     columns: &Columns<H>,
     index: usize,
     place: u32,
-) -> Result<Option<Cell>, AllocError>
+) -> Result<Cell, AllocError>
+    requires row { HaveRows columns.now (place ∷ []) }
+    requires there { has columns.now index ≡ true }
     ensures { (all : List RowValue) → Hold all columns.now →
-        IfOk result (λ made. IfSome made (λ cell. cell ≡ cell_at index (slice_index_or all place no_row))) }
+        IfOk result (λ cell. cell ≡ cell_at index (slice_index_or all place no_row)) }
 {
-    let Some(column) = columns.at(index) else {
-        return Ok(None);
-    };
-    let Some(code) = column.codes().get(place as usize) else {
-        return Ok(None);
-    };
-    Ok(Some(column.cell(*code)?))
+    let column = column_of(columns, index);
+    Ok(column.cell(column.codes()[place as usize])?)
 }

@@ -4,12 +4,11 @@ ghost use Rattle.std.specs.List.{AllByRecursion};
 ghost use Rattle.cells.specs.declared.cell.Cell.{Cell};
 ghost use Rattle.groups.specs.Accumulators.{AllFit};
 ghost use Rattle.groups.specs.Coarsening.{JoinsGroup, TakesGroup};
-ghost use Rattle.groups.specs.Bags.{CanJoin, CanTake, HasBoth, Takes, picked};
+ghost use Rattle.groups.specs.Bags.{CanJoin, HasBoth, picked};
 
 use crate::accumulators::Accumulators;
-use crate::aggregation::Aggregation;
 use crate::tuples::{hash_of, hash_of_all, is_tuple_of, tuple_of};
-use cells::{Cell, KeyHash, Row, Tuple};
+use cells::{Cell, KeyHash, Tuple};
 use std::alloc::{AllocError, Global};
 use std::collections::HashMap;
 use std::marker::Model;
@@ -70,29 +69,6 @@ impl<H: KeyHash<Cell>> Bag<H> {
         self.groups.as_slice()
     }
 
-    /// Steps the accumulators of a group of the row's tuple, or adds a group. Where there is a group it takes memory
-    /// only for what accumulators keep of the row.
-    pub fn take(
-        &mut self,
-        alloc: Global,
-        row: &Row,
-        columns: &[usize],
-        aggregations: &[Aggregation],
-    ) -> Result<(), AllocError>
-        requires { CanTake aggregations.now row.now self.old }
-        ensures { IfOk result (λ _. Takes aggregations.now columns.now row.now self.old self.new) }
-    {
-        let hash = hash_of(row.cells(), columns);
-        if let Some(index) = self.find(hash, row.cells(), columns) {
-            self.groups[index].1.step(alloc, row, aggregations)?;
-            return Ok(());
-        }
-        let mut accumulators = Accumulators::empty(alloc, aggregations)?;
-        accumulators.step(alloc, row, aggregations)?;
-        let tuple = tuple_of(alloc, row.cells(), columns)?;
-        self.add(hash, tuple, accumulators)
-    }
-
     /// Puts a group of a finer set into a group of those of its cells that have these indexes, or adds one.
     pub fn take_group(
         &mut self,
@@ -141,7 +117,7 @@ impl<H: KeyHash<Cell>> Bag<H> {
         Ok(all)
     }
 
-    /// The same groups, which are now found by their hashes: those of rows are as they come, and those of columns are not.
+    /// The same groups, which are now found by their hashes.
     fn noted(self) -> Result<Bag<H>, AllocError>
         ensures { IfOk result (λ bag. bag ≡ self) }
     {

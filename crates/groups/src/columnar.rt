@@ -1,17 +1,19 @@
 //! The groups of a set over rows whose columns are at hand: all rows are numbered by their groups first, and then each
 //! aggregate goes over its column (Boncz, Zukowski and Nes, MonetDB/X100, 2005).
-ghost use Rattle.std.specs.Prelude.{◌≡◌, ◌≤◌, ◌^◌, List, IfOk, IfSome, ◌<◌, length, map};
+ghost use Rattle.std.specs.Prelude.{◌≡◌, ◌≤◌, ◌^◌, List, IfOk, ◌<◌, length, map};
 ghost use Rattle.std.specs.List.{AllByRecursion, AllZip};
 ghost use Rattle.cells.specs.Values.{RowValue};
-ghost use Rattle.columns.specs.Columns.{Hold};
+ghost use Rattle.columns.specs.Columns.{HaveAll, Hold};
 ghost use Rattle.groups.specs.Bags.{Covers};
 ghost use Rattle.groups.specs.Columnar.{TalliesRows, accs_at, groups_from};
+ghost use Rattle.groups.specs.Needed.{read_by, read_by_all};
 ghost use Rattle.groups.specs.Numbered.{HaveRows, NumberAll, picked_rows};
 ghost use Rattle.groups.specs.Pools.{IsPool, sets_of};
 
 use crate::accumulators::Accumulators;
 use crate::aggregation::Aggregation;
 use crate::bag::Bag;
+use crate::needed::column_of;
 use crate::numbered::{NumberedRows, groups_of};
 use crate::pool::SetBag;
 use crate::tallying::{counted, tallied};
@@ -20,99 +22,100 @@ use cells::{Cell, KeyHash, Tuple};
 use columns::Columns;
 use std::alloc::{AllocError, Global};
 
-/// The sets of the sources, each with its bag over the rows of these indexes. None where one of them can't be made from the
-/// columns.
+/// The sets of the sources, each with its bag over the rows of these indexes.
 pub fn sources_from<H: KeyHash<Cell>>(
     alloc: Global,
     columns: &Columns<H>,
     aggregations: &[Aggregation],
     rows: &[u32],
     sources: &[SetBag<H>],
-) -> Result<Option<Vec<SetBag<H>>>, AllocError>
-    requires { HaveRows columns.now rows.now }
-    ensures sets { IfOk result (λ made. IfSome made (λ v. sets_of v.items ≡ sets_of sources.now)) }
+) -> Result<Vec<SetBag<H>>, AllocError>
+    requires rows { HaveRows columns.now rows.now }
+    requires sets { AllByRecursion (λ set. HaveAll set columns.now) (sets_of sources.now) }
+    requires read { HaveAll (read_by_all aggregations.now) columns.now }
+    ensures sets { IfOk result (λ v. sets_of v.items ≡ sets_of sources.now) }
     ensures pool { (all : List RowValue) → Hold all columns.now →
-        IfOk result (λ made. IfSome made (λ v. IsPool aggregations.now (picked_rows all rows.now) v.items)) }
+        IfOk result (λ v. IsPool aggregations.now (picked_rows all rows.now) v.items) }
 {
     let mut filled = Vec::with_capacity(alloc, sources.len())?;
     for source in sources {
         let set = Vec::from_slice(alloc, source.set.as_slice())?;
-        let Some(bag) = bag_of(alloc, columns, set.as_slice(), aggregations, rows)? else {
-            return Ok(None);
-        };
+        let bag = bag_of(alloc, columns, set.as_slice(), aggregations, rows)?;
         filled.push(SetBag { set, bag })?;
     }
-    Ok(Some(filled))
+    Ok(filled)
 }
 
-/// The bag of a set over the rows of these indexes. None where a column that is wanted was left out.
+/// The bag of a set over the rows of these indexes.
 fn bag_of<H: KeyHash<Cell>>(
     alloc: Global,
     columns: &Columns<H>,
     set: &[usize],
     aggregations: &[Aggregation],
     rows: &[u32],
-) -> Result<Option<Bag<H>>, AllocError>
-    requires { HaveRows columns.now rows.now }
+) -> Result<Bag<H>, AllocError>
+    requires rows { HaveRows columns.now rows.now }
+    requires set { HaveAll set.now columns.now }
+    requires read { HaveAll (read_by_all aggregations.now) columns.now }
     ensures { (all : List RowValue) → Hold all columns.now →
-        IfOk result (λ made. IfSome made (λ bag. Covers aggregations.now set.now (picked_rows all rows.now) bag)) }
+        IfOk result (λ bag. Covers aggregations.now set.now (picked_rows all rows.now) bag) }
 {
-    let Some(groups) = groups_of(alloc, columns, set, rows)? else {
-        return Ok(None);
-    };
-    let Some(tallies) = tallies(alloc, columns, aggregations, rows, &groups)? else {
-        return Ok(None);
-    };
+    let groups = groups_of(alloc, columns, set, rows)?;
+    let tallies = tallies(alloc, columns, aggregations, rows, &groups)?;
     let groups = listed(alloc, groups.tuples.as_slice(), tallies.as_slice())?;
-    Ok(Some(Bag::of(alloc, groups)))
+    Ok(Bag::of(alloc, groups))
 }
 
-/// The accumulators of each aggregate, in their order, for all groups. None where a column was left out.
+/// The accumulators of each aggregate, in their order, for all groups.
 fn tallies<H: KeyHash<Cell>>(
     alloc: Global,
     columns: &Columns<H>,
     aggregations: &[Aggregation],
     rows: &[u32],
     groups: &NumberedRows,
-) -> Result<Option<Vec<Vec<Acc<H>>>>, AllocError>
+) -> Result<Vec<Vec<Acc<H>>>, AllocError>
     requires rows { HaveRows columns.now rows.now }
+    requires read { HaveAll (read_by_all aggregations.now) columns.now }
     requires all { NumberAll (length rows.now) groups.now.numbers.items groups.now.tuples.items }
     ensures { (all : List RowValue) → Hold all columns.now →
-        IfOk result (λ made. IfSome made (λ v. AllZip (TalliesRows (picked_rows all rows.now) groups.now.numbers.items (length groups.now.tuples.items)) aggregations.now (map (λ accs. accs.items) v.items))) }
+        IfOk result (λ v. AllZip (TalliesRows (picked_rows all rows.now) groups.now.numbers.items (length groups.now.tuples.items)) aggregations.now (map (λ accs. accs.items) v.items)) }
 {
     let mut tallies = Vec::with_capacity(alloc, aggregations.len())?;
     for aggregation in aggregations {
-        let Some(accs) = tally(alloc, columns, aggregation, rows, groups)? else {
-            return Ok(None);
-        };
+        let accs = tally(alloc, columns, aggregation, rows, groups)?;
         tallies.push(accs)?;
     }
-    Ok(Some(tallies))
+    Ok(tallies)
 }
 
-/// The accumulators of an aggregate for all groups. None where its column was left out.
+/// The accumulators of an aggregate for all groups.
 fn tally<H: KeyHash<Cell>>(
     alloc: Global,
     columns: &Columns<H>,
     aggregation: &Aggregation,
     rows: &[u32],
     groups: &NumberedRows,
-) -> Result<Option<Vec<Acc<H>>>, AllocError>
+) -> Result<Vec<Acc<H>>, AllocError>
     requires rows { HaveRows columns.now rows.now }
+    requires read { HaveAll (read_by aggregation.now.kind aggregation.now.column) columns.now }
     requires all { NumberAll (length rows.now) groups.now.numbers.items groups.now.tuples.items }
     ensures { (all : List RowValue) → Hold all columns.now →
-        IfOk result (λ made. IfSome made (λ v. TalliesRows (picked_rows all rows.now) groups.now.numbers.items (length groups.now.tuples.items) aggregation.now v.items)) }
+        IfOk result (λ v. TalliesRows (picked_rows all rows.now) groups.now.numbers.items (length groups.now.tuples.items) aggregation.now v.items) }
 {
     let count = groups.tuples.len();
     let numbers = groups.numbers.as_slice();
     if let Kind::CountRows = aggregation.kind {
-        return Ok(Some(counted(alloc, count, numbers)?));
+        return Ok(counted(alloc, count, numbers)?);
     }
-    let Some(column) = columns.at(aggregation.column) else {
-        return Ok(None);
-    };
-    let accs = tallied(alloc, aggregation.kind, count, numbers, rows, column)?;
-    Ok(Some(accs))
+    let column = column_of(columns, aggregation.column);
+    Ok(tallied(
+        alloc,
+        aggregation.kind,
+        count,
+        numbers,
+        rows,
+        column,
+    )?)
 }
 
 /// The groups of these tuples, each with its accumulators.

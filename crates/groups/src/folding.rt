@@ -1,9 +1,12 @@
-//! Rows folded piece by piece.
-ghost use Rattle.std.specs.Prelude.{◌≡◌, [], List, ◌++◌, IfOk, IfSome};
+//! Rows folded into groups.
+ghost use Rattle.std.specs.Prelude.{◌≡◌, ◌≤◌, ◌^◌, [], List, ◌++◌, IfOk, length};
+ghost use Rattle.std.specs.List.{range_with_len};
+ghost use Rattle.aggs.specs.Room.{cell_limit};
 ghost use Rattle.cells.specs.Values.{RowValue};
 ghost use Rattle.columns.specs.Columns.{Hold};
-ghost use Rattle.groups.specs.Folds.{group_count, FillsSources, Folds, MayFillSources, MayEnd, MayJoin, MayTakeMore};
+ghost use Rattle.groups.specs.Folds.{group_count, Folds, MayEnd, MayJoin};
 ghost use Rattle.groups.specs.Groups.{kept, rows_over};
+ghost use Rattle.groups.specs.Needed.{Serve};
 ghost use Rattle.groups.specs.Numbered.{HaveRows, picked_rows};
 ghost use Rattle.groups.specs.Partials.{Stands, rows_of};
 ghost use Rattle.query.specs.Plans.{PlanTree};
@@ -12,23 +15,22 @@ use crate::aggregation::{Aggregation, aggregations};
 use crate::columnar::sources_from;
 use crate::keeping::kept_by;
 use crate::meeting::all_with_others;
+use crate::needed::needed_columns;
 use crate::partial::Partial;
 use crate::pool::SetBag;
 use crate::pool_rows::rows_of_sources;
 use crate::pool_tries::tries_of;
 use crate::report_row::ReportRow;
 use crate::sources::sources_of;
-use crate::visiting::{KeptRows, fill_source};
 use cells::{Cell, KeyHash, Row, Tuple};
 use columns::Columns;
 use query::Plan;
 use std::alloc::{AllocError, Global};
 use trie::Piece;
 
-/// A partial result in the making, for one worker that takes several pieces: the rows of all go into the same groups,
-/// and the tries are made of them once, in the end. The rows are folded into the groups of a few grouping sets alone,
-/// the sources, from which those of the others are made. It owns copies of the cells that it keeps, and borrows the
-/// plan.
+/// Groups of some rows, from which a partial result or the rows of a report are made. Rows are folded into the groups of a few
+/// grouping sets alone, the sources, from which those of the others are made in the end. It owns copies of the cells that it
+/// keeps, and borrows the plan.
 #[derive(Drop)]
 pub struct Folding<'a, H: KeyHash<Cell>> {
     plan: &'a Plan,
@@ -53,26 +55,22 @@ impl<'a, H: KeyHash<Cell> + KeyHash<Tuple>> Folding<'a, H> {
         })
     }
 
-    /// Takes the rows of the piece for which the plan's WHERE is true, behind those that are there. All of them together
-    /// are at most 4,294,967,296. A row whose group is there takes memory only for what accumulators keep of it. After an
-    /// error nothing is known of the rows, and the folding is to be dropped.
-    pub fn take(&mut self, alloc: Global, piece: &Piece<Cell, Row, H>) -> Result<(), AllocError>
-        requires { MayTakeMore self.old (rows_of piece.now) }
-        ensures { (plan : PlanTree) (rows : List RowValue) → Folds plan rows self.old →
-            IfOk result (λ _. Folds plan (rows ++ kept plan.condition (rows_of piece.now)) self.new) }
+    /// The folding of the rows of the piece for which the plan's WHERE is true. The piece has at most 4,294,967,296 rows.
+    pub fn of_piece(
+        alloc: Global,
+        plan: &'a Plan,
+        piece: &Piece<Cell, Row, H>,
+    ) -> Result<Folding<'a, H>, AllocError>
+        requires { length piece.now ≤ cell_limit }
+        ensures { IfOk result (Folds plan.now (kept plan.now.condition (rows_of piece.now))) }
     {
-        let rows = KeptRows {
-            piece,
-            plan: self.plan,
-            aggregations: self.aggregations.as_slice(),
-        };
-        fill_sources(alloc, &rows, &mut self.sources)?;
-        Ok(())
+        let columns = columns_of_piece(alloc, plan, piece)?;
+        let rows = all_rows(alloc, piece.len())?;
+        Ok(Folding::of_rows(alloc, plan, &columns, rows.as_slice(), false)?)
     }
 
-    /// The folding of those rows for which the plan's WHERE is true, of the rows of these indexes whose columns are at hand. None
-    /// where a column that the plan needs was left out: then the rows are to be folded piece by piece. The only error is that a
-    /// growth was refused.
+    /// The folding of those rows for which the plan's WHERE is true, of the rows of these indexes, whose columns are at hand. The
+    /// only error is that a growth was refused.
     ///
     /// `apart` says that no other rows have tuples of these, as [`deal_out`](crate::deal_out) deals them. It spares the
     /// search for such tuples when foldings are joined, and changes no row of a report.
@@ -82,31 +80,31 @@ impl<'a, H: KeyHash<Cell> + KeyHash<Tuple>> Folding<'a, H> {
         columns: &Columns<H>,
         rows: &[u32],
         apart: bool,
-    ) -> Result<Option<Folding<'a, H>>, AllocError>
-        requires { HaveRows columns.now rows.now }
+    ) -> Result<Folding<'a, H>, AllocError>
+        requires rows { HaveRows columns.now rows.now }
+        requires serve { Serve plan.now columns.now }
         ensures { (all : List RowValue) → Hold all columns.now →
-            IfOk result (λ made. IfSome made (Folds plan.now (kept plan.now.condition (picked_rows all rows.now)))) }
+            IfOk result (Folds plan.now (kept plan.now.condition (picked_rows all rows.now))) }
     {
         let Some(predicate) = plan.condition() else {
             return Folding::of_all(alloc, plan, columns, rows, apart);
         };
-        let Some(kept) = kept_by(alloc, predicate, columns, rows)? else {
-            return Ok(None);
-        };
+        let kept = kept_by(alloc, predicate, columns, rows)?;
         Folding::of_all(alloc, plan, columns, kept.as_slice(), apart)
     }
 
-    /// The folding of the rows of these indexes, whatever the plan's WHERE is for them. None likewise.
+    /// The folding of the rows of these indexes, whatever the plan's WHERE is for them.
     fn of_all(
         alloc: Global,
         plan: &'a Plan,
         columns: &Columns<H>,
         rows: &[u32],
         apart: bool,
-    ) -> Result<Option<Folding<'a, H>>, AllocError>
-        requires { HaveRows columns.now rows.now }
+    ) -> Result<Folding<'a, H>, AllocError>
+        requires rows { HaveRows columns.now rows.now }
+        requires serve { Serve plan.now columns.now }
         ensures { (all : List RowValue) → Hold all columns.now →
-            IfOk result (λ made. IfSome made (Folds plan.now (picked_rows all rows.now))) }
+            IfOk result (Folds plan.now (picked_rows all rows.now)) }
     {
         let none = Folding::new(alloc, plan)?;
         let Folding {
@@ -115,22 +113,19 @@ impl<'a, H: KeyHash<Cell> + KeyHash<Tuple>> Folding<'a, H> {
             sources,
             ..
         } = none;
-        let made = sources_from(
+        let sources = sources_from(
             alloc,
             columns,
             aggregations.as_slice(),
             rows,
             sources.as_slice(),
         )?;
-        let Some(sources) = made else {
-            return Ok(None);
-        };
-        Ok(Some(Folding {
+        Ok(Folding {
             plan,
             aggregations,
             sources,
             apart,
-        }))
+        })
     }
 
     /// How many groups it holds so far, those of all sources together. A tuple may have more than one. It takes no memory.
@@ -208,17 +203,29 @@ impl<'a, H: KeyHash<Cell> + KeyHash<Tuple>> Folding<'a, H> {
     }
 }
 
-/// Folds the rows into the bag of each source.
-fn fill_sources<H: KeyHash<Cell>>(
+/// The columns of the rows of the piece that the plan needs.
+fn columns_of_piece<H: KeyHash<Cell>>(
     alloc: Global,
-    rows: &KeptRows<'_, H>,
-    sources: &mut Vec<SetBag<H>>,
-) -> Result<(), AllocError>
-    requires { MayFillSources rows.now sources.old.items }
-    ensures { IfOk result (λ _. FillsSources rows.now sources.old.items sources.new.items) }
+    plan: &Plan,
+    piece: &Piece<Cell, Row, H>,
+) -> Result<Columns<H>, AllocError>
+    ensures held { IfOk result (Hold (rows_of piece.now)) }
+    ensures serve { IfOk result (Serve plan.now) }
 {
-    for index in 0..sources.len() {
-        fill_source(alloc, rows, &mut sources[index])?;
+    let needed = needed_columns(alloc, plan)?;
+    let mut columns = Columns::of_named(alloc, needed.as_slice())?;
+    columns.take(piece)?;
+    Ok(columns)
+}
+
+/// The indexes of so many rows.
+fn all_rows(alloc: Global, count: u64) -> Result<Vec<u32>, AllocError>
+    requires { count ≤ 2 ^ 32 }
+    ensures { IfOk result (λ v. v.items ≡ range_with_len 0 count) }
+{
+    let mut rows = Vec::with_capacity(alloc, count as usize)?;
+    for row in 0..count {
+        rows.push(row as u32)?;
     }
-    Ok(())
+    Ok(rows)
 }

@@ -1,11 +1,12 @@
 //! The rows that WHERE keeps, of rows whose columns are at hand.
-ghost use Rattle.std.specs.Prelude.{◌≡◌, ◌+◌, ◌<◌, ◌≤◌, ◌^◌, List, IfOk, IfSome, OnOk, length, map};
+ghost use Rattle.std.specs.Prelude.{◌≡◌, ◌+◌, ◌<◌, ◌≤◌, ◌^◌, List, IfOk, OnOk, length, map};
 ghost use Rattle.std.specs.List.{AllByRecursion, range_with_len};
 ghost use Rattle.cells.specs.Values.{RowValue};
-ghost use Rattle.columns.specs.Columns.{Hold};
+ghost use Rattle.columns.specs.Columns.{HaveAll, Hold};
 ghost use Rattle.groups.specs.Groups.{cell_at_index};
 ghost use Rattle.groups.specs.Keeping.{KeptBy, cells_for, chosen, truth_for};
 ghost use Rattle.groups.specs.Numbered.{HaveRows};
+ghost use Rattle.query.specs.Names.{leaves_of};
 ghost use Rattle.query.specs.Trees.{And, predicates_of};
 
 use crate::asking::{are_many, asked_of_each};
@@ -17,16 +18,17 @@ use query::{Predicate, PredicateForm, Truth, truth_by_columns};
 use std::alloc::{AllocError, Global};
 
 /// Those of the places whose rows the predicate is true for. Where AND stands between predicates, each is asked of those alone
-/// that those before it leave. None where a column that it names was left out.
+/// that those before it leave.
 pub fn kept_by<H: KeyHash<Cell>>(
     alloc: Global,
     predicate: &Predicate<usize>,
     columns: &Columns<H>,
     places: &[u32],
-) -> Result<Option<Vec<u32>>, AllocError>
-    requires { HaveRows columns.now places.now }
+) -> Result<Vec<u32>, AllocError>
+    requires rows { HaveRows columns.now places.now }
+    requires there { HaveAll (leaves_of predicate.now) columns.now }
     ensures { (all : List RowValue) → Hold all columns.now →
-        IfOk result (λ made. IfSome made (λ v. KeptBy predicate.now all places.now v.items)) }
+        IfOk result (λ v. KeptBy predicate.now all places.now v.items) }
 {
     if let PredicateForm::And(predicates) = predicate.form() {
         return kept_by_all(alloc, predicates.as_slice(), columns, places);
@@ -34,50 +36,45 @@ pub fn kept_by<H: KeyHash<Cell>>(
     chosen_by(alloc, predicate, columns, places)
 }
 
-/// Those of the places whose rows all predicates are true for. None likewise.
+/// Those of the places whose rows all predicates are true for.
 fn kept_by_all<H: KeyHash<Cell>>(
     alloc: Global,
     predicates: &[Predicate<usize>],
     columns: &Columns<H>,
     places: &[u32],
-) -> Result<Option<Vec<u32>>, AllocError>
-    requires { HaveRows columns.now places.now }
+) -> Result<Vec<u32>, AllocError>
+    requires rows { HaveRows columns.now places.now }
+    requires there { HaveAll (leaves_of (And (predicates_of predicates.now))) columns.now }
     ensures { (all : List RowValue) → Hold all columns.now →
-        IfOk result (λ made. IfSome made (λ v. KeptBy (And (predicates_of predicates.now)) all places.now v.items)) }
+        IfOk result (λ v. KeptBy (And (predicates_of predicates.now)) all places.now v.items) }
 {
     let mut kept = Vec::from_slice(alloc, places)?;
     for predicate in predicates {
-        let Some(fewer) = chosen_by(alloc, predicate, columns, kept.as_slice())? else {
-            return Ok(None);
-        };
-        kept = fewer;
+        kept = chosen_by(alloc, predicate, columns, kept.as_slice())?;
     }
-    Ok(Some(kept))
+    Ok(kept)
 }
 
 /// Those of the places whose rows the predicate is true for. It is asked once for those that have the same cells in the columns
-/// that it names, unless these have about as many different ones as there are rows. None likewise.
+/// that it names, unless these have about as many different ones as there are rows.
 fn chosen_by<H: KeyHash<Cell>>(
     alloc: Global,
     predicate: &Predicate<usize>,
     columns: &Columns<H>,
     places: &[u32],
-) -> Result<Option<Vec<u32>>, AllocError>
-    requires { HaveRows columns.now places.now }
+) -> Result<Vec<u32>, AllocError>
+    requires rows { HaveRows columns.now places.now }
+    requires there { HaveAll (leaves_of predicate.now) columns.now }
     ensures { (all : List RowValue) → Hold all columns.now →
-        IfOk result (λ made. IfSome made (λ v. KeptBy predicate.now all places.now v.items)) }
+        IfOk result (λ v. KeptBy predicate.now all places.now v.items) }
 {
     truth_by_columns();
     let named = predicate.columns(alloc)?;
-    let Some(width) = width_of(columns, named.as_slice()) else {
-        return Ok(None);
-    };
+    let width = width_of(named.as_slice())?;
     if are_many(columns, named.as_slice(), places.len()) {
         return asked_of_each(alloc, predicate, columns, named.as_slice(), width, places);
     }
-    let Some(groups) = groups_of(alloc, columns, named.as_slice(), places)? else {
-        return Ok(None);
-    };
+    let groups = groups_of(alloc, columns, named.as_slice(), places)?;
     let truths = truths(
         alloc,
         predicate,
@@ -86,20 +83,22 @@ fn chosen_by<H: KeyHash<Cell>>(
         groups.tuples.as_slice(),
     )?;
     let kept = chosen(alloc, places, groups.numbers.as_slice(), truths.as_slice())?;
-    Ok(Some(kept))
+    Ok(kept)
 }
 
-/// How many cells a list has that has one for each of these columns. None where there is no such column.
-fn width_of<H: KeyHash<Cell>>(columns: &Columns<H>, named: &[usize]) -> Option<usize>
-    ensures { IfSome result (λ width. AllByRecursion (λ k. k < width) named.now) }
+/// How many cells a list has that has one for each of these columns. The only error is that such a list would be too long for
+/// any memory.
+fn width_of(named: &[usize]) -> Result<usize, AllocError>
+    ensures { IfOk result (λ width. AllByRecursion (λ k. k < width) named.now) }
 {
-    let width = columns.column_count();
+    let mut width = 0usize;
     for index in named {
-        if *index >= width {
-            return None;
-        }
+        let Some(enough) = index.checked_add(1) else {
+            return Err(AllocError);
+        };
+        width = width.max(enough);
     }
-    Some(width)
+    Ok(width)
 }
 
 /// Whether the predicate is true for rows of each of these tuples, whose cells stand in the columns that it names.

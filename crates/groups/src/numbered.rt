@@ -1,12 +1,13 @@
 //! Rows numbered by their groups, column by column.
-ghost use Rattle.std.specs.Prelude.{◌≡◌, ◌++◌, ◌∷◌, [], ℕ, List, IfOk, IfSome, length, map, slice_index_or};
+ghost use Rattle.std.specs.Prelude.{◌≡◌, ◌++◌, ◌∷◌, [], ℕ, List, IfOk, length, map, slice_index_or};
 ghost use Rattle.cells.specs.Values.{RowValue};
 ghost use Rattle.cells.specs.declared.cell.Cell.{Cell};
 ghost use Rattle.cells.specs.declared.cell.Cell.TheVariants.{Null};
-ghost use Rattle.columns.specs.Columns.{Hold, cell_of, cells_at, cells_of};
+ghost use Rattle.columns.specs.Columns.{HaveAll, Hold, cell_of, cells_at, cells_of};
 ghost use Rattle.groups.specs.Numbered.{AreNumbered, HasRows, HaveRows, NumberAll, picked_rows};
 ghost use Rattle.groups.specs.Parting.{AreOfGroups, parted_tuples};
 
+use crate::needed::column_of;
 use crate::parting::{Part, Parts, parted};
 use cells::{Cell, KeyHash, Tuple};
 use columns::{CodeColumn, Columns};
@@ -20,26 +21,24 @@ pub struct NumberedRows {
     pub tuples: Vec<Tuple>,
 }
 
-/// The groups of a set over the rows of these indexes. None where a column was left out.
+/// The groups of a set over the rows of these indexes.
 pub fn groups_of<H: KeyHash<Cell>>(
     alloc: Global,
     columns: &Columns<H>,
     set: &[usize],
     rows: &[u32],
-) -> Result<Option<NumberedRows>, AllocError>
-    requires { HaveRows columns.now rows.now }
+) -> Result<NumberedRows, AllocError>
+    requires rows { HaveRows columns.now rows.now }
+    requires there { HaveAll set.now columns.now }
     ensures { (all : List RowValue) → Hold all columns.now →
-        IfOk result (λ made. IfSome made (λ g. AreNumbered set.now (picked_rows all rows.now) g.numbers.items g.tuples.items)) }
+        IfOk result (λ g. AreNumbered set.now (picked_rows all rows.now) g.numbers.items g.tuples.items) }
 {
     let mut groups = NumberedRows::together(alloc, rows.len())?;
     for index in set {
-        let Some(column) = columns.at(*index) else {
-            return Ok(None);
-        };
-        let finer = groups.cut(alloc, column, rows)?;
+        let finer = groups.cut(alloc, column_of(columns, *index), rows)?;
         groups = finer;
     }
-    Ok(Some(groups))
+    Ok(groups)
 }
 
 /// How many different tuples the columns of a set may have, by the codes that they have. Nothing rests on it.

@@ -59,8 +59,7 @@ impl<H: KeyHash<Cell> + KeyHash<Tuple>> Partial<H> {
         requires { length piece.now ≤ cell_limit }
         ensures { IfOk result (λ p. Stands H.KeyHash-2.hash_of plan.now (kept plan.now.condition (rows_of piece.now)) p) }
     {
-        let mut folding = Folding::new(alloc, plan)?;
-        folding.take(alloc, piece)?;
+        let folding = Folding::of_piece(alloc, plan, piece)?;
         folding.into_partial(alloc)
     }
 

@@ -22,7 +22,7 @@ use board::{Root, Snapshot};
 use cells::{Cell, KeyHash, Refused, Row, Tuple};
 use columns::Columns;
 use crew::{Gate, columns_of, gather_pieces, gather_rows};
-use groups::{ReportRow, any_order};
+use groups::{ReportRow, any_order, needed_columns};
 use query::Plan;
 use std::alloc::{AllocError, Global};
 use std::sync::Wait;
@@ -31,9 +31,9 @@ use trie::{Cutting, Piece, a_map_has_its_entries};
 
 /// The text of the plan's report over the rows of the snapshot, in whatever order they came and however they are cut
 /// into pieces. As many workers as the smaller of `workers`, taken as 1 at least and
-/// [`MAX_WORKERS`](crate::MAX_WORKERS) at most, and the number of pieces fold the pieces, each in a thread of its own, and
-/// are joined before this returns. The gate is told of each piece. An edition of [`COLUMNS_FROM`](crate::COLUMNS_FROM) rows
-/// or more may be answered by its columns, as [`Answering`] says.
+/// [`MAX_WORKERS`](crate::MAX_WORKERS) at most, and the number of pieces lay out columns of the pieces, each in a thread of its
+/// own, and others fold these; all are joined before this returns. The gate is told of each piece. An edition of
+/// [`COLUMNS_FROM`](crate::COLUMNS_FROM) rows or more may be answered by the columns beside it, as [`Answering`] says.
 ///
 /// [`Refused::NoWorker`] where a thread could not be started; otherwise [`Refused::OutOfMemory`] where a growth was
 /// refused, here or for a worker.
@@ -64,10 +64,10 @@ pub fn answer<H: KeyHash<Cell> + KeyHash<Tuple> + Send + Sync, G: Gate, R: Threa
 /// What reports are answered with: where threads and memory come from, how many workers answer a report, how rows are cut
 /// into pieces, from how many rows on an edition has columns, and who is told of the pieces.
 ///
-/// No text depends on these. The first report on an edition of `columns_from` rows or more folds its rows; the second one
-/// lays out their columns, by as many workers, and the gate is told of the pieces that these take. It and all later ones go
-/// over the columns instead: then there are no pieces, and the gate is told of none. Where the columns can't be made, or a plan can't be answered by them, the rows are
-/// folded.
+/// No text depends on these. A report lays out the columns that its plan needs, by as many workers, and lets them go; the gate
+/// is told of the pieces that these take. The second report on an edition of `columns_from` rows or more lays out all columns
+/// but the key's, and these stay beside the edition: it and all later ones go over them, and the gate is told of no pieces.
+/// Where these can't be made, or a plan needs the key's, it is as of the first.
 #[derive(Drop)]
 pub struct Answering<'a, R, G> {
     pub rt: &'a R,
@@ -106,8 +106,8 @@ impl<'a, R: Threads + Wait, G: Gate> Answering<'a, R, G> {
         Ok(text(self.alloc, plan, rows.as_slice())?)
     }
 
-    /// The rows of the plan's report over those of the snapshot: by its columns, where it has so many rows and that goes, and else
-    /// by the pieces that its rows are cut into.
+    /// The rows of the plan's report over those of the snapshot: by the columns beside it, where it has so many rows and that
+    /// goes, and else by columns of the pieces that its rows are cut into.
     fn rows<H: KeyHash<Cell> + KeyHash<Tuple> + Send + Sync>(
         &self,
         snapshot: &Snapshot<H>,
@@ -139,7 +139,7 @@ impl<'a, R: Threads + Wait, G: Gate> Answering<'a, R, G> {
         Ok(folding.into_rows(self.alloc)?)
     }
 
-    /// The rows of the plan's report over `count` rows, which these columns hold. None where the plan can't be answered by them.
+    /// The rows of the plan's report over `count` rows, which these columns hold. None where they lack one that the plan needs.
     fn rows_over_columns<H: KeyHash<Cell> + KeyHash<Tuple> + Send + Sync>(
         &self,
         plan: &Plan,
@@ -150,15 +150,16 @@ impl<'a, R: Threads + Wait, G: Gate> Answering<'a, R, G> {
         ensures { (rows : List RowValue) → Hold rows columns.now → length rows ≡ count →
             IfOk result (λ made. IfSome made (λ v. v.items ≡ report_rows plan.now rows)) }
     {
-        let gathered = gather_rows(self.rt, self.alloc, plan, columns, count, self.workers)?;
-        let Some(folding) = gathered else {
+        let needed = needed_columns(self.alloc, plan)?;
+        if !columns.have_all(needed.as_slice()) {
             return Ok(None);
-        };
+        }
+        let folding = gather_rows(self.rt, self.alloc, plan, columns, count, self.workers)?;
         Ok(Some(folding.into_rows(self.alloc)?))
     }
 
     /// The rows of the plan's report over those of the snapshot, by its columns. None where there are no columns, as at the first
-    /// call for an edition, or where the plan can't be answered by them: then the rows are to be folded.
+    /// call for an edition, or where the plan needs another one.
     fn rows_by_columns<H: KeyHash<Cell> + KeyHash<Tuple> + Send + Sync>(
         &self,
         snapshot: &Snapshot<H>,
@@ -192,8 +193,8 @@ impl<'a, R: Threads + Wait, G: Gate> Answering<'a, R, G> {
     }
 }
 
-/// The columns of an edition's rows, for a table of `width` columns, of which the key's may be left out. None where memory for
-/// them or a worker was refused.
+/// The columns of an edition's rows, for a table of `width` columns, without that of the key, whose cells are as many as the
+/// rows. None where memory for them or a worker was refused.
 fn laid_out<H: KeyHash<Cell> + KeyHash<Tuple> + Send + Sync, G: Gate, R: Threads + Wait>(
     rt: &R,
     alloc: Global,
@@ -207,11 +208,27 @@ fn laid_out<H: KeyHash<Cell> + KeyHash<Tuple> + Send + Sync, G: Gate, R: Threads
     requires few { len root.now ≤ row_limit }
     ensures { IfSome result (AreColumnsOf root.now) }
 {
+    let Ok(named) = all_but(alloc, width, key) else {
+        return None;
+    };
     let Ok(pieces) = pieces_of(alloc, root, cutting) else {
         return None;
     };
-    let Ok(columns) = columns_of(rt, alloc, pieces.as_slice(), width, key, workers, gate) else {
+    let made = columns_of(rt, alloc, pieces.as_slice(), named.as_slice(), workers, gate);
+    let Ok(mut columns) = made else {
         return None;
     };
+    columns.forget_hints();
     Some(columns)
+}
+
+/// The indexes of all columns but one.
+fn all_but(alloc: Global, width: usize, one: usize) -> Result<Vec<usize>, AllocError> {
+    let mut indexes = Vec::with_capacity(alloc, width)?;
+    for index in 0..width {
+        if index != one {
+            indexes.push(index)?;
+        }
+    }
+    Ok(indexes)
 }

@@ -1,3 +1,2 @@
 pub mod AccsLemmas
-pub mod IndexesLemmas
 pub mod OneRowLemmas

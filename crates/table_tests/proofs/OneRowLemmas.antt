@@ -5,7 +5,7 @@ use Rattle.std.proofs.lemmas.List.{length-append, length-map}
 use Rattle.aggs.specs.declared.acc.Acc.{Acc}
 use Rattle.cells.specs.Values.{RowValue}
 use Rattle.cells.specs.declared.cell.Cell.{Cell}
-use Rattle.groups.specs.Folds.{Folds, MayTakeMore}
+use Rattle.groups.specs.Folds.{Folds, MayJoin}
 use Rattle.groups.specs.Groups.{keeps, kept}
 use Rattle.groups.specs.Laws.{kept_short}
 use Rattle.groups.specs.Partials.{MayMeet, Stands, rows_of}
@@ -19,12 +19,19 @@ pub record HasTaken {H : Type 0} (plan : PlanTree) (count : ℕ) (folding : Fold
   pub folds : Folds plan taken folding
 
 module _ {H : Type 0} (plan : PlanTree) (piece : List (Cell × RowValue)) (short : length piece ≤ 1) where
-  pub may_take : (count : ℕ) (folding : Folding H) → count < 1000 → HasTaken plan count folding → MayTakeMore folding (rows_of piece)
-  may_take count folding h now = record { plan = plan; taken = now.taken; folds = now.folds; few = omega (arith, short, h, now.few, length-map piece (λ e. e.1)) }
+  pub may_join : (count : ℕ) (folding other : Folding H) → count < 1000 → HasTaken plan count folding → Folds plan (kept plan.condition (rows_of piece)) other → MayJoin folding other
+  may_join count folding other h now more = record {
+    plan = plan;
+    rows = now.taken;
+    more = kept plan.condition (rows_of piece);
+    firsts = now.folds;
+    seconds = more;
+    few = omega (arith, short, h, now.few, kept_short (keeps plan.condition) (rows_of piece), length-map piece (λ e. e.1));
+  }
 
-  pub taken_more : (count : ℕ) (old new : Folding H) → HasTaken plan count old →
-      ((plan : PlanTree) (taken : List RowValue) → Folds plan taken old → Folds plan (taken ++ kept plan.condition (rows_of piece)) new) → HasTaken plan (count + 1) new
-  taken_more count old new now more = record {
+  pub taken_more : (count : ℕ) (old other new : Folding H) → HasTaken plan count old → Folds plan (kept plan.condition (rows_of piece)) other →
+      ((plan : PlanTree) (xs ys : List RowValue) → Folds plan xs old → Folds plan ys other → Folds plan (xs ++ ys) new) → HasTaken plan (count + 1) new
+  taken_more count old other new now more joins = record {
     taken = now.taken ++ kept plan.condition (rows_of piece);
     few = omega (
       arith,
@@ -34,7 +41,7 @@ module _ {H : Type 0} (plan : PlanTree) (piece : List (Cell × RowValue)) (short
       length-map piece (λ e. e.1),
       length-append now.taken (kept plan.condition (rows_of piece)),
     );
-    folds = more plan now.taken now.folds;
+    folds = joins plan now.taken (kept plan.condition (rows_of piece)) now.folds more;
   }
 
   pub may_meet : (hash : List Cell → ℕ) (first second : List (List (List Cell × List (Acc H)))) → Stands hash plan (kept plan.condition (rows_of piece)) first →

@@ -1,12 +1,10 @@
 //! Groups while rows are folded into them: how many there are, since no clause rests on how a group is found; and partial
 //! results behind a refusal.
-ghost use Rattle.std.specs.Prelude.{◌≡◌, ◌<◌, ◌≤◌, ℕ, IfOk, IsTrue, length};
-ghost use Rattle.std.specs.List.{AllByRecursion};
+ghost use Rattle.std.specs.Prelude.{◌≡◌, ◌≤◌, IfOk, IsTrue, length};
 ghost use Rattle.groups.specs.Groups.{kept};
 ghost use Rattle.groups.specs.Partials.{MayMeet, Stands, rows_of};
 
 use cells::{Cell, KeyHash, Plain, Refused, Row, Schema, Total, Tuple};
-use columns::Columns;
 use groups::{Folding, Partial, ReportRow};
 use query::{Plan, check, read};
 use std::alloc::{AllocError, Global};
@@ -66,7 +64,7 @@ fn is_short<H: KeyHash<Cell>>(alloc: Global, sale: &Piece<Cell, Row, H>) -> Resu
     Ok(sale.entries(alloc)?.len() <= 1)
 }
 
-/// How many groups there are when both pieces were taken five hundred times in turn; of longer pieces none is taken.
+/// How many groups there are when foldings of both pieces were joined five hundred times in turn; of longer pieces none is.
 fn groups_of(
     alloc: Global,
     plan: &Plan,
@@ -77,8 +75,8 @@ fn groups_of(
     if is_short(alloc, first)? {
         if is_short(alloc, second)? {
             for _i in 0..500u64 {
-                folding.take(alloc, first)?;
-                folding.take(alloc, second)?;
+                folding = folding.join(alloc, Folding::of_piece(alloc, plan, first)?)?;
+                folding = folding.join(alloc, Folding::of_piece(alloc, plan, second)?)?;
             }
         }
     }
@@ -91,7 +89,7 @@ fn planned(alloc: Global, schema: &Schema, query: &str) -> Result<Plan, Refused>
     check(alloc, query, schema)
 }
 
-/// How many groups the query has when both pieces were taken five hundred times in turn.
+/// How many groups the query has when foldings of both pieces were joined five hundred times in turn.
 fn counted(
     alloc: Global,
     schema: &Schema,
@@ -103,7 +101,7 @@ fn counted(
     Ok(groups_of(alloc, &plan, first, second)?)
 }
 
-/// How many groups there are by tuple when rows of both tuples were taken five hundred times in turn.
+/// How many groups there are by tuple when foldings of rows of both tuples were joined five hundred times in turn.
 fn groups_in_turn(
     alloc: Global,
     schema: &Schema,
@@ -188,36 +186,17 @@ fn row_count<H: KeyHash<Cell>>(
     Ok(piece.entries(alloc)?.len())
 }
 
-/// How many groups the rows of the piece have, of which the columns are laid out; 0 where that can't be told.
-fn groups_by_columns(
+/// How many groups the rows of the piece have; 0 where there are too many rows.
+fn groups_in(
     alloc: Global,
     plan: &Plan,
     piece: &Piece<Cell, Row, Plain>,
 ) -> Result<u128, AllocError> {
-    let mut columns: Columns<Plain> = Columns::new(alloc, 3)?;
-    columns.take(piece)?;
-    let count = row_count(alloc, piece)?;
-    if count > 2_000 {
+    if row_count(alloc, piece)? > 2_000 {
         return Ok(0);
     }
-    let rows = indexes(alloc, count)?;
-    let Some(folding) = Folding::of_rows(alloc, plan, &columns, rows.as_slice(), false)? else {
-        return Ok(0);
-    };
+    let folding = Folding::of_piece(alloc, plan, piece)?;
     Ok(folding.groups())
-}
-
-/// The indexes of so many rows.
-fn indexes(alloc: Global, count: usize) -> Result<Vec<u32>, AllocError>
-    requires { count ≤ 2000 }
-    ensures below { (n : ℕ) → count ≤ n → IfOk result (λ v. AllByRecursion (λ i. i < n) v.items) }
-    ensures long { IfOk result (λ v. length v.items ≡ count) }
-{
-    let mut indexes = Vec::with_capacity(alloc, count)?;
-    for index in 0..count {
-        indexes.push(index as u32)?;
-    }
-    Ok(indexes)
 }
 
 /// The same by both columns.
@@ -227,7 +206,7 @@ fn counted_by_columns(
     piece: &Piece<Cell, Row, Plain>,
 ) -> Result<u128, Refused> {
     let plan = planned(alloc, schema, BY_PAIR)?;
-    Ok(groups_by_columns(alloc, &plan, piece)?)
+    Ok(groups_in(alloc, &plan, piece)?)
 }
 
 /// A part of a group is found again in a table of hashes: else each row would make one more.

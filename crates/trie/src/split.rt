@@ -1,5 +1,5 @@
 //! Cutting a map into pieces.
-ghost use Rattle.std.specs.Prelude.{◌≡◌, ◌++◌, ◌∷◌, ◌&&◌, [], IfOk, OnOk, nat_lt};
+ghost use Rattle.std.specs.Prelude.{◌≡◌, ◌++◌, ◌∷◌, ◌&&◌, [], IfOk, OnOk, length, nat_lt};
 ghost use Rattle.std.specs.Map.{keys_of};
 ghost use Rattle.trie.specs.Cuts.{IsPiece};
 ghost use Rattle.trie.specs.Maps.{RiseByHash};
@@ -12,7 +12,7 @@ ghost use Rattle.trie.specs.Splitting.{IsCut, IsCuttable};
 use crate::cutting::Cutting;
 use crate::digits::SLOTS;
 use crate::entries::with_entries;
-use crate::node::{Inner, Node, Seen, child_at};
+use crate::node::{Inner, Node, Seen, child_at, node_len};
 use crate::walk::{Visitor, walk_node};
 use cells::KeyHash;
 use std::alloc::{AllocError, Global};
@@ -46,6 +46,13 @@ impl<K: Ord, V, H: KeyHash<K>> Piece<K, V, H> {
         ensures { OnOk result (TakesAll W.takes visitor.old self.now visitor.new) }
     {
         walk_node(&self.node, visitor)
+    }
+
+    /// How many entries there are. It takes no memory.
+    pub fn len(&self) -> u64
+        ensures { result ≡ length self.now }
+    {
+        node_len(&self.node)
     }
 
     /// What is known of each piece: its keys rise in digit order. It does nothing.

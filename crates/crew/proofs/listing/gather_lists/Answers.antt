@@ -1,5 +1,4 @@
-use Rattle.std.proofs.Common.{◌≡◌, map, subst, sym}
-use Rattle.std.specs.Prelude.{IfSome, Some}
+use Rattle.std.proofs.Common.{subst, sym}
 use Rattle.crew.specs.Listing.{AreDealt, Listed}
 use Rattle.crew.proofs.ListingLemmas.{lists_folded, lists_may_be_joined}
 use Rattle.groups.specs.Dealing.{indexes_of}
@@ -9,13 +8,10 @@ use Rattle.crew.proofs.listing.gather_lists.Goals as goal
 pub joined-requires : goal.joined-requires
 joined-requires g c =
     let listed : Listed = record { plan = c.args.plan.now; columns = c.args.columns.now; count = c.args.count; lists = indexes_of c.as_slice.result.now } in
-    let made = c.in_ok-foldings.foldings.items in
-    let is = subst (λ some. IfSome some (λ all. made ≡ map Some all.items)) c.in-Some.is c.in_ok-foldings-2.ensures in
-    lists_may_be_joined listed (subst (λ l. AreDealt c.args.count (indexes_of l)) (sym c.as_slice.ensures.value) c.requires.dealt) c.requires.rows made c.in-Some.foldings.items is c.in_ok-foldings.ensures.shared
+    lists_may_be_joined listed (subst (λ l. AreDealt c.args.count (indexes_of l)) (sym c.as_slice.ensures.value) c.requires.dealt) c.requires.rows c.in_ok-foldings.foldings.items c.in_ok-foldings.ensures.shared
 
 pub returns-clause-folds : goal.returns-clause-folds
 returns-clause-folds g c = λ rows held counted.
     let listed : Listed = record { plan = c.args.plan.now; columns = c.args.columns.now; count = c.args.count; lists = indexes_of c.as_slice.result.now } in
-    let made = c.in_ok-foldings.foldings.items in
-    let is = subst (λ some. IfSome some (λ all. made ≡ map Some all.items)) c.in-Some.is c.in_ok-foldings-2.ensures in
-    c.in_ok-joined.ensures.folds (kept listed.plan.condition rows) (lists_folded listed (subst (λ l. AreDealt c.args.count (indexes_of l)) (sym c.as_slice.ensures.value) c.requires.dealt) rows held counted made c.in-Some.foldings.items is c.in_ok-foldings.ensures.shared)
+    c.in_ok-joined.ensures.folds (kept listed.plan.condition rows)
+    (lists_folded listed (subst (λ l. AreDealt c.args.count (indexes_of l)) (sym c.as_slice.ensures.value) c.requires.dealt) rows held counted c.in_ok-foldings.foldings.items c.in_ok-foldings.ensures.shared)

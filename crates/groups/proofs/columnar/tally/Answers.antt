@@ -27,10 +27,10 @@ pub tallied-requires : goal.tallied-requires
 tallied-requires g c =
     let may = c.requires.rows in
     let a = c.args.aggregation.now in
-    let column = c.in-Some.column.now in
+    let column = c.column_of-column.result.now in
     let rows : List ℕ = c.args.rows.now in
     let has : HasRows column rows =
-    has_rows c.args.columns.now column a.column rows may (c.in-Some.ensures.cells may.rows may.held) in
+    has_rows c.args.columns.now column a.column rows may (c.column_of-column.ensures may.rows may.held) in
     record {
       rows = has;
       numbers = (
@@ -44,12 +44,12 @@ pub returns : goal.returns
 returns g c = λ all held.
     let may = c.requires.rows in
     let a = c.args.aggregation.now in
-    let column = c.in-Some.column.now in
+    let column = c.column_of-column.result.now in
     let rows : List ℕ = c.args.rows.now in
     let has : HasRows column rows =
-    has_rows c.args.columns.now column a.column rows may (c.in-Some.ensures.cells may.rows may.held) in
+    has_rows c.args.columns.now column a.column rows may (c.column_of-column.ensures may.rows may.held) in
     let read : decoded column.cells (codes_at column.by_row rows) ≡ column_of a.column (picked_rows all rows) =
-    cells_picked column a.column all rows (c.in-Some.ensures.cells all held) has.within in
-    subst (λ count. AreTallied a.kind count c.args.groups.now.numbers.items (column_of a.column (picked_rows all rows)) c.in_ok-accs.accs.items) (omega (arith, c.len-count.ensures, c.args.groups.now.tuples.ok.0))
-    (subst (λ l. AreTallied a.kind c.len-count.result l (column_of a.column (picked_rows all rows)) c.in_ok-accs.accs.items) c.as_slice-numbers.ensures.value
-    (subst (λ l. AreTallied a.kind c.len-count.result c.as_slice-numbers.result.now l c.in_ok-accs.accs.items) read c.in_ok-accs.ensures))
+    cells_picked column a.column all rows (c.column_of-column.ensures all held) has.within in
+    subst (λ count. AreTallied a.kind count c.args.groups.now.numbers.items (column_of a.column (picked_rows all rows)) c.in_ok-tallied.field-0.items) (omega (arith, c.len-count.ensures, c.args.groups.now.tuples.ok.0))
+    (subst (λ l. AreTallied a.kind c.len-count.result l (column_of a.column (picked_rows all rows)) c.in_ok-tallied.field-0.items) c.as_slice-numbers.ensures.value
+    (subst (λ l. AreTallied a.kind c.len-count.result c.as_slice-numbers.result.now l c.in_ok-tallied.field-0.items) read c.in_ok-tallied.ensures))

@@ -1,26 +1,28 @@
 use Rattle.std.proofs.Common.{[], arith, rules, subst, sym, take}
 use Rattle.std.proofs.lemmas.List.{take_all}
-use Rattle.std.specs.Prelude.{IfSome}
 use Rattle.groups.specs.Keeping.{KeptBy}
 use Rattle.groups.specs.Numbered.{HaveRows}
 use Rattle.query.specs.Trees.{And, predicates_of}
 use Rattle.groups.proofs.KeepingLemmas.{kept_by_none, kept_by_more, still_have_rows}
+use Rattle.groups.proofs.NeededLemmas.{each_there}
 use Rattle.groups.proofs.keeping.kept_by_all.Goals as goal
 
 pub loop-predicate-init : goal.loop-predicate-init
 loop-predicate-init g c = λ all held. subst (KeptBy (And (predicates_of [])) all c.args.places.now) (sym c.in_ok-kept.ensures.items) (kept_by_none all c.args.places.now)
 
 pub chosen_by-requires : goal.chosen_by-requires
-chosen_by-requires g c =
-    subst (HaveRows c.args.columns.now) (sym c.as_slice.ensures.value)
-    (still_have_rows c.args.columns.now c.args.places.now c.loop-predicate.kept.items c.requires (And (predicates_of (take c.loop-predicate.predicate-index c.args.predicates.now))) c.loop-predicate.invariant)
+chosen_by-requires g c = record {
+  rows =
+      subst (HaveRows c.args.columns.now) (sym c.as_slice.ensures.value)
+      (still_have_rows c.args.columns.now c.args.places.now c.loop-predicate.kept.items c.requires.rows (And (predicates_of (take c.loop-predicate.predicate-index c.args.predicates.now))) c.loop-predicate.invariant);
+  there = each_there c.args.columns.now c.args.predicates.now c.loop-predicate.predicate-index c.predicate-item.result c.loop-predicate-test.true (search rules) c.requires.there;
+}
 
 pub loop-predicate-preserved : goal.loop-predicate-preserved
 loop-predicate-preserved g c = λ all held.
-    kept_by_more c.args.predicates.now c.loop-predicate.predicate-index c.predicate-item.result all c.args.places.now c.loop-predicate.kept.items c.in-Some.fewer.items c.loop-predicate-test.true
+    kept_by_more c.args.predicates.now c.loop-predicate.predicate-index c.predicate-item.result all c.args.places.now c.loop-predicate.kept.items c.in_ok-kept-2.kept.items c.loop-predicate-test.true
     (search rules) (c.loop-predicate.invariant all held)
-    (subst (λ l. KeptBy c.predicate-item.result all l c.in-Some.fewer.items) c.as_slice.ensures.value
-    (subst (λ o. IfSome o (λ v. KeptBy c.predicate-item.result all c.as_slice.result.now v.items)) c.in-Some.is (c.in_ok-fewer.ensures all held)))
+    (subst (λ l. KeptBy c.predicate-item.result all l c.in_ok-kept-2.kept.items) c.as_slice.ensures.value (c.in_ok-kept-2.ensures all held))
 
 pub returns : goal.returns
 returns g c = λ all held.

@@ -3,4 +3,4 @@ use Rattle.std.specs.List.{AllByRecursion}
 use Rattle.groups.proofs.keeping.width_of.Given as goal
 
 abbrev pub invariant-loop-index : goal.invariant-loop-index
-invariant-loop-index g l = AllByRecursion (λ k. k < l.width) (take l.index-index l.named)
+invariant-loop-index l = AllByRecursion (λ k. k < l.width) (take l.index-index l.named)

@@ -1,4 +1,4 @@
-use Rattle.std.proofs.Common.{List, ℕ, ap, arith, length, ◌++◌, ◌≡◌, ◌∙◌}
+use Rattle.std.proofs.Common.{List, ℕ, ap, arith, ◌++◌, ◌≡◌, ◌∙◌}
 use Rattle.std.specs.Prelude.{Some}
 use Rattle.std.proofs.lemmas.List.{take_all}
 use Rattle.columns.specs.Columns.{decoded}

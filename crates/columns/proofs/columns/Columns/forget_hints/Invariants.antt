@@ -1,5 +1,5 @@
 use Rattle.std.proofs.Common.{◌≡◌}
 use Rattle.columns.proofs.columns.Columns.forget_hints.Given as goal
 
-abbrev pub invariant-loop-index : goal.invariant-loop-index
-invariant-loop-index g l = l.self ≡ l.fn.self
+abbrev pub invariant-loop-place : goal.invariant-loop-place
+invariant-loop-place g l = l.self-inside.columns.items ≡ l.initial.self-inside.columns.items

@@ -1,4 +1,4 @@
-use Rattle.std.proofs.Common.{List, ℕ, ap, arith, length, map, ◌∙◌}
+use Rattle.std.proofs.Common.{List, ℕ, ap, arith, length, ◌∙◌}
 use Rattle.std.proofs.lemmas.List.{length-map, length-replicate, length-set}
 use Rattle.std.specs.Prelude.{[]}
 use Rattle.groups.specs.Dealing.{indexes_of}
