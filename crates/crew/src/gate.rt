@@ -22,13 +22,25 @@ pub trait Gate: Sync {
     /// by the viewer's thread.
     fn viewing(&self, _viewer: u64, _edition: u64) {}
 
+    /// A list of so many parts is about to be loaded. Called by the thread of the keeper, before a part is read.
+    fn loading(&self, _parts: u64) {}
+
     /// The part at this place of a list of parts, counted from 0, is about to be read. Called by the worker that
     /// drew the place.
     fn reading(&self, _place: u64) {}
 
+    /// The part at this place was read: it has so many records after its header, up to the first faulty one. Called by the
+    /// worker that drew the place.
+    fn read(&self, _place: u64, _records: u64) {}
+
     /// A trie is about to be made of a run of the rows of a list of parts: of the first one, whose place is 0, or of the one in
     /// the middle, whose place is that of the middle of the list. Called by the thread that makes it.
     fn merging(&self, _place: u64) {}
+
+    /// The report of the line of this number, counted from 1, has its text: it is on the edition of that number, which has so
+    /// many rows, and has so many groups, which are its own rows. A report that no line asks for, as one of a viewer, has the
+    /// line 0. Called by the thread that answers the report.
+    fn reported(&self, _line: u64, _edition: u64, _rows: u64, _groups: u64) {}
 
     /// The line of this number, counted from 1, is refused for this fault; the line 0 is the script as a whole. Called once
     /// for each refused line, in their order, by the thread of the keeper, once the line's block is made and before it is

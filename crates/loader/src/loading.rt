@@ -34,11 +34,11 @@ use trie::Trie;
 ///
 /// As many workers as the smaller of `workers`, taken as 1 at least and [`MAX_SEATS`](crew::MAX_SEATS) at most, and the
 /// number of places read the parts, each worker in a thread of its own; what is read depends neither on their number nor
-/// on which worker reads which part. The gate is told of each place before its part is read. Where no record is faulty, a
-/// trie is then made of the rows, in two runs where there are two places or more, or in as many as there are workers, if
-/// these are more. One worker makes one run after another; more of them make a run each, in threads of their own. The gate
-/// is told of the first run before it is made, as of place 0, and of the one in the middle, as of the middle of the list.
-/// This waits for all threads that it starts, however it ends.
+/// on which worker reads which part. The gate is told of the list, and of each place before its part is read and after
+/// that. Where no record is faulty, a trie is then made of the rows, in two runs where there are two places or more, or in
+/// as many as there are workers, if these are more. One worker makes one run after another; more of them make a run each,
+/// in threads of their own. The gate is told of the first run before it is made, as of place 0, and of the one in the
+/// middle, as of the middle of the list. This waits for all threads that it starts, however it ends.
 ///
 /// [`PartFault::NoWorker`] where a thread could not be started; otherwise [`PartFault::OutOfMemory`] where there was no
 /// memory, here or for a worker; otherwise [`PartFault::Bad`] where a part has a faulty record, with the first listed
@@ -56,6 +56,7 @@ pub fn load<H: KeyHash<Cell> + Send + Sync, G: Gate, R: Threads + Wait>(
     ensures loaded { Loads (rows_of_parts schema.now (map part_of parts.now)) result }
     ensures fits { IfOk result (λ trie. AreRowsOf schema.now (map_of cell_cmp trie)) }
 {
+    gate.loading(parts.len() as u64);
     let reading = Reading {
         parts,
         schema,
@@ -115,7 +116,16 @@ impl<'a, G: Gate, H: KeyHash<Cell> + Send + Sync> Task for Reading<'a, G, H> {
         self.gate.reading(place);
         // A faulty record is a result as any other, so that the parts of all places are read.
         let content = read_part::<H>(alloc, self.bytes(place), self.schema)?;
+        self.gate.read(place, records_in(&content));
         Ok(made.push(Found { place, content })?)
+    }
+}
+
+/// How many records of a part were read that are not faulty.
+fn records_in(content: &Content) -> u64 {
+    match content {
+        Ok(rows) => rows.count(),
+        Err(number) => number.saturating_sub(1),
     }
 }
 

@@ -1,5 +1,5 @@
 //! Rows spread over shares by the hashes of their keys.
-ghost use Rattle.std.specs.Prelude.{◌≡◌, ◌<◌, ◌++◌, ◌∷◌, [], ℕ, IfOk, length, map, replicate};
+ghost use Rattle.std.specs.Prelude.{◌≡◌, ◌<◌, ◌-◌, ◌^◌, ◌++◌, ◌∷◌, [], ℕ, IfOk, length, map, min, replicate, sum_by};
 ghost use Rattle.cells.specs.declared.cell.Cell.{Cell};
 ghost use Rattle.loader.specs.Shares.{AreSpread, Pairs, in_shares, lists, share_count, share_of};
 
@@ -42,6 +42,17 @@ impl Spread {
         let share = share_of(H::hash(&key));
         self.shares[share].push((key, row))?;
         Ok(())
+    }
+
+    /// How many rows there are, up to the greatest number.
+    pub fn count(&self) -> u64
+        ensures { result ≡ min (sum_by (λ rows. length rows.items) self.now.shares.items) (2 ^ 64 - 1) }
+    {
+        let mut count = 0u64;
+        for rows in self.shares.as_slice() {
+            count = count.saturating_add(rows.len() as u64);
+        }
+        count
     }
 }
 

@@ -38,7 +38,7 @@ with_report w edition plan = record { reports = w.reports ++ record { before = w
 
 -- what is known of a report whose thread was started
 abbrev pub under_way : {H : Type 0} → Pending H → UnderWay
-under_way p = record { before = p.before.items; edition = p.answer.promise.edition.value; plan = p.answer.promise.plan.value }
+under_way p = record { before = p.before.items; edition = p.answer.handle.promise.edition.value; plan = p.answer.handle.promise.plan.value }
 
 -- the plan has this answer on the edition, and no other
 abbrev pub HasAnswer : Edition → PlanTree → List ℕ → Type 0

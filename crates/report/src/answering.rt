@@ -32,8 +32,9 @@ use trie::{Cutting, Piece, a_map_has_its_entries};
 /// The text of the plan's report over the rows of the snapshot, in whatever order they came and however they are cut
 /// into pieces. As many workers as the smaller of `workers`, taken as 1 at least and
 /// [`MAX_WORKERS`](crate::MAX_WORKERS) at most, and the number of pieces lay out columns of the pieces, each in a thread of its
-/// own, and others fold these; all are joined before this returns. The gate is told of each piece. An edition of
-/// [`COLUMNS_FROM`](crate::COLUMNS_FROM) rows or more may be answered by the columns beside it, as [`Answering`] says.
+/// own, and others fold these; all are joined before this returns. The gate is told of each piece, and of the report as of
+/// the line 0. An edition of [`COLUMNS_FROM`](crate::COLUMNS_FROM) rows or more may be answered by the columns beside it, as
+/// [`Answering`] says.
 ///
 /// [`Refused::NoWorker`] where a thread could not be started; otherwise [`Refused::OutOfMemory`] where a growth was
 /// refused, here or for a worker.
@@ -58,7 +59,7 @@ pub fn answer<H: KeyHash<Cell> + KeyHash<Tuple> + Send + Sync, G: Gate, R: Threa
         columns_from: COLUMNS_FROM,
         gate,
     };
-    Ok(answering.text(snapshot, plan)?)
+    Ok(answering.text(0, snapshot, plan)?)
 }
 
 /// What reports are answered with: where threads and memory come from, how many workers answer a report, how rows are cut
@@ -91,9 +92,11 @@ impl<R, G> Clone for Answering<'_, R, G> {
 impl<R, G> Copy for Answering<'_, R, G> {}
 
 impl<'a, R: Threads + Wait, G: Gate> Answering<'a, R, G> {
-    /// The text of the plan's report over the rows of the snapshot.
+    /// The text of the plan's report over the rows of the snapshot, for the line of this number, or 0 where no line asks. The
+    /// gate is told of it.
     pub(crate) fn text<H: KeyHash<Cell> + KeyHash<Tuple> + Send + Sync>(
         &self,
+        line: u64,
         snapshot: &Snapshot<H>,
         plan: &Plan,
     ) -> Result<Vec<u8>, Want>
@@ -103,7 +106,14 @@ impl<'a, R: Threads + Wait, G: Gate> Answering<'a, R, G> {
         any_order::<H>();
         a_map_has_its_entries::<Cell, Row>();
         let rows = self.rows(snapshot, plan)?;
-        Ok(text(self.alloc, plan, rows.as_slice())?)
+        let text = text(self.alloc, plan, rows.as_slice())?;
+        self.gate.reported(
+            line,
+            snapshot.edition(),
+            snapshot.root().len(),
+            rows.len() as u64,
+        );
+        Ok(text)
     }
 
     /// The rows of the plan's report over those of the snapshot: by the columns beside it, where it has so many rows and that

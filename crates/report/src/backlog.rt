@@ -1,5 +1,5 @@
 //! Text that waits to be written behind reports that are under way.
-ghost use Rattle.std.specs.Prelude.{◌≡◌, ℕ, ◌+◌, ◌<◌, ◌≤◌, ◌^◌, ◌++◌, ◌∷◌, [], List, length, IfErr, IfOk, IsErrOf, OnErr, OnOk};
+ghost use Rattle.std.specs.Prelude.{◌≡◌, ℕ, ◌+◌, ◌<◌, ◌≤◌, ◌^◌, ◌++◌, ◌∷◌, [], List, length, true, IfErr, IfOk, IsErrOf, OnErr, OnOk};
 ghost use Rattle.std.specs.Io.KnownBytes.{Appends};
 ghost use Rattle.report.specs.Limits.{under_way_limit};
 ghost use Rattle.report.specs.Taken.{TakesBeginning};
@@ -10,7 +10,7 @@ ghost use Rattle.report.specs.declared.want.Want.TheVariants as want;
 
 use crate::limits::MAX_REPORTS;
 use crate::out::{Out, write_whole};
-use crate::starting::{AnswerOf, Starter};
+use crate::starting::{Started, Starter};
 use crate::unwritten::Unwritten;
 use crate::want::Want;
 use board::Snapshot;
@@ -22,13 +22,13 @@ use std::collections::VecDeque;
 use std::marker::Model;
 use std::mem;
 use std::sync::Wait;
-use std::thread::{PromisedHandle, Threads};
+use std::thread::Threads;
 
 /// A report whose thread was started, with the text that is written before its answer.
 #[derive(Drop)]
 struct Pending<H: KeyHash<Cell>> {
     before: Vec<u8>,
-    answer: PromisedHandle<Result<Vec<u8>, Want>, AnswerOf<H>>,
+    answer: Started<H>,
 }
 
 /// What waits to be written, in order: the answers of reports that are under way, of which there are at most
@@ -166,7 +166,8 @@ impl<H: KeyHash<Cell>> Backlog<H> {
         self.write_after(out)
     }
 
-    /// Starts a report in a thread of its own. The heading and then the answer are written once all that waits is.
+    /// Starts the report of the line of this number in a thread of its own. The heading and then the answer are written once
+    /// all that waits is.
     /// Where [`MAX_REPORTS`] are under way, the oldest is waited for first, and written; where fewer are, none is waited
     /// for and nothing is written.
     ///
@@ -176,6 +177,7 @@ impl<H: KeyHash<Cell>> Backlog<H> {
         &mut self,
         starter: &Starter<'_, 's, 'e, R, G>,
         out: &mut O,
+        line: u64,
         heading: &[u8],
         snapshot: Snapshot<H>,
         plan: Plan,
@@ -187,7 +189,7 @@ impl<H: KeyHash<Cell>> Backlog<H> {
         ensures early { length self.old.reports < under_way_limit → (out.new ≡ out.old) × OnOk result (self.new ≡ with_report (with_text self.old heading.now) snapshot plan) }
     {
         let (snapshot, plan) = self.make_way(starter.answering.rt, out, heading, (snapshot, plan))?;
-        self.push_report(starter, snapshot, plan)?;
+        self.push_report(starter, line, snapshot, plan)?;
         Ok(())
     }
 
@@ -195,6 +197,7 @@ impl<H: KeyHash<Cell>> Backlog<H> {
     fn push_report<'s, 'e: 's, R: Threads + Wait + Sync, G: Gate>(
         &mut self,
         starter: &Starter<'_, 's, 'e, R, G>,
+        line: u64,
         snapshot: Snapshot<H>,
         plan: Plan,
     ) -> Result<(), Want>
@@ -203,10 +206,40 @@ impl<H: KeyHash<Cell>> Backlog<H> {
         requires { length self.old.reports < under_way_limit }
         ensures { OnOk result (self.new ≡ with_report self.old snapshot plan) }
     {
-        let answer = starter.start(snapshot, plan)?;
+        let answer = starter.start(line, snapshot, plan)?;
         let before = mem::replace(&mut self.after, Vec::new(self.alloc));
         self.reports.push_back(Pending { before, answer })?;
         Ok(())
+    }
+
+    /// Whether the oldest report has ended, as far as it is known. It does not wait.
+    fn has_ended_one(&self) -> bool
+        ensures { result ≡ true → 0 < length self.now.reports }
+    {
+        match self.reports.front() {
+            Some(oldest) => oldest.answer.has_ended(),
+            None => false,
+        }
+    }
+
+    /// Writes what need not wait any more: the reports that have ended, up to the oldest that is still under way, and what
+    /// waits before them; and all, where none is under way. It waits for no report that goes on.
+    ///
+    /// What is wanted, a report wanted.
+    pub fn write_ended<O: Out, R: Threads>(&mut self, rt: &R, out: &mut O) -> Result<(), Unwritten>
+        requires { O.faults out.old + 1 < 2 ^ 64 }
+        ensures goes_on { WritesOn O.taken O.faults out.old out.new self.new (Awaits self.old) result }
+        ensures at_once { self.new.reports ≡ [] → OnOk result (self.new.after ≡ []) }
+        ensures fewer { length self.new.reports ≤ length self.old.reports }
+        ensures worker { IsErrOf result (unwritten.Want want.Worker) → 0 < length self.old.reports }
+    {
+        while self.has_ended_one() {
+            self.write_oldest(rt, out)?;
+        }
+        if 0 < self.len() {
+            return Ok(());
+        }
+        self.write_after(out)
     }
 
     /// Waits for all reports, one after another, and writes all that waits.
@@ -235,7 +268,7 @@ impl<H: KeyHash<Cell>> Pending<H> {
     /// Waits for the report, and then writes what waits with it and its answer.
     fn write<O: Out, R: Threads>(self, rt: &R, out: &mut O) -> Result<(), Unwritten>
         requires { O.faults out.old + 1 < 2 ^ 64 }
-        ensures whole { WritesAll O.taken O.faults out.old out.new (Heads self.before.items self.answer.promise.edition.value self.answer.promise.plan.value) result }
+        ensures whole { WritesAll O.taken O.faults out.old out.new (Heads self.before.items self.answer.handle.promise.edition.value self.answer.handle.promise.plan.value) result }
         ensures waited { (wanted : Wanted) → IsErrOf result (unwritten.Want wanted) → O.taken out.new ≡ O.taken out.old }
     {
         let Pending { before, answer } = self;

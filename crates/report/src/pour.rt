@@ -4,8 +4,8 @@ ghost use Rattle.std.specs.Prelude.{◌≡◌};
 use crate::out::{Out, OutFault};
 use std::io::Write;
 
-/// An [`Out`] of any writer. An answer of 0 for a piece that has bytes, and every error, is a fault.
-/// No call is made again. It tells its bytes where its writer does.
+/// An [`Out`] of any writer, which is flushed after each piece, so that what was taken is seen at once. An answer of 0 for a
+/// piece that has bytes, and every error, is a fault. No call is made again. It tells its bytes where its writer does.
 #[derive(Drop)]
 pub struct Pour<W: Write> {
     writer: W,
@@ -42,6 +42,10 @@ impl<W: Write> Out for Pour<W> {
             return Err(OutFault);
         };
         if n == 0 && !bytes.is_empty() {
+            self.faults += 1;
+            return Err(OutFault);
+        }
+        if self.writer.flush().is_err() {
             self.faults += 1;
             return Err(OutFault);
         }

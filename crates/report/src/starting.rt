@@ -8,8 +8,11 @@ use board::{Snapshot, viewers_cross_threads};
 use cells::{Cell, KeyHash, Tuple};
 use crew::Gate;
 use query::Plan;
+use std::alloc::{AllocError, Global};
 use std::snapshot;
-use std::sync::Wait;
+use std::sync::atomic::AtomicBool;
+use std::sync::atomic::Ordering::SeqCst;
+use std::sync::{Arc, Wait};
 use std::thread::{Promise, PromisedHandle, Scope, Threads};
 
 /// What a report's thread promises: the plan's answer on the edition.
@@ -39,6 +42,32 @@ impl<H: KeyHash<Cell>> Promise<Result<Vec<u8>, Want>> for AnswerOf<H> {
     ghost kept_by = { λ promise result. IfOk result (λ text. IsReportText promise.edition.value.rows promise.plan.value text.items) };
 }
 
+/// A report that was started: what its thread promises, and whether it has ended.
+#[derive(Drop)]
+pub(crate) struct Started<H: KeyHash<Cell>> {
+    pub(crate) handle: PromisedHandle<Result<Vec<u8>, Want>, AnswerOf<H>>,
+    // no more than a hint: that the report ends is told by its handle
+    has_ended: Arc<AtomicBool>,
+}
+
+impl<H: KeyHash<Cell>> Started<H> {
+    /// Whether the report has ended, so that it is hardly waited for. It does not wait.
+    pub(crate) fn has_ended(&self) -> bool {
+        self.has_ended.load(SeqCst)
+    }
+
+    /// Waits for the report, and gives its text.
+    pub(crate) fn join<R: Threads>(self, rt: &R) -> Result<Vec<u8>, Want>
+        ensures { IfOk result (λ text. IsReportText self.handle.promise.edition.value.rows self.handle.promise.plan.value text.items) }
+    {
+        let Started {
+            handle,
+            has_ended: _,
+        } = self;
+        handle.join(rt)
+    }
+}
+
 /// Where reports and viewers are started, and what they are answered with.
 #[derive(Drop)]
 pub struct Starter<'a, 's, 'e, R, G> {
@@ -47,11 +76,28 @@ pub struct Starter<'a, 's, 'e, R, G> {
 }
 
 impl<'a, 's, 'e: 's, R: Threads + Wait + Sync, G: Gate> Starter<'a, 's, 'e, R, G> {
-    /// Starts a report in a thread of its own.
+    /// Starts the report of the line of this number in a thread of its own.
     pub(crate) fn start<H: KeyHash<Cell> + KeyHash<Tuple> + Send + Sync + 's>(
         &self,
+        line: u64,
         snapshot: Snapshot<H>,
         plan: Plan,
+    ) -> Result<Started<H>, Want>
+        ensures edition { IfOk result (λ started. started.handle.promise.edition.value ≡ snapshot) }
+        ensures plan { IfOk result (λ started. started.handle.promise.plan.value ≡ plan) }
+    {
+        let (has_ended, ended) = unset(self.answering.alloc)?;
+        let handle = self.start_ending(line, snapshot, plan, ended)?;
+        Ok(Started { handle, has_ended })
+    }
+
+    /// The same; once the report is answered, and its part of the edition let go, the flag is set.
+    fn start_ending<H: KeyHash<Cell> + KeyHash<Tuple> + Send + Sync + 's>(
+        &self,
+        line: u64,
+        snapshot: Snapshot<H>,
+        plan: Plan,
+        ended: Arc<AtomicBool>,
     ) -> Result<PromisedHandle<Result<Vec<u8>, Want>, AnswerOf<H>>, Want>
         ensures edition { IfOk result (λ handle. handle.promise.edition.value ≡ snapshot) }
         ensures plan { IfOk result (λ handle. handle.promise.plan.value ≡ plan) }
@@ -62,9 +108,35 @@ impl<'a, 's, 'e: 's, R: Threads + Wait + Sync, G: Gate> Starter<'a, 's, 'e, R, G
         let answering = self.answering;
         let job = move || -> Result<Vec<u8>, Want>
             ensures { IfOk result (λ text. IsReportText snapshot.rows plan text.items) }
-        { answering.text(&snapshot, &plan) };
+        { answering.answered(line, snapshot, plan, ended) };
         in_thread(self.scope, promise, job)
     }
+}
+
+impl<'a, R: Threads + Wait, G: Gate> Answering<'a, R, G> {
+    /// The text of the report of a line. Then, once what it was asked of is let go, the flag is set.
+    fn answered<H: KeyHash<Cell> + KeyHash<Tuple> + Send + Sync>(
+        &self,
+        line: u64,
+        snapshot: Snapshot<H>,
+        plan: Plan,
+        ended: Arc<AtomicBool>,
+    ) -> Result<Vec<u8>, Want>
+        ensures { IfOk result (λ text. IsReportText snapshot.rows plan text.items) }
+    {
+        let text = self.text(line, &snapshot, &plan);
+        drop(snapshot);
+        drop(plan);
+        ended.store(true, SeqCst);
+        text
+    }
+}
+
+/// A flag that is not set, for two owners.
+fn unset(alloc: Global) -> Result<(Arc<AtomicBool>, Arc<AtomicBool>), AllocError> {
+    let flag = Arc::new(alloc, AtomicBool::new(false))?;
+    let same = Arc::try_clone(&flag)?;
+    Ok((flag, same))
 }
 
 /// Starts a thread of the scope for a job that keeps the promise; [`Want::Worker`] where it can't be started. It stands over

@@ -66,7 +66,7 @@ impl<'a, R: Threads + Wait, G: Gate> Answering<'a, R, G> {
         ensures edition { IfOk result (λ shot. shot.edition ≡ snapshot.now.number) }
         ensures text { IfOk result (λ shot. IsReportText snapshot.now.rows plan.now shot.text) }
     {
-        let text = self.text(snapshot, plan)?;
+        let text = self.text(0, snapshot, plan)?;
         Ok(Shot {
             edition: snapshot.edition(),
             text,

@@ -27,9 +27,10 @@ use Rattle.script.proofs.BlocksLemmas.{reversed_onto}
 use Rattle.script.proofs.SaysLemmas.{EachAnswered}
 use Rattle.script.proofs.StepsLemmas.{does_so}
 use Rattle.script.proofs.StopsLemmas.{goes_after, some_blocks_up_to, stops_after, stops_or_goes}
-use Rattle.report.specs.Laws.{takes_beginning, takes_last}
-use Rattle.report.specs.Taken.{TakesBeginning}
+use Rattle.report.specs.Laws.{takes_beginning, takes_last, takes_more}
+use Rattle.report.specs.Taken.{TakesBeginning, TakesUpTo}
 use Rattle.report.specs.Waiting.{Awaits, GoesOn, Waits, text_alone}
+use Rattle.report.specs.declared.unwritten.Unwritten.{Unwritten}
 
 -- the lines that a loop has gone over, the last one first
 abbrev pub last_first : List (Bor (List ℕ)) → List (List ℕ)
@@ -104,10 +105,14 @@ module _ (old new : Option (List ℕ)) (hash : Cell → ℕ) (givens : Givens) (
     last_text : StopsAfter on (length before + 1) told.text → AreBlocksUpTo hash givens on [] script Stopped (reached.front ++ (reached.waiting ++ told.text))
     last_text stop = reached.blocks Stopped told.text (subst (λ ls. AreBlocksUpTo hash givens on before ls Stopped told.text) (sym is) (last_line told.is stop))
 
+    -- a line whose report, or an earlier one, wants a worker
+    pub asked_for_workers : (0 < length waits.reports) ⊎ IsAsked block → AsksForWorkers givens script
+    asked_for_workers earlier_or_asked = elim earlier_or_asked [ inl earlier ↦ reached.asked earlier | inr asked ↦ asks line rest is (steps.asks asked) ]
+
     module _ {T : Type 0} (newer : Option (List ℕ)) (newer_waits : Waits) (x : T) (goes_on : GoesOn {T = T} new newer newer_waits (reached.waiting ++ told.text) (Ok x))
         (more : 0 < length newer_waits.reports → (0 < length waits.reports) ⊎ IsAsked block) where
       asked_more : 0 < length newer_waits.reports → AsksForWorkers givens script
-      asked_more some = elim (more some) [ inl earlier ↦ reached.asked earlier | inr asked ↦ asks line rest is (steps.asks asked) ]
+      asked_more some = asked_for_workers (more some)
 
       -- one line more
       pub reached_more : stops on (is_refused block) ≡ false → Reached old newer hash givens on (line ∷ before) rest script after newer_waits (number + 1)
@@ -166,10 +171,6 @@ module _ (old new : Option (List ℕ)) (hash : Cell → ℕ) (givens : Givens) (
                 (record { front = reached.front; whole_is = ap (λ t. reached.front ++ t) (sym (append_assoc reached.waiting told.text some.bytes)); taken = reached.taken }) beginning;
           }
 
-    -- a line whose report, or an earlier one, wants a worker
-    pub asked_for_workers : IsAsked block → AsksForWorkers givens script
-    asked_for_workers asked = asks line rest is (steps.asks asked)
-
   -- what was written so far
   pub reached_so_far : EachAnswered → BeginsToWrite (HoweverFinished (AreBlocksUpTo hash givens on [] script)) old new
   reached_so_far each =
@@ -194,6 +195,25 @@ module _ (old new : Option (List ℕ)) (hash : Cell → ℕ) (givens : Givens) (
         let same : reverse script ≡ before = ap reverse (reached.parted ∙ ap (λ ls. reverse before ++ ls) is ∙ append-nil (reverse before)) ∙ reverse-reverse before in
         subst (λ ls. IsBehind givens ls desk) (sym same) reached.stands;
   }
+
+-- ---- one block
+
+-- a call went on with a text, and then another one with what waited
+pub goes_on_then : {S T : Type 0} (a b c : Option (List ℕ)) (mid last : Waits) (text : List ℕ) (x : S) (r : Result T Unwritten) → GoesOn {T = S} a b mid text (Ok x) →
+    ((rest : List ℕ) → Awaits mid rest → GoesOn b c last rest r) → GoesOn a c last text r
+goes_on_then a b c mid last text x (Ok y) first more =
+    let f = first.front in
+    let on = (more f.rest f.awaits).front in
+    record {
+      front = record {
+        rest = on.rest;
+        taken = takes_more a b c text on.taken.front on.rest (subst (TakesUpTo a b text) on.taken.whole_is f.taken) on.taken.taken;
+        awaits = on.awaits;
+      };
+      beginning = tt;
+    }
+goes_on_then a b c mid last text x (Err e) first more =
+    let f = first.front in record { front = tt; beginning = takes_last a b c text f.rest f.taken (more f.rest f.awaits).beginning }
 
 -- ---- behind the lines
 

@@ -50,9 +50,10 @@ use std::thread::{self, Threads};
 ///
 /// `rt` starts a thread for each report, which is answered beside the lines that follow it, with at most
 /// [`MAX_REPORTS`](report::MAX_REPORTS) under way at a time, and one for each worker of a report or a load. All of them
-/// are joined before this returns, however the run ends. `gate` is told of each publish and refusal by the thread that calls, of
-/// each piece of a report and of each listed part by the worker that drew it, and of runs of a load's rows by the threads
-/// that make their tries.
+/// are joined before this returns, however the run ends. A report that has ended is written with the block of the next line at
+/// the latest, once those before it are. `gate` is told of each publish, refusal and load by the thread that calls, of each
+/// report by its own, of each piece of a report and of each listed part by the worker that drew it, and of runs of a load's rows
+/// by the threads that make their tries.
 ///
 /// What the table holds at the end is given back.
 pub fn run<
@@ -331,7 +332,7 @@ fn go_over<
         let block = execute(setup, desk, Line { number, bytes })?;
         gallery.attend(setup, starter, desk)?;
         let stops = setup.on_refusal.stops(block.is_refused());
-        add(starter, backlog, out, block)?;
+        add(starter, backlog, out, number, block)?;
         if stops {
             return Ok(Finish::Stopped);
         }
@@ -350,7 +351,7 @@ fn through(tail: Result<(), Ended>) -> Result<Finish, Ended>
     }
 }
 
-/// What a line gave comes behind all that waits: its text, or the report that it asks for, which is started.
+/// What a line gave comes behind all that waits, and what need not wait any more is written.
 fn add<
     's,
     'e: 's,
@@ -362,6 +363,31 @@ fn add<
     starter: &Starter<'_, 's, 'e, R, G>,
     backlog: &mut Backlog<H>,
     out: &mut O,
+    number: u64,
+    block: Block<H>,
+) -> Result<(), Unwritten>
+    requires faults { O.faults out.old + 1 < 2 ^ 64 }
+    ensures goes_on { WritesOn O.taken O.faults out.old out.new backlog.new (AwaitsThen backlog.old (WillBe block)) result }
+    ensures asked { OnOk result (0 < length backlog.new.reports → (0 < length backlog.old.reports) ⊎ IsAsked block) }
+    ensures worker { IsErrOf result (unwritten.Want want.Worker) → (0 < length backlog.old.reports) ⊎ IsAsked block }
+{
+    add_block(starter, backlog, out, number, block)?;
+    backlog.write_ended(starter.answering.rt, out)
+}
+
+/// What a line gave comes behind all that waits: its text, or the report that it asks for, which is started.
+fn add_block<
+    's,
+    'e: 's,
+    H: KeyHash<Cell> + KeyHash<Tuple> + Send + Sync + 's,
+    O: Out,
+    G: Gate,
+    R: Threads + Wait + Sync,
+>(
+    starter: &Starter<'_, 's, 'e, R, G>,
+    backlog: &mut Backlog<H>,
+    out: &mut O,
+    number: u64,
     block: Block<H>,
 ) -> Result<(), Unwritten>
     requires faults { O.faults out.old + 1 < 2 ^ 64 }
@@ -378,7 +404,7 @@ fn add<
                 snapshot,
                 plan,
             } = asked;
-            backlog.begin(starter, out, heading.as_slice(), snapshot, plan)
+            backlog.begin(starter, out, number, heading.as_slice(), snapshot, plan)
         }
     }
 }

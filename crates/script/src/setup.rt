@@ -8,7 +8,7 @@ use std::alloc::Global;
 
 /// What a run is made with: where the threads of reports, viewers and workers come from, where memory comes from, how the run
 /// is made, the parts that may be loaded, what viewers are asked where there are some, what comes after a refused line, and
-/// who is told of each publish, of each refusal, of a report's pieces, of a load's parts and of what viewers see.
+/// who is told of each publish, of each refusal, of reports and their pieces, of a load's parts and of what viewers see.
 #[derive(Drop)]
 pub struct Setup<'a, R, G: Gate> {
     pub rt: &'a R,
