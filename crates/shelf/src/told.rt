@@ -10,8 +10,9 @@ pub trait Shows<X, T> {
     ghost shown: { X → List T };
 }
 
-/// A list that was read off a value, for clauses alone: what a promise may speak of where the value itself may not lie in
-/// the promise, as that of a node whose promise lies within it. It has no bytes and owns nothing.
+/// A list that was read off a value, for clauses alone. It has no bytes and owns nothing. A promise may speak of it
+/// where it may not hold the value itself, or a [`Snapshot`](std::snapshot::Snapshot) of it, since the promise lies
+/// within the value, as a node's does.
 #[derive(Drop)]
 pub struct Told<T> {
     marker: PhantomData<T>,
