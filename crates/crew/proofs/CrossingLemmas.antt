@@ -27,6 +27,7 @@ use Rattle.std.specs.declared.cmp.PartialEq as PartialEq
 use Rattle.std.specs.declared.cmp.PartialOrd as PartialOrd
 use Rattle.trie.specs.Crossing.{field_sync, node_send}
 use Rattle.trie.specs.contracts.split.Piece as Piece
+use Rattle.trie.specs.declared.beside.Beside as Beside
 
 aggregation_send : IsSend Aggregation.the_field.row
 aggregation_send = search (sendable, crosses) depth 40
@@ -51,9 +52,10 @@ module _ (H : RattleType) (cells : KeyHash.Ghosts H.Denot Cell) (s : IsSend H) (
   pub folding_send : (life : NamedLft) → IsSend (Folding.the_field life H cells).row
   folding_send life = let plan = plan_sync in let aggregation = aggregation_send in let set_bag = set_bag_send in search (sendable, crosses) depth 40
 
-  module _ (o : Ord.Ghosts Cell) (e : PartialEq.Ghosts Cell) (p : PartialOrd.Ghosts Cell) where
-    piece_sync : IsSync (Piece.the_field CellType.the_row RowType.the_row H o e p cells).row
-    piece_sync = let node = field_sync _ _ cell_send cell_sync row_send row_sync in search (sendable, crosses) depth 40
+  module _ (S : RattleType) (o : Ord.Ghosts Cell) (e : PartialEq.Ghosts Cell) (p : PartialOrd.Ghosts Cell)
+      (b : Beside.Ghosts S.Denot Cell RowType.the_row.Denot) (ss : IsSend S) (sy : IsSync S) where
+    piece_sync : IsSync (Piece.the_field CellType.the_row RowType.the_row H S o e p cells b).row
+    piece_sync = let node = field_sync _ _ S b cell_send cell_sync row_send row_sync ss sy in search (sendable, crosses) depth 40
 
   pub gathering_sync : (life : NamedLft) (G : RattleType) → IsSync G → IsSync (Gathering.the_field life H G cells).row
   gathering_sync life G g = let plan = plan_sync in search (piece_sync, sendable, crosses) depth 40
