@@ -5,10 +5,8 @@ use Rattle.std.proofs.Crossing.{crosses}
 use Rattle.atomic_table.proofs.badge.Badge.TheSendSync as TheBadge
 use Rattle.atomic_table.proofs.send_lease.SendLease.TheSendSync as TheLease
 use Rattle.atomic_table.proofs.shared.Shared.TheSendSync as TheShared
-use Rattle.atomic_table.specs.contracts.badge.Badge as Badge
 use Rattle.atomic_table.specs.contracts.owned.Table as Table
 use Rattle.board.proofs.beside.Beside.TheSendSync as TheBeside
-use Rattle.board.specs.contracts.beside.Beside as Beside
 use Rattle.board.specs.contracts.law.About as About
 use Rattle.board.specs.contracts.law.Law as Law
 use Rattle.board.specs.contracts.law.LawTableRuleOptionSnapshotViewAbout.TheImpl as Rule
@@ -19,18 +17,12 @@ use Rattle.board.specs.contracts.snapshot.Snapshot as Snapshot
 use Rattle.board.specs.contracts.told.Told as Told
 use Rattle.board.specs.contracts.viewer.Viewer as Viewer
 use Rattle.cells.specs.Crossing.{cell_send, cell_sync, row_send, row_sync}
-use Rattle.cells.specs.contracts.cell.Cell as CellType
-use Rattle.cells.specs.contracts.row.Row as RowType
 use Rattle.cells.specs.declared.cell.Cell.{Cell}
 use Rattle.cells.specs.declared.hash.KeyHash as KeyHash
 use Rattle.std.specs.contracts.alloc.Global as Global
 use Rattle.std.specs.contracts.impls.GlobalAllocator.TheImpl as Heap
 use Rattle.std.specs.contracts.option.Option as OptionType
-use Rattle.trie.specs.Crossing.{node, node_send, node_sync}
-
--- ---- the nodes of a table
-rows : IsSend (node CellType.the_row RowType.the_row) × IsSync (node CellType.the_row RowType.the_row)
-rows = (node_send _ _ cell_send cell_sync row_send row_sync, node_sync _ _ cell_send cell_sync row_send row_sync)
+use Rattle.trie.specs.Crossing.{node_send}
 
 -- ---- what was told, which has no bytes
 pub told_send : IsSend Told.the_field.row
@@ -39,7 +31,7 @@ told_send = let badge = TheBadge.the_send View.the_row in search (sendable, cros
 -- ---- snapshots, the board, and viewers
 module _ (H : RattleType) (cells : KeyHash.Ghosts H.Denot Cell) (s : IsSend H) (y : IsSync H) where
   pub root_send : IsSend (Root.the_field H cells).row
-  root_send = let send = rows.0 in let sync = rows.1 in search (sendable, crosses) depth 40
+  root_send = let sent = cell_send in let shared = cell_sync in let row = row_send in let rows = row_sync in search (node_send, sendable, crosses) depth 40
 
   pub snapshot_send : IsSend (Snapshot.the_field H cells).row
   snapshot_send = let root = root_send in let sent = TheBeside.the_send H cells in let shared = TheBeside.the_sync H cells in search (sendable, crosses) depth 40

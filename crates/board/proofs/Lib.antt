@@ -1,4 +1,5 @@
 pub mod BoxesLemmas
+pub mod CopiesLemmas
 pub mod CrossingLemmas
 pub mod EditionsLemmas
 pub mod HistoryLemmas

@@ -1,5 +1,5 @@
 -- The keeper's seat after a step, and what was seen.
-use Rattle.std.proofs.Common.{◌≡◌, ◌≢◌, ℕ, ◌+◌, ◌-◌, ◌*◌, ◌<◌, List, [], ◌∷◌, ◌++◌, length, sym, refl, ap, ap₂, ◌∙◌, subst, arith, Option, Some, None, Result, Ok, Err, IfOk, length-append}
+use Rattle.std.proofs.Common.{◌≡◌, ◌≢◌, ℕ, ◌+◌, ◌-◌, ◌*◌, ◌<◌, List, [], ◌∷◌, ◌++◌, length, sym, refl, ap, ◌∙◌, subst, arith, Option, Some, None, Result, Ok, Err, IfOk, length-append}
 use Rattle.std.specs.FinMap as finmap
 use Rattle.atomic_table.specs.declared.shared.Seat.{Seat}
 use Rattle.cells.specs.Tables.{Rows}

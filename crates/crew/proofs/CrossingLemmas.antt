@@ -27,6 +27,7 @@ use Rattle.std.specs.declared.cmp.PartialEq as PartialEq
 use Rattle.std.specs.declared.cmp.PartialOrd as PartialOrd
 use Rattle.trie.specs.Crossing.{field_sync, node_send}
 use Rattle.trie.specs.contracts.split.Piece as Piece
+use Rattle.trie.specs.declared.beside.Beside as Beside
 
 aggregation_send : IsSend Aggregation.the_field.row
 aggregation_send = search (sendable, crosses) depth 40

@@ -5,5 +5,7 @@
 
 mod made;
 mod place;
+mod told;
 
 pub use place::Shelf;
+pub use told::{Shows, Told};

@@ -1,7 +1,7 @@
 -- The nodes that are made of a list of pairs.
 use Rattle.std.proofs.Common.{◌≡◌, ◌==◌, ℕ, ◌+◌, ◌-◌, ◌^◌, ◌<◌, ◌≤◌, Bool, true, false, cond, Option, Some, None, Vec, List, [], ◌∷◌, ◌++◌, length, map, get_or, zero, suc, refl, sym, ap, ◌∙◌, subst, arith, length-append, sum_by}
 use Rattle.std.specs.Prelude.{◌&&◌, slice_get}
-use Rattle.std.specs.List.{AllByRecursion, filter, flat_map, fold, list_all}
+use Rattle.std.specs.List.{AllByRecursion, flat_map, fold, list_all}
 use Rattle.std.specs.Ordering.{is_eq}
 use Rattle.std.specs.declared.alloc.Global.{Global}
 use Rattle.std.specs.declared.cmp.Ordering.{Ordering}
@@ -18,8 +18,8 @@ use Rattle.trie.specs.Dense.{IsDense, slots_in}
 use Rattle.trie.specs.Digits.{digit, digit_count, digit_order, digits, first_digits, first_number, slot_count}
 use Rattle.trie.specs.Entries.{entry_at, with_pair, with_pairs}
 use Rattle.trie.specs.Holding.{AreSlots, Holds, IsTrie, node_len, pairs_of}
-use Rattle.trie.specs.Nodes.{Branch, Bucket, Child, Leaf, Node, values}
-use Rattle.trie.specs.Tree.{entries_in, IsNode, StartsWith}
+use Rattle.trie.specs.Nodes.{Bucket, Child, Leaf, Node, values}
+use Rattle.trie.specs.Tree.{branch_of, entries_in, IsNode, StartsWith}
 use Rattle.trie.specs.declared.build.Hashed.{Hashed}
 use Rattle.trie.proofs.DenseLemmas.{length-slots_of}
 use Rattle.trie.proofs.DigitsLemmas.{get_or-digits, length-digits, starts_with-next}
@@ -140,7 +140,7 @@ module _ {K V : Type 0} (hash : K → ℕ) (cmp : K → K → Ordering) (h : Hav
       2 ≤ length (with_pairs (digit_order hash cmp) (pairs_in list) []) →
       (bitmap : ℕ) (children : Vec (Child K V) Global) → IsDense bitmap (length children.items) →
       AreMadeOf hash cmp depth list (slots_in bitmap children.items) → (slot : Option (Node K V)) →
-      slot ≡ Some (Branch (sum_by node_len (values children.items)) bitmap children) → IsMadeOf hash cmp depth (pairs_in list) slot
+      slot ≡ Some (branch_of (sum_by node_len (values children.items)) bitmap children) → IsMadeOf hash cmp depth (pairs_in list) slot
   branch_made depth list hashed low many bitmap children dense each slot is = rw is (record {
     at = λ prefix deep below.
         let slots = slots_in bitmap children.items in

@@ -79,7 +79,7 @@ module _ {K V : Type 0} (hash : K → ℕ) (cmp : K → K → Ordering) where
             rw (made, cut_closed (digit_count - depth) prefix (entries n) c.0 c.1) refl;
       })
 
-      pub branch_cut : (len bitmap : ℕ) (children : Vec (Child K V) Global) → slot ≡ Some (Branch len bitmap children) →
+      pub branch_cut : (len bitmap : ℕ) (children : Vec (Child K V) Global) {told : List (K × V)} → slot ≡ Some (Branch len bitmap children told) →
           (old new : List (List (K × V))) → nat_lt small len && nat_lt depth most ≡ true →
           ((prefix : List ℕ) → length prefix ≡ depth → IsSlot hash cmp slot prefix →
           new ≡ old ++ flat_map (λ d. cut_below hash most small (digit_count - (depth + 1)) (prefix ++ d ∷ [])
@@ -115,7 +115,7 @@ module _ {K V : Type 0} (hash : K → ℕ) (cmp : K → K → Ordering) where
             rw (held, last, cut_whole prefix (entries n) some) made;
       }
 
-      pub branch_closed : (len bitmap : ℕ) (children : Vec (Child K V) Global) → slot ≡ Some (Branch len bitmap children) →
+      pub branch_closed : (len bitmap : ℕ) (children : Vec (Child K V) Global) {told : List (K × V)} → slot ≡ Some (Branch len bitmap children told) →
           (n : Node K V) → slot ≡ Some n → (nat_lt small len && nat_lt depth most) ≡ false →
           (old new : List (List (K × V))) → new ≡ old ++ entries n ∷ [] → IsCut hash cmp most small depth slot old new
       branch_closed len bitmap children branch n is closed old new made =

@@ -1,15 +1,15 @@
 -- Entries that are found by their keys.
-use Rattle.std.proofs.Common.{◌≡◌, ℕ, Bool, true, false, cond, Option, Some, None, List, [], ◌∷◌, ◌++◌, map, refl, sym, ap, ◌∙◌}
+use Rattle.std.proofs.Common.{◌≡◌, ℕ, Bool, true, false, cond, Option, Some, None, List, [], ◌∷◌, ◌++◌, refl, sym, ap, ◌∙◌}
 use Rattle.std.specs.Cmp.{IsTotalOrder}
 use Rattle.std.specs.List.{AllByRecursion, find}
-use Rattle.std.specs.Map.{keys_of, lookup}
+use Rattle.std.specs.Map.{keys_of}
 use Rattle.std.specs.Option.{option_map}
-use Rattle.std.specs.Ordering.{eq_by_cmp, is_eq, is_lt}
+use Rattle.std.specs.Ordering.{is_eq}
 use Rattle.std.specs.declared.cmp.Ordering.{Ordering}
-use Rattle.std.specs.declared.cmp.Ordering.TheVariants.{Less, Equal, Greater}
+use Rattle.std.specs.declared.cmp.Ordering.TheVariants.{Less, Equal}
 use Rattle.std.proofs.lemmas.Option.{cond_some}
 use Rattle.trie.specs.Digits.{digit_order}
-use Rattle.trie.specs.Entries.{entry_at, value_at, with_pair}
+use Rattle.trie.specs.Entries.{entry_at, value_at}
 use Rattle.trie.specs.Merging.{blend_entries, blended}
 use Rattle.trie.proofs.MapsLemmas.{HaveHashes, value-entry}
 use Rattle.trie.proofs.OrderLemmas.{order_agrees}

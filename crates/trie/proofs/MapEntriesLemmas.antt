@@ -1,9 +1,9 @@
 -- Entries in which no key comes twice, and those of their finite map: the same entries, in another order. So their keys
 -- have one shape.
-use Rattle.std.proofs.Common.{◌≡◌, ℕ, ◌+◌, ◌≤◌, suc, Bool, true, false, cond, Option, Some, None, List, [], ◌∷◌, length, refl, sym, ap, ◌∙◌, arith}
+use Rattle.std.proofs.Common.{◌≡◌, ℕ, ◌+◌, ◌≤◌, suc, Bool, true, false, cond, Option, Some, None, List, [], ◌∷◌, length, refl, sym, ◌∙◌, arith}
 use Rattle.std.specs.Prelude.{is_some}
 use Rattle.std.specs.Cmp.{IsTotalOrder}
-use Rattle.std.specs.FinMap.{FinMap, contains_key, empty, entries, entries-insert, find, from_entries, get, get-entries, insert, keys, len, len-empty, len-entries, len-insert, put}
+use Rattle.std.specs.FinMap.{contains_key, empty, entries, entries-insert, find, from_entries, get, get-entries, insert, keys, len, len-empty, len-entries, len-insert, put}
 use Rattle.std.specs.FinMap.Entries.{by_order}
 use Rattle.std.specs.List.Sorted.{IsPermutation}
 use Rattle.std.specs.Map.{keys_of}

@@ -1,5 +1,5 @@
 -- How two slots of one prefix meet, and what they become.
-use Rattle.std.proofs.Common.{◌≡◌, ℕ, ◌+◌, ◌<◌, ◌≤◌, Bool, true, false, Option, Some, None, Vec, List, [], ◌∷◌, ◌++◌, cond, length, set, take, get_or, suc, zero, refl, sym, ap, ◌∙◌, subst, arith, length-append, sum_by, inl, inr}
+use Rattle.std.proofs.Common.{◌≡◌, ℕ, ◌+◌, ◌<◌, ◌≤◌, Bool, true, false, Option, Some, None, Vec, List, [], ◌∷◌, ◌++◌, cond, length, set, take, get_or, suc, refl, sym, ap, ◌∙◌, subst, arith, length-append, sum_by, inl, inr}
 use Rattle.std.specs.List.{AllByRecursion, flat_map}
 use Rattle.std.specs.Option.{option_map}
 use Rattle.std.specs.Ordering.{is_eq}
@@ -15,7 +15,7 @@ use Rattle.trie.specs.Entries.{entry_at, value_at}
 use Rattle.trie.specs.Holding.{AreSlots, node_len, pairs_of, prefix_of}
 use Rattle.trie.specs.Merging.{AreFound, blend_entries, blended, BranchesMeet, BucketsMeet, entry_of_both, LeafMeets, Meet, MergeEach, Merges}
 use Rattle.trie.specs.Nodes.{Branch, Bucket, Child, Leaf, Node, values}
-use Rattle.trie.specs.Tree.{AreChildren, entries_in, IsNode, IsSlot, StartsWith}
+use Rattle.trie.specs.Tree.{AreChildren, branch_of, entries_in, IsNode, IsSlot, StartsWith}
 use Rattle.trie.proofs.BucketsLemmas.{blended_none}
 use Rattle.trie.proofs.FoundLemmas.{entry_at-order, found-passes, found_alike}
 use Rattle.trie.proofs.DigitsLemmas.{get_or-digits, length-digits, starts_with-at, starts_with-front, starts_with-next}
@@ -312,7 +312,8 @@ module _ {K V : Type 0} (hash : K → ℕ) (cmp : K → K → Ordering) (h : Hav
           entry_at-below hash cmp (hash key) (length prefix) found.low slots found.are key refl
           (get_or slots k None) (ap (λ n. get_or slots n None) found.digit_is)
 
-      module _ (p q : ℕ) (xs ys : Vec (Child K V) Global) (n o : ℕ) (is : first ≡ Some (Branch n p xs)) (also : second ≡ Some (Branch o q ys)) where
+      module _ (p q : ℕ) (xs ys : Vec (Child K V) Global) (n o : ℕ) {told more : List (K × V)}
+          (is : first ≡ Some (Branch n p xs told)) (also : second ≡ Some (Branch o q ys more)) where
         branches_fit : (zs : List (Option (Node K V))) → length zs ≡ slot_count →
             MergeEach hash cmp Asks blend depth first second slot_count (slots_in p xs.items) (slots_in q ys.items) zs →
             (prefix : List ℕ) → length prefix ≡ depth → IsSlot hash cmp first prefix → IsSlot hash cmp second prefix →
@@ -379,7 +380,7 @@ module _ {K V : Type 0} (hash : K → ℕ) (cmp : K → K → Ordering) (h : Hav
                     let are : AreSlots hash cmp prefix (slots_in bitmap children.items) = record { short = a.slots_are.short; wide = wide; children = fit.children } in
                     let many : 2 ≤ sum_by node_len (values children.items) = omega (arith, total, fit.first_in, a.many) in
                     let holds = branch_holds hash cmp prefix bitmap children dense are (sum_by node_len (values children.items)) total many
-                    (Branch (sum_by node_len (values children.items)) bitmap children) refl in
+                    (branch_of (sum_by node_len (values children.items)) bitmap children) refl in
                     rw made (record {
                       placed = holds.placed;
                       entries = λ key s.
@@ -404,15 +405,15 @@ module _ {K V : Type 0} (hash : K → ℕ) (cmp : K → K → Ordering) (h : Hav
               };
             }
 
-      pub bucket_and_branch : (es : Vec (Arc (K × V) Global) Global) (n q : ℕ) (ys : Vec (Child K V) Global) →
-          first ≡ Some (Bucket es) → second ≡ Some (Branch n q ys) → ⊥
+      pub bucket_and_branch : (es : Vec (Arc (K × V) Global) Global) (n q : ℕ) (ys : Vec (Child K V) Global) {told : List (K × V)} →
+          first ≡ Some (Bucket es) → second ≡ Some (Branch n q ys told) → ⊥
       bucket_and_branch es n q ys is also =
           let a = bucket_in hash cmp first m.prefix es is m.first_placed in
           let b = branch_in hash cmp second m.prefix n q ys also m.second_placed in
           absurd (omega (arith, a.full, b.slots_are.short))
 
-      pub branch_and_bucket : (n p : ℕ) (xs : Vec (Child K V) Global) (fs : Vec (Arc (K × V) Global) Global) →
-          first ≡ Some (Branch n p xs) → second ≡ Some (Bucket fs) → ⊥
+      pub branch_and_bucket : (n p : ℕ) (xs : Vec (Child K V) Global) (fs : Vec (Arc (K × V) Global) Global) {told : List (K × V)} →
+          first ≡ Some (Branch n p xs told) → second ≡ Some (Bucket fs) → ⊥
       branch_and_bucket n p xs fs is also =
           let a = branch_in hash cmp first m.prefix n p xs is m.first_placed in
           let b = bucket_in hash cmp second m.prefix fs also m.second_placed in

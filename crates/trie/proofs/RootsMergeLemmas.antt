@@ -4,6 +4,7 @@ use Rattle.std.specs.Option.{option_map}
 use Rattle.std.specs.declared.cmp.Ordering.{Ordering}
 use Rattle.trie.specs.Digits.{digit_order}
 use Rattle.trie.specs.Entries.{entry_at}
+use Rattle.trie.specs.Holding.{IsTrie}
 use Rattle.trie.specs.Merging.{CanBlend, IsMerged, Meet, Merges}
 use Rattle.trie.specs.Nodes.{Node}
 use Rattle.trie.specs.Tree.{entries_in, IsSlot}
@@ -39,3 +40,11 @@ module _ {K V : Type 0} (hash : K → ℕ) (cmp : K → K → Ordering) where
         first = omega (arith, merged.first_in, ap length is);
         most = omega (arith, merged.most, ap length is, ap length also);
       }
+
+  -- what they become is a whole trie, too
+  pub merged_root : (blend : V → V → V) (first second third : Option (Node K V)) (es fs : List (K × V)) →
+      entries_in first ≡ es → entries_in second ≡ fs → IsSlot hash cmp first [] → IsSlot hash cmp second [] →
+      length es + length fs < 2 ^ 64 → Merges hash cmp blend 0 first second third → IsTrie hash cmp third
+  merged_root blend first second third es fs is also placed other room merges =
+      let merged = merges.at [] refl placed other in
+      record { placed = merged.placed; fits = omega (arith, merged.most, ap length is, ap length also, room) }

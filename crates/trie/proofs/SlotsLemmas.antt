@@ -1,5 +1,5 @@
 -- What the canonical form says of the entries below slots.
-use Rattle.std.proofs.Common.{◌≡◌, ℕ, ◌+◌, ◌<◌, ◌≤◌, Bool, true, false, List, [], ◌∷◌, ◌++◌, length, take, drop, get_or, set, suc, zero, Option, Some, None, Vec, refl, sym, ap, ◌∙◌, arith, length-append}
+use Rattle.std.proofs.Common.{◌≡◌, ℕ, ◌+◌, ◌<◌, ◌≤◌, Bool, false, List, [], ◌∷◌, ◌++◌, length, take, drop, get_or, set, suc, zero, Option, Some, None, Vec, refl, sym, ap, ◌∙◌, arith, length-append}
 use Rattle.std.specs.Prelude.{nat_eq}
 use Rattle.std.specs.declared.alloc.Global.{Global}
 use Rattle.std.specs.declared.sync.Arc.{Arc}
@@ -15,7 +15,7 @@ use Rattle.trie.specs.Cuts.{with_prefix}
 use Rattle.trie.specs.Digits.{digit, digit_count, digit_order, digits, first_digits, slot_count}
 use Rattle.trie.specs.Entries.{entry_at, value_at, with_pair, without_key}
 use Rattle.trie.specs.Holding.{AreSlots}
-use Rattle.trie.specs.Nodes.{Branch, Bucket, Child, Leaf, Node, values}
+use Rattle.trie.specs.Nodes.{Branch, Bucket, Child, Node, values}
 use Rattle.trie.specs.Tree.{AreChildren, StartsWith, entries, entries_in, IsNode, IsSlot}
 use Rattle.trie.specs.Dense.{slots_in}
 use Rattle.trie.proofs.VariantsLemmas.{branch_in, bucket_in, present_values}
@@ -120,10 +120,10 @@ module _ {K V : Type 0} (hash : K → ℕ) (cmp : K → K → Ordering) where
       of_bucket pairs prefix m =
           let bucket = bucket_in hash cmp (Some (Bucket pairs)) prefix pairs refl m in rw bucket.entries_are bucket.one_hash
 
-      of_branch : (len bitmap : ℕ) (children : Vec (Child K V) Global) → AllByRecursion AllBelow (values children.items) →
-          AllBelow (Branch len bitmap children)
-      of_branch len bitmap children each prefix m =
-          let branch = branch_in hash cmp (Some (Branch len bitmap children)) prefix len bitmap children refl m in
+      of_branch : (len bitmap : ℕ) (children : Vec (Child K V) Global) (told : List (K × V)) → AllByRecursion AllBelow (values children.items) →
+          AllBelow (Branch len bitmap children told)
+      of_branch len bitmap children told each prefix m =
+          let branch = branch_in hash cmp (Some (Branch len bitmap children told)) prefix len bitmap children refl m in
           let present = present_values bitmap children.items branch.dense in
           rw branch.entries_are (below_if prefix 0 (slots_in bitmap children.items) branch.slots_are.children (rw present each))
 

@@ -9,20 +9,15 @@ use Rattle.trie.specs.Digits.{digit, digit_count, digit_order, first_digits, slo
 use Rattle.trie.specs.Entries.{with_pair, without_key}
 use Rattle.trie.specs.Dense.{IsDense, slots_in}
 use Rattle.trie.specs.Nodes as nodes
-use Rattle.trie.specs.Nodes.{Child, Node, node_of, One, Owned, owned, Several}
+use Rattle.trie.specs.Nodes.{Child, Children, Node, node_of, One, Owned, owned, Reach, Removed, Several, Unmade, View}
 use Rattle.trie.specs.Tree.{AreChildren, entries_in, IsNode, IsSlot}
-use Rattle.trie.specs.declared.node.Children.{Children}
 use Rattle.trie.specs.declared.digits.HashPrefix.{HashPrefix}
 use Rattle.trie.specs.declared.node.Inner.{out-Inner}
 use Rattle.trie.specs.declared.node.Inner.TheOpen.{Inner-F, Branch, Bucket}
 use Rattle.trie.specs.declared.node.Owner.{Owner}
-use Rattle.trie.specs.declared.node.Unmade.{Unmade}
-use Rattle.trie.specs.declared.node.View.{View}
 use Rattle.trie.specs.declared.node.View.TheVariants as view
 use Rattle.trie.specs.declared.node.Unmade.TheVariants as unmade
-use Rattle.trie.specs.declared.put.Reach.{Reach}
 use Rattle.trie.specs.declared.put.Reach.TheVariants.{Here, Below}
-use Rattle.trie.specs.declared.remove.Removed.{Removed}
 use Rattle.trie.specs.declared.remove.Removed.TheVariants.{Missing, Left}
 
 -- the pairs, whoever owns them
@@ -64,7 +59,7 @@ abbrev pub shown : {K V : Type 0} → View K V → Option (Node K V)
 shown view.Empty = None
 shown (view.Leaf pair) = Some (One pair.now.value)
 shown (view.Bucket pairs) = Some (nodes.Bucket pairs.now)
-shown (view.Branch len bitmap children) = Some (nodes.Branch len bitmap children.now)
+shown (view.Branch len bitmap children beside) = Some (nodes.Branch len bitmap children.now beside.now)
 
 -- the node that is to be made
 abbrev pub made_of : {K V : Type 0} → Unmade K V → Node K V
@@ -85,13 +80,13 @@ abbrev pub lent : {K V : Type 0} → List (Bor K × Bor V) → List (K × V)
 lent pairs = map (λ p. (p.0.now, p.1.now)) pairs
 
 -- how many entries a node says it has
-abbrev pub layer_len : {K V X : Type 0} → Inner-F K V X → ℕ
+abbrev pub layer_len : {K V X : Type 0} → Inner-F K V (List (K × V)) X → ℕ
 layer_len (Bucket pairs) = length pairs.items
-layer_len (Branch len bitmap children) = len
+layer_len (Branch len bitmap children told) = len
 
 abbrev pub node_len : {K V : Type 0} → Node K V → ℕ
 node_len (One pair) = 1
-node_len {K} {V} (Several inner) = layer_len (out-Inner K V inner)
+node_len {K} {V} (Several inner) = layer_len (out-Inner K V (List (K × V)) inner)
 
 -- the same of a slot
 abbrev pub len_in : {K V : Type 0} → Option (Node K V) → ℕ

@@ -10,6 +10,7 @@ ghost use Rattle.trie.specs.Entries.{with_pairs};
 ghost use Rattle.trie.specs.Holding.{made_of, pairs_of};
 ghost use Rattle.trie.specs.Nodes.{node_of};
 
+use crate::beside::{Beside, Side};
 use crate::bucket::placed;
 use crate::digits::{Bitmap, DIGITS, digit_at, digits_number};
 use crate::node::{Inner, Slot, Unmade, branch_of, grown, make, room_for};
@@ -139,7 +140,10 @@ fn next_run<P>(pairs: &[Hashed<P>], depth: u32) -> Option<Run<'_, P>>
 }
 
 /// A node of its own, which nobody counts.
-fn uncounted<K: Drop, V: Drop>(alloc: Global, node: Unmade<K, V>) -> Result<Slot<K, V>, AllocError>
+fn uncounted<K: Drop, V: Drop, S: Beside<K, V>>(
+    alloc: Global,
+    node: Unmade<K, V, Side<K, V, S>>,
+) -> Result<Slot<K, V, S>, AllocError>
     ensures { IfOk result (λ slot. node_of slot ≡ Some (made_of node)) }
 {
     Ok(Some(make(alloc, node, &mut Ticks::new())?))
@@ -148,11 +152,11 @@ fn uncounted<K: Drop, V: Drop>(alloc: Global, node: Unmade<K, V>) -> Result<Slot
 /// The slot of a prefix of this depth with these pairs, which stand in the order of their digits: of pairs of one key
 /// the last. Each node is made once: none for no pair, a leaf for one key, a bucket where no digit is left, and else a
 /// branch, with a child for each run of pairs that have one next digit.
-pub fn slot_of<K: Ord + Drop, V: Drop, H: KeyHash<K>>(
+pub fn slot_of<K: Ord + Drop, V: Drop, H: KeyHash<K>, S: Beside<K, V>>(
     alloc: Global,
     pairs: &[Hashed<Arc<(K, V)>>],
     depth: u32,
-) -> Result<Slot<K, V>, AllocError>
+) -> Result<Slot<K, V, S>, AllocError>
     requires { HaveOnePrefix H.hash_of depth pairs.now }
     ensures { IfOk result (λ p. IsMadeOf H.hash_of K.cmp depth (pairs_in pairs.now) (node_of p)) }
 {
@@ -171,7 +175,7 @@ pub fn slot_of<K: Ord + Drop, V: Drop, H: KeyHash<K>>(
     let mut made = room_for(alloc, digits_of(pairs, depth))?;
     let mut left = pairs;
     while let Some(Run { digit, pairs, rest }) = next_run(left, depth) {
-        let child = slot_of::<K, V, H>(alloc, pairs, depth + 1)?;
+        let child = slot_of::<K, V, H, S>(alloc, pairs, depth + 1)?;
         made = grown(made, digit, child)?;
         left = rest;
     }

@@ -4,6 +4,7 @@ ghost use Rattle.trie.specs.Digits.{digit_order};
 ghost use Rattle.trie.specs.Entries.{entry_at};
 ghost use Rattle.trie.specs.Holding.{found_in, held_at, IsSlotAt, seen_in};
 
+use crate::beside::Beside;
 use crate::bucket::find;
 use crate::digits::HashPrefix;
 use crate::node::{Seen, View, step, view_of};
@@ -12,8 +13,8 @@ use std::sync::Arc;
 
 /// The entry of the key below the prefix, lent with its owner, so that it can be shared. It takes no
 /// memory.
-pub fn get_at<'a, K: Ord, V, H: KeyHash<K>>(
-    slot: Seen<'a, K, V>,
+pub fn get_at<'a, K: Ord, V, H: KeyHash<K>, S: Beside<K, V>>(
+    slot: Seen<'a, K, V, S>,
     key: &K,
     at: HashPrefix,
 ) -> Option<&'a Arc<(K, V)>>
@@ -36,8 +37,8 @@ pub fn get_at<'a, K: Ord, V, H: KeyHash<K>>(
             children,
             ..
         } => {
-            let (child, below) = step::<K, V, H>(bitmap, children, at);
-            get_at::<K, V, H>(child, key, below)
+            let (child, below) = step::<K, V, H, S>(bitmap, children, at);
+            get_at::<K, V, H, S>(child, key, below)
         }
     }
 }

@@ -5,8 +5,12 @@
 //! other key is a leaf. So the shape, like the list of entries, depends on the keys alone. The
 //! structure is that of A. Prokopec, N. Bronson, P. Bagwell and M. Odersky, "Concurrent Tries with
 //! Efficient Non-Blocking Snapshots", PPoPP 2012, with nodes that never change once they are made.
+//!
+//! A map may have places for summaries of its entries, beside each branch that has neither few nor very many of them: one
+//! summary for all maps that share the branch.
 #![tactic(auto)]
 
+mod beside;
 mod blend;
 mod both;
 mod bucket;
@@ -27,6 +31,7 @@ mod ticks;
 mod trie;
 mod walk;
 
+pub use beside::{Beside, EntriesOf, LEAST_SUMMED, MOST_SUMMED, Nothing, Summary, Summed};
 pub use blend::{Blend, Later};
 pub use cutting::{Cutting, MAX_DEPTH};
 pub use laws::{

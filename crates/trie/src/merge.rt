@@ -8,6 +8,7 @@ ghost use Rattle.trie.specs.Dense.{IsDense, slots_in};
 ghost use Rattle.trie.specs.Digits.{slot_count};
 ghost use Rattle.trie.specs.Nodes.{node_of};
 
+use crate::beside::Beside;
 use crate::blend::Blend;
 use crate::both::{blended_pair, pair_of_both};
 use crate::digits::{Bitmap, HashPrefix, SLOTS};
@@ -92,13 +93,13 @@ fn merged_pairs<K: Ord + Clone + Drop, V: Drop, H: KeyHash<K>, B: Blend<V>>(
 }
 
 /// The bucket of two buckets.
-fn bucket_of_both<K: Ord + Clone + Drop, V: Drop, H: KeyHash<K>, B: Blend<V>>(
+fn bucket_of_both<K: Ord + Clone + Drop, V: Drop, H: KeyHash<K>, S: Beside<K, V>, B: Blend<V>>(
     alloc: Global,
     first: &Vec<Arc<(K, V)>>,
     second: &Vec<Arc<(K, V)>>,
     blend: &B,
     ticks: &mut Ticks,
-) -> Result<Slot<K, V>, AllocError>
+) -> Result<Slot<K, V, S>, AllocError>
     requires clones { ClonesEqual K.is_clone }
     requires first_rises { IsRising K.cmp (keys_of (pairs_of first.now.items)) }
     requires second_rises { IsRising K.cmp (keys_of (pairs_of second.now.items)) }
@@ -113,16 +114,16 @@ fn bucket_of_both<K: Ord + Clone + Drop, V: Drop, H: KeyHash<K>, B: Blend<V>>(
 }
 
 /// Two slots of one prefix of this depth, of which one is a leaf: the other with the entry of the leaf's key in both.
-fn leaf_over<K: Ord + Clone + Drop, V: Drop, H: KeyHash<K>, B: Blend<V>>(
+fn leaf_over<K: Ord + Clone + Drop, V: Drop, H: KeyHash<K>, S: Beside<K, V>, B: Blend<V>>(
     alloc: Global,
-    first: Seen<'_, K, V>,
-    second: Seen<'_, K, V>,
+    first: Seen<'_, K, V, S>,
+    second: Seen<'_, K, V, S>,
     leaf: &Arc<(K, V)>,
-    other: Seen<'_, K, V>,
+    other: Seen<'_, K, V, S>,
     blend: &B,
     depth: u32,
     ticks: &mut Ticks,
-) -> Result<Slot<K, V>, AllocError>
+) -> Result<Slot<K, V, S>, AllocError>
     requires clones { ClonesEqual K.is_clone }
     requires meets { LeafMeets H.hash_of K.cmp (B.asks blend.now) (B.blend_of blend.now) depth (seen_in first) (seen_in second) leaf.now.value (seen_in other) }
     ensures map { IfOk result (λ p. Merges H.hash_of K.cmp (B.blend_of blend.now) depth (seen_in first.entry) (seen_in second.entry) (node_of p)) }
@@ -130,21 +131,21 @@ fn leaf_over<K: Ord + Clone + Drop, V: Drop, H: KeyHash<K>, B: Blend<V>>(
 {
     let key = &leaf.0;
     let at = HashPrefix::at(H::hash(key), depth);
-    let old = get_at::<K, V, H>(first, key, at);
-    let new = get_at::<K, V, H>(second, key, at);
+    let old = get_at::<K, V, H, S>(first, key, at);
+    let new = get_at::<K, V, H, S>(second, key, at);
     let pair = pair_of_both(alloc, blend, old, new)?;
-    let node = put_at::<K, V, H>(alloc, other, &pair, at, ticks)?;
+    let node = put_at::<K, V, H, S>(alloc, other, &pair, at, ticks)?;
     Ok(Some(node))
 }
 
 /// The children of a digit in two branches; None where neither has one.
-fn children_of_both<'a, K, V>(
+fn children_of_both<'a, K, V, S: Beside<K, V>>(
     first: Bitmap,
-    old: &'a Vec<Node<K, V>>,
+    old: &'a Vec<Node<K, V, S>>,
     second: Bitmap,
-    more: &'a Vec<Node<K, V>>,
+    more: &'a Vec<Node<K, V, S>>,
     digit: usize,
-) -> Option<(Seen<'a, K, V>, Seen<'a, K, V>)>
+) -> Option<(Seen<'a, K, V, S>, Seen<'a, K, V, S>)>
     requires digit { digit < slot_count }
     requires first_dense { IsDense first (length old.now.items) }
     requires second_dense { IsDense second (length more.now.items) }
@@ -157,14 +158,14 @@ fn children_of_both<'a, K, V>(
 }
 
 /// Two slots of one prefix together. What only one of them has is shared, not made anew.
-pub fn merge_at<K: Ord + Clone + Drop, V: Drop, H: KeyHash<K>, B: Blend<V>>(
+pub fn merge_at<K: Ord + Clone + Drop, V: Drop, H: KeyHash<K>, S: Beside<K, V>, B: Blend<V>>(
     alloc: Global,
-    first: Seen<'_, K, V>,
-    second: Seen<'_, K, V>,
+    first: Seen<'_, K, V, S>,
+    second: Seen<'_, K, V, S>,
     blend: &B,
     depth: u32,
     ticks: &mut Ticks,
-) -> Result<Slot<K, V>, AllocError>
+) -> Result<Slot<K, V, S>, AllocError>
     requires clones { ClonesEqual K.is_clone }
     requires meet { Meet H.hash_of K.cmp (B.asks blend.now) depth (seen_in first) (seen_in second) }
     ensures map { IfOk result (λ p. Merges H.hash_of K.cmp (B.blend_of blend.now) depth (seen_in first.entry) (seen_in second.entry) (node_of p)) }
@@ -172,13 +173,13 @@ pub fn merge_at<K: Ord + Clone + Drop, V: Drop, H: KeyHash<K>, B: Blend<V>>(
     // For each entry of either, a node for each digit that is left, and one more.
     ensures counted { CountsBoth depth (length (held_at first.entry)) (length (held_at second.entry)) ticks.old ticks.new }
 {
-    match how_they_meet::<K, V, H, B>(first, second, blend, depth) {
+    match how_they_meet::<K, V, H, S, B>(first, second, blend, depth) {
         Meeting::Alone(slot) => shared(slot),
         Meeting::Leaf(leaf, other) => {
-            leaf_over::<K, V, H, B>(alloc, first, second, leaf, other, blend, depth, ticks)
+            leaf_over::<K, V, H, S, B>(alloc, first, second, leaf, other, blend, depth, ticks)
         }
         Meeting::Buckets(pairs, more) => {
-            bucket_of_both::<K, V, H, B>(alloc, pairs, more, blend, ticks)
+            bucket_of_both::<K, V, H, S, B>(alloc, pairs, more, blend, ticks)
         }
         Meeting::Branches {
             first,
@@ -191,7 +192,7 @@ pub fn merge_at<K: Ord + Clone + Drop, V: Drop, H: KeyHash<K>, B: Blend<V>>(
                 let Some((one, other)) = children_of_both(first, old, second, more, digit) else {
                     continue;
                 };
-                let child = merge_at::<K, V, H, B>(alloc, one, other, blend, depth + 1, ticks)?;
+                let child = merge_at::<K, V, H, S, B>(alloc, one, other, blend, depth + 1, ticks)?;
                 made = grown(made, digit, child)?;
             }
             branch_of(alloc, made, ticks)

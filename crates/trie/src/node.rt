@@ -7,23 +7,29 @@ ghost use Rattle.trie.specs.Dense.{below_bit, bit_at, IsDense, slots_in};
 ghost use Rattle.trie.specs.Digits.{digit, slot_count};
 ghost use Rattle.trie.specs.Holding.{AreSlots, CanHold, held_at, held_with, Holds, IsSlotAt, IsWritten, len_in, node_len};
 ghost use Rattle.trie.specs.Holding.{made_of, prefix_of, seen_in, shown, sole_node};
-ghost use Rattle.trie.specs.Nodes.{Branch, node_of, owned, values};
-ghost use Rattle.trie.specs.Tree.{entries_in};
+ghost use Rattle.trie.specs.Nodes.{node_of, owned, values};
+ghost use Rattle.trie.specs.Tree.{branch_of, entries, entries_in};
 
+use crate::beside::{Beside, Side};
 use crate::digits::{Bitmap, HashPrefix};
 use crate::ticks::Ticks;
 use cells::KeyHash;
+use shelf::Shows;
 use std::alloc::{AllocError, Global};
 use std::sync::Arc;
 
 /// A slot of a branch, or the root's: empty, or with the node of its prefix.
-pub type Slot<K, V> = Option<Node<K, V>>;
+pub type Slot<K, V, S> = Option<Node<K, V, S>>;
 
 /// A slot that is looked at.
-pub type Seen<'a, K, V> = Option<&'a Node<K, V>>;
+pub type Seen<'a, K, V, S> = Option<&'a Node<K, V, S>>;
 
 /// A node, which never changes once it is made, with one owner of what it has. The hashes of its keys share a prefix.
-pub type Node<K, V> = Owner<(K, V), Inner<K, V>>;
+/// `S` lies beside the entries below each branch.
+pub type Node<K, V, S> = NodeOf<K, V, Side<K, V, S>>;
+
+/// The same with `B` in each branch, so that no type that contains itself names what lies there.
+pub type NodeOf<K, V, B> = Owner<(K, V), Inner<K, V, B>>;
 
 /// An owner of a leaf's pair or of an inner node. A leaf has nothing beside its pair, so whoever comes to its slot has
 /// come to its pair's owner. (An inner node is a parameter, so that of the two types one alone contains itself.)
@@ -37,30 +43,32 @@ pub enum Owner<P, I> {
 
 /// An inner node: two keys or more.
 #[derive(Drop)]
-pub enum Inner<K, V> {
+pub enum Inner<K, V, B> {
     /// The keys of one hash, rising.
     Bucket(Vec<Arc<(K, V)>>),
     /// How many entries there are below the children, which digits have a child, and the children in
-    /// the order of their digits: a child's position is the number of set bits below its bit.
+    /// the order of their digits: a child's position is the number of set bits below its bit. And what lies beside the
+    /// entries.
     Branch {
         len: u64,
         bitmap: Bitmap,
-        children: Vec<Node<K, V>>,
+        children: Vec<NodeOf<K, V, B>>,
+        beside: B,
     },
 }
 
 /// What a node is made of.
 #[derive(Drop)]
-pub enum Unmade<K, V> {
+pub enum Unmade<K, V, B> {
     Leaf(Arc<(K, V)>),
-    Inner(Inner<K, V>),
+    Inner(Inner<K, V, B>),
 }
 
 /// The children of a branch in the making.
 #[derive(Drop)]
-pub struct Children<K, V> {
+pub struct Children<K, V, B> {
     pub bitmap: Bitmap,
-    pub children: Vec<Node<K, V>>,
+    pub children: Vec<NodeOf<K, V, B>>,
 }
 
 impl<P: Drop, I: Drop> Owner<P, I> {
@@ -76,7 +84,7 @@ impl<P: Drop, I: Drop> Owner<P, I> {
 }
 
 /// What stands in a slot.
-pub enum View<'a, K, V> {
+pub enum View<'a, K, V, B> {
     Empty,
     /// The only pair of its prefix.
     Leaf(&'a Arc<(K, V)>),
@@ -84,11 +92,12 @@ pub enum View<'a, K, V> {
     Branch {
         len: u64,
         bitmap: Bitmap,
-        children: &'a Vec<Node<K, V>>,
+        children: &'a Vec<NodeOf<K, V, B>>,
+        beside: &'a B,
     },
 }
 
-impl<K, V> Clone for View<'_, K, V> {
+impl<K, V, B> Clone for View<'_, K, V, B> {
     ghost is_clone = { λ one copy. copy ≡ one };
 
     ghost is_infallible = { λ _. Unit };
@@ -98,10 +107,10 @@ impl<K, V> Clone for View<'_, K, V> {
     }
 }
 
-impl<K, V> Copy for View<'_, K, V> {}
+impl<K, V, B> Copy for View<'_, K, V, B> {}
 
 /// What stands in a slot, through its owners.
-pub fn view_of<K, V>(slot: Seen<'_, K, V>) -> View<'_, K, V>
+pub fn view_of<K, V, S: Beside<K, V>>(slot: Seen<'_, K, V, S>) -> View<'_, K, V, Side<K, V, S>>
     ensures { seen_in slot.entry ≡ shown result }
 {
     let Some(node) = slot else {
@@ -115,17 +124,19 @@ pub fn view_of<K, V>(slot: Seen<'_, K, V>) -> View<'_, K, V>
                 len,
                 bitmap,
                 children,
+                beside,
             } => View::Branch {
                 len: *len,
                 bitmap: *bitmap,
                 children,
+                beside,
             },
         },
     }
 }
 
 /// How many entries there are below a node.
-pub fn node_len<K, V>(node: &Node<K, V>) -> u64
+pub fn node_len<K, V, S: Beside<K, V>>(node: &Node<K, V, S>) -> u64
     ensures { result ≡ node_len (owned node.now) }
 {
     match node {
@@ -138,7 +149,7 @@ pub fn node_len<K, V>(node: &Node<K, V>) -> u64
 }
 
 /// How many entries there are in a slot.
-pub fn len<K, V>(slot: &Slot<K, V>) -> u64
+pub fn len<K, V, S: Beside<K, V>>(slot: &Slot<K, V, S>) -> u64
     ensures { result ≡ len_in (node_of slot.now) }
 {
     match slot {
@@ -148,7 +159,7 @@ pub fn len<K, V>(slot: &Slot<K, V>) -> u64
 }
 
 /// The same slot, to be looked at.
-pub fn seen<K, V>(slot: &Slot<K, V>) -> Seen<'_, K, V>
+pub fn seen<K, V, S: Beside<K, V>>(slot: &Slot<K, V, S>) -> Seen<'_, K, V, S>
     ensures { seen_in result ≡ node_of slot.now }
 {
     match slot {
@@ -158,11 +169,11 @@ pub fn seen<K, V>(slot: &Slot<K, V>) -> Seen<'_, K, V>
 }
 
 /// The only place where a node is made, and so where it is counted.
-pub fn make<K: Drop, V: Drop>(
+pub fn make<K: Drop, V: Drop, S: Beside<K, V>>(
     alloc: Global,
-    node: Unmade<K, V>,
+    node: Unmade<K, V, Side<K, V, S>>,
     ticks: &mut Ticks,
-) -> Result<Node<K, V>, AllocError>
+) -> Result<Node<K, V, S>, AllocError>
     ensures made { IfOk result (λ made. owned made ≡ made_of node) }
     ensures one { OnOk result (ticks.new ≡ next_count ticks.old) }
     ensures none { OnErr result (ticks.new ≡ ticks.old) }
@@ -178,7 +189,9 @@ pub fn make<K: Drop, V: Drop>(
 }
 
 /// The same slot, its node with one owner more.
-pub fn shared<K: Drop, V: Drop>(slot: Seen<'_, K, V>) -> Result<Slot<K, V>, AllocError>
+pub fn shared<K: Drop, V: Drop, S: Beside<K, V>>(
+    slot: Seen<'_, K, V, S>,
+) -> Result<Slot<K, V, S>, AllocError>
     ensures { IfOk result (λ copy. node_of copy ≡ seen_in slot.entry) }
 {
     match slot {
@@ -188,10 +201,10 @@ pub fn shared<K: Drop, V: Drop>(slot: Seen<'_, K, V>) -> Result<Slot<K, V>, Allo
 }
 
 /// The same children, each with one owner more, with room for one more of them.
-pub fn shared_children<K: Drop, V: Drop>(
+pub fn shared_children<K: Drop, V: Drop, S: Beside<K, V>>(
     alloc: Global,
-    children: &Vec<Node<K, V>>,
-) -> Result<Vec<Node<K, V>>, AllocError>
+    children: &Vec<Node<K, V, S>>,
+) -> Result<Vec<Node<K, V, S>>, AllocError>
     ensures { IfOk result (λ copy. values copy.items ≡ values children.now.items) }
 {
     let mut copy = Vec::with_capacity(alloc, children.len() + 1)?;
@@ -227,11 +240,11 @@ fn position(bitmap: Bitmap, digit: usize) -> usize
 }
 
 /// The slot of a digit.
-pub fn child_at<'a, K, V>(
+pub fn child_at<'a, K, V, S: Beside<K, V>>(
     bitmap: Bitmap,
-    children: &'a Vec<Node<K, V>>,
+    children: &'a Vec<Node<K, V, S>>,
     digit: usize,
-) -> Seen<'a, K, V>
+) -> Seen<'a, K, V, S>
     requires digit { digit < slot_count }
     requires dense { IsDense bitmap (length children.now.items) }
     ensures { seen_in result ≡ get_or (slots_in bitmap children.now.items) digit None }
@@ -243,11 +256,11 @@ pub fn child_at<'a, K, V>(
 }
 
 /// One step down: the slot of the digit after the prefix, and the prefix with that digit.
-pub fn step<'a, K: Ord, V, H: KeyHash<K>>(
+pub fn step<'a, K: Ord, V, H: KeyHash<K>, S: Beside<K, V>>(
     bitmap: Bitmap,
-    children: &'a Vec<Node<K, V>>,
+    children: &'a Vec<Node<K, V, S>>,
     at: HashPrefix,
-) -> (Seen<'a, K, V>, HashPrefix)
+) -> (Seen<'a, K, V, S>, HashPrefix)
     requires slots { AreSlots H.hash_of K.cmp (prefix_of at) (slots_in bitmap children.now.items) }
     requires dense { IsDense bitmap (length children.now.items) }
     ensures hash { result.1.hash ≡ at.hash }
@@ -260,12 +273,12 @@ pub fn step<'a, K: Ord, V, H: KeyHash<K>>(
 }
 
 /// These children with this one in the slot of a digit.
-pub fn written<K: Drop, V: Drop>(
+pub fn written<K: Drop, V: Drop, S: Beside<K, V>>(
     bitmap: Bitmap,
-    mut children: Vec<Node<K, V>>,
+    mut children: Vec<Node<K, V, S>>,
     digit: usize,
-    slot: Slot<K, V>,
-) -> Result<Children<K, V>, AllocError>
+    slot: Slot<K, V, S>,
+) -> Result<Children<K, V, Side<K, V, S>>, AllocError>
     requires digit { digit < slot_count }
     requires dense { IsDense bitmap (length children.items) }
     ensures { IfOk result (IsWritten (set (slots_in bitmap children.items) digit (node_of slot))) }
@@ -289,10 +302,10 @@ pub fn written<K: Drop, V: Drop>(
 }
 
 /// No children yet, with room for one of each digit of a bitmap.
-pub fn room_for<K: Drop, V: Drop>(
+pub fn room_for<K: Drop, V: Drop, S: Beside<K, V>>(
     alloc: Global,
     bitmap: Bitmap,
-) -> Result<Children<K, V>, AllocError>
+) -> Result<Children<K, V, Side<K, V, S>>, AllocError>
     ensures none { IfOk result (λ made. (made.bitmap ≡ 0) × (made.children.items ≡ [])) }
     ensures room { IfOk result (λ made. vec_capacity made.children ≡ count_ones bitmap) }
 {
@@ -313,11 +326,11 @@ pub fn either_has(first: Bitmap, second: Bitmap, digit: usize) -> bool
 }
 
 /// These children, all of them in slots before that of the digit, with this one in its slot.
-pub fn grown<K: Drop, V: Drop>(
-    made: Children<K, V>,
+pub fn grown<K: Drop, V: Drop, S: Beside<K, V>>(
+    made: Children<K, V, Side<K, V, S>>,
     digit: usize,
-    slot: Slot<K, V>,
-) -> Result<Children<K, V>, AllocError>
+    slot: Slot<K, V, S>,
+) -> Result<Children<K, V, Side<K, V, S>>, AllocError>
     requires digit { digit < slot_count }
     requires dense { IsDense made.bitmap (length made.children.items) }
     requires before { made.bitmap < 2 ^ digit }
@@ -337,14 +350,14 @@ pub fn grown<K: Drop, V: Drop>(
 
 /// The node of these children with this one in the slot after the prefix. Where one entry is
 /// left, it is its leaf, shared and not made anew.
-pub fn with_slot<K: Ord + Drop, V: Drop, H: KeyHash<K>>(
+pub fn with_slot<K: Ord + Drop, V: Drop, H: KeyHash<K>, S: Beside<K, V>>(
     alloc: Global,
     bitmap: Bitmap,
-    children: Vec<Node<K, V>>,
-    slot: Slot<K, V>,
+    children: Vec<Node<K, V, S>>,
+    slot: Slot<K, V, S>,
     at: HashPrefix,
     ticks: &mut Ticks,
-) -> Result<Node<K, V>, AllocError>
+) -> Result<Node<K, V, S>, AllocError>
     requires { CanHold H.hash_of K.cmp at bitmap children.items slot }
     ensures held { IfOk result (λ n.
         Holds H.hash_of K.cmp (prefix_of at) (held_with at (slots_in bitmap children.items) slot) (Some (owned n))) }
@@ -356,23 +369,25 @@ pub fn with_slot<K: Ord + Drop, V: Drop, H: KeyHash<K>>(
     if let Some(only) = sole(&new.children, len)? {
         return Ok(only);
     }
+    let beside = beside_of(alloc, &new.children, len)?;
     let branch = Inner::Branch {
         len,
         bitmap: new.bitmap,
         children: new.children,
+        beside,
     };
     make(alloc, Unmade::Inner(branch), ticks)
 }
 
 /// The same of children that stay as they are: each gets one owner more.
-pub fn copied_with<K: Ord + Drop, V: Drop, H: KeyHash<K>>(
+pub fn copied_with<K: Ord + Drop, V: Drop, H: KeyHash<K>, S: Beside<K, V>>(
     alloc: Global,
     bitmap: Bitmap,
-    children: &Vec<Node<K, V>>,
-    slot: Slot<K, V>,
+    children: &Vec<Node<K, V, S>>,
+    slot: Slot<K, V, S>,
     at: HashPrefix,
     ticks: &mut Ticks,
-) -> Result<Node<K, V>, AllocError>
+) -> Result<Node<K, V, S>, AllocError>
     requires { CanHold H.hash_of K.cmp at bitmap children.now.items slot }
     ensures held { IfOk result (λ n.
         Holds H.hash_of K.cmp (prefix_of at) (held_with at (slots_in bitmap children.now.items) slot) (Some (owned n))) }
@@ -380,11 +395,11 @@ pub fn copied_with<K: Ord + Drop, V: Drop, H: KeyHash<K>>(
     ensures grows { ticks.old ≤ ticks.new }
 {
     let children = shared_children(alloc, children)?;
-    with_slot::<K, V, H>(alloc, bitmap, children, slot, at, ticks)
+    with_slot::<K, V, H, S>(alloc, bitmap, children, slot, at, ticks)
 }
 
 /// How many entries there are below the children.
-pub fn total<K, V>(children: &[Node<K, V>]) -> u64
+pub fn total<K, V, S: Beside<K, V>>(children: &[Node<K, V, S>]) -> u64
     requires { sum_by node_len (values children.now) < 2 ^ 64 }
     ensures { result ≡ sum_by node_len (values children.now) }
 {
@@ -392,27 +407,56 @@ pub fn total<K, V>(children: &[Node<K, V>]) -> u64
 }
 
 /// A branch of these children, of which there are two entries or more.
-pub fn branch_of<K: Drop, V: Drop>(
+pub fn branch_of<K: Drop, V: Drop, S: Beside<K, V>>(
     alloc: Global,
-    made: Children<K, V>,
+    made: Children<K, V, Side<K, V, S>>,
     ticks: &mut Ticks,
-) -> Result<Slot<K, V>, AllocError>
+) -> Result<Slot<K, V, S>, AllocError>
     requires fits { sum_by node_len (values made.children.items) < 2 ^ 64 }
-    ensures made { IfOk result (λ p. node_of p ≡ Some (Branch (sum_by node_len (values made.children.items)) made.bitmap made.children)) }
+    ensures made { IfOk result (λ p. node_of p ≡ Some (branch_of (sum_by node_len (values made.children.items)) made.bitmap made.children)) }
     ensures one { OnOk result (ticks.new ≡ next_count ticks.old) }
     ensures counted { ticks.new ≤ ticks.old + 1 }
     ensures grows { ticks.old ≤ ticks.new }
 {
+    let len = total(&made.children);
+    let beside = beside_of(alloc, &made.children, len)?;
     let branch = Inner::Branch {
-        len: total(&made.children),
+        len,
         bitmap: made.bitmap,
         children: made.children,
+        beside,
     };
     Ok(Some(make(alloc, Unmade::Inner(branch), ticks)?))
 }
 
+/// The entries below children.
+struct Below;
+
+impl<K, V, S: Beside<K, V>> Shows<Vec<Node<K, V, S>>, (K, V)> for Below {
+    ghost use Rattle.std.specs.List.{flat_map};
+    ghost use Rattle.trie.specs.Nodes.{values};
+    ghost use Rattle.trie.specs.Tree.{entries};
+
+    ghost shown = { λ children. flat_map entries (values children.items) };
+}
+
+/// What lies at first beside the entries below these children; `len` says how many they are. Each branch that is made
+/// has one of its own, so a summary is of the branch's own entries and no others.
+fn beside_of<K, V, S: Beside<K, V>>(
+    alloc: Global,
+    children: &Vec<Node<K, V, S>>,
+    len: u64,
+) -> Result<Side<K, V, S>, AllocError>
+    ensures { IfOk result (λ beside. beside ≡ flat_map entries (values children.now.items)) }
+{
+    Side::of::<Vec<Node<K, V, S>>, Below>(alloc, children, len)
+}
+
 /// The only node, where there is one entry.
-fn sole<K: Drop, V: Drop>(children: &Vec<Node<K, V>>, len: u64) -> Result<Slot<K, V>, AllocError>
+fn sole<K: Drop, V: Drop, S: Beside<K, V>>(
+    children: &Vec<Node<K, V, S>>,
+    len: u64,
+) -> Result<Slot<K, V, S>, AllocError>
     ensures { IfOk result (λ only. node_of only ≡ sole_node len (values children.now.items)) }
 {
     if len != 1 {

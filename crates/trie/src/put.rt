@@ -5,10 +5,12 @@ ghost use Rattle.trie.specs.Digits.{digit_count};
 ghost use Rattle.trie.specs.Holding.{HasPair, held_at, IsSlotAt, IsReached, seen_in};
 ghost use Rattle.trie.specs.Nodes.{Leaf, owned};
 
+use crate::beside::{Beside, Side};
 use crate::bucket::{with_entry, with_one};
 use crate::digits::{Bitmap, HashPrefix};
 use crate::node::{
-    Inner, Node, Seen, Unmade, View, make, shared_children, step, view_of, with_slot, written,
+    Inner, Node, NodeOf, Seen, Unmade, View, make, shared_children, step, view_of, with_slot,
+    written,
 };
 use crate::ticks::Ticks;
 use cells::KeyHash;
@@ -18,22 +20,22 @@ use std::sync::Arc;
 /// How far a put goes down: it ends here, with a node of this in place of the old one, or it goes on
 /// below these slots.
 #[derive(Drop)]
-pub enum Reach<K, V> {
-    Here(Unmade<K, V>),
+pub enum Reach<K, V, B> {
+    Here(Unmade<K, V, B>),
     Below {
         bitmap: Bitmap,
-        children: Vec<Node<K, V>>,
+        children: Vec<NodeOf<K, V, B>>,
     },
 }
 
 /// The node below the prefix with the pair.
-pub fn put_at<K: Ord + Drop, V: Drop, H: KeyHash<K>>(
+pub fn put_at<K: Ord + Drop, V: Drop, H: KeyHash<K>, S: Beside<K, V>>(
     alloc: Global,
-    slot: Seen<'_, K, V>,
+    slot: Seen<'_, K, V, S>,
     pair: &Arc<(K, V)>,
     at: HashPrefix,
     ticks: &mut Ticks,
-) -> Result<Node<K, V>, AllocError>
+) -> Result<Node<K, V, S>, AllocError>
     requires hashed { at.hash ≡ H.hash_of pair.now.value.0 }
     requires placed { IsSlotAt H.hash_of K.cmp at (seen_in slot) }
     requires room { length (held_at slot) + 1 < 2 ^ 64 }
@@ -44,30 +46,30 @@ pub fn put_at<K: Ord + Drop, V: Drop, H: KeyHash<K>>(
     ensures some { OnOk result (next_count ticks.old ≤ ticks.new) }
     ensures grows { ticks.old ≤ ticks.new }
 {
-    match how_far::<K, V, H>(alloc, slot, pair, at)? {
+    match how_far::<K, V, H, S>(alloc, slot, pair, at)? {
         Reach::Here(node) => make(alloc, node, ticks),
         Reach::Below { bitmap, children } => {
-            let (child, below) = step::<K, V, H>(bitmap, &children, at);
-            let child = put_at::<K, V, H>(alloc, child, pair, below, ticks)?;
-            with_slot::<K, V, H>(alloc, bitmap, children, Some(child), at, ticks)
+            let (child, below) = step::<K, V, H, S>(bitmap, &children, at);
+            let child = put_at::<K, V, H, S>(alloc, child, pair, below, ticks)?;
+            with_slot::<K, V, H, S>(alloc, bitmap, children, Some(child), at, ticks)
         }
     }
 }
 
 /// How far a put goes down from a slot.
-fn how_far<K: Ord + Drop, V: Drop, H: KeyHash<K>>(
+fn how_far<K: Ord + Drop, V: Drop, H: KeyHash<K>, S: Beside<K, V>>(
     alloc: Global,
-    slot: Seen<'_, K, V>,
+    slot: Seen<'_, K, V, S>,
     pair: &Arc<(K, V)>,
     at: HashPrefix,
-) -> Result<Reach<K, V>, AllocError>
+) -> Result<Reach<K, V, Side<K, V, S>>, AllocError>
     requires hashed { at.hash ≡ H.hash_of pair.now.value.0 }
     requires placed { IsSlotAt H.hash_of K.cmp at (seen_in slot) }
     ensures { IfOk result (IsReached H.hash_of K.cmp at pair.now.value (seen_in slot.entry)) }
 {
     match view_of(slot) {
         View::Empty => Ok(Reach::Here(Unmade::Leaf(Arc::try_clone(pair)?))),
-        View::Leaf(old) => from_leaf::<K, V, H>(alloc, old, pair, at),
+        View::Leaf(old) => from_leaf::<K, V, H, S>(alloc, old, pair, at),
         View::Bucket(pairs) => {
             let pairs = with_entry(alloc, pairs, Arc::try_clone(pair)?)?;
             Ok(Reach::Here(Unmade::Inner(Inner::Bucket(pairs))))
@@ -84,12 +86,12 @@ fn how_far<K: Ord + Drop, V: Drop, H: KeyHash<K>>(
 }
 
 /// How far a put goes down from a leaf.
-fn from_leaf<K: Ord + Drop, V: Drop, H: KeyHash<K>>(
+fn from_leaf<K: Ord + Drop, V: Drop, H: KeyHash<K>, S: Beside<K, V>>(
     alloc: Global,
     old: &Arc<(K, V)>,
     pair: &Arc<(K, V)>,
     at: HashPrefix,
-) -> Result<Reach<K, V>, AllocError>
+) -> Result<Reach<K, V, Side<K, V, S>>, AllocError>
     requires hashed { at.hash ≡ H.hash_of pair.now.value.0 }
     requires placed { IsSlotAt H.hash_of K.cmp at (Some (Leaf old.now.value)) }
     ensures { IfOk result (IsReached H.hash_of K.cmp at pair.now.value (Some (Leaf old.now.value))) }

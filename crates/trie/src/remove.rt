@@ -7,9 +7,12 @@ ghost use Rattle.trie.specs.Holding.{CanHold, held_at, held_with, IsLeft, IsSlot
 ghost use Rattle.trie.specs.Nodes.{Bucket};
 ghost use Rattle.trie.specs.Tree.{IsSlot};
 
+use crate::beside::{Beside, Side};
 use crate::bucket::without;
 use crate::digits::{Bitmap, HashPrefix};
-use crate::node::{Inner, Node, Seen, Slot, Unmade, View, copied_with, make, step, view_of};
+use crate::node::{
+    Inner, Node, NodeOf, Seen, Slot, Unmade, View, copied_with, make, step, view_of,
+};
 use crate::ticks::Ticks;
 use cells::KeyHash;
 use std::alloc::{AllocError, Global};
@@ -17,19 +20,19 @@ use std::sync::Arc;
 
 /// What a removal finds: no such key, or what is left without it.
 #[derive(Drop)]
-pub enum Removed<K, V> {
+pub enum Removed<K, V, B> {
     Missing,
-    Left(Slot<K, V>),
+    Left(Option<NodeOf<K, V, B>>),
 }
 
 /// The slot below the prefix without the key.
-pub fn remove_at<K: Ord + Drop, V: Drop, H: KeyHash<K>>(
+pub fn remove_at<K: Ord + Drop, V: Drop, H: KeyHash<K>, S: Beside<K, V>>(
     alloc: Global,
-    slot: Seen<'_, K, V>,
+    slot: Seen<'_, K, V, S>,
     key: &K,
     at: HashPrefix,
     ticks: &mut Ticks,
-) -> Result<Removed<K, V>, AllocError>
+) -> Result<Removed<K, V, Side<K, V, S>>, AllocError>
     requires hashed { at.hash ≡ H.hash_of key.now }
     requires placed { IsSlotAt H.hash_of K.cmp at (seen_in slot) }
     requires fits { length (held_at slot) < 2 ^ 64 }
@@ -50,47 +53,48 @@ pub fn remove_at<K: Ord + Drop, V: Drop, H: KeyHash<K>>(
                 Ok(Removed::Missing)
             }
         }
-        View::Bucket(pairs) => remove_from_bucket::<K, V, H>(alloc, pairs, key, at, ticks),
+        View::Bucket(pairs) => remove_from_bucket::<K, V, H, S>(alloc, pairs, key, at, ticks),
         View::Branch {
             bitmap,
             children,
             ..
         } => {
-            let (child, below) = step::<K, V, H>(bitmap, children, at);
-            let Removed::Left(rest) = remove_at::<K, V, H>(alloc, child, key, below, ticks)? else {
+            let (child, below) = step::<K, V, H, S>(bitmap, children, at);
+            let Removed::Left(rest) = remove_at::<K, V, H, S>(alloc, child, key, below, ticks)?
+            else {
                 return Ok(Removed::Missing);
             };
-            left_with::<K, V, H>(alloc, bitmap, children, rest, at, ticks)
+            left_with::<K, V, H, S>(alloc, bitmap, children, rest, at, ticks)
         }
     }
 }
 
 /// What is left of a branch: these children, with this one in the slot after the prefix.
-fn left_with<K: Ord + Drop, V: Drop, H: KeyHash<K>>(
+fn left_with<K: Ord + Drop, V: Drop, H: KeyHash<K>, S: Beside<K, V>>(
     alloc: Global,
     bitmap: Bitmap,
-    children: &Vec<Node<K, V>>,
-    rest: Slot<K, V>,
+    children: &Vec<Node<K, V, S>>,
+    rest: Slot<K, V, S>,
     at: HashPrefix,
     ticks: &mut Ticks,
-) -> Result<Removed<K, V>, AllocError>
+) -> Result<Removed<K, V, Side<K, V, S>>, AllocError>
     requires { CanHold H.hash_of K.cmp at bitmap children.now.items rest }
     ensures left { IfOk result (IsLeft H.hash_of K.cmp at (held_with at (slots_in bitmap children.now.items) rest)) }
     ensures counted { ticks.new ≤ ticks.old + 1 }
     ensures grows { ticks.old ≤ ticks.new }
 {
-    let node = copied_with::<K, V, H>(alloc, bitmap, children, rest, at, ticks)?;
+    let node = copied_with::<K, V, H, S>(alloc, bitmap, children, rest, at, ticks)?;
     Ok(Removed::Left(Some(node)))
 }
 
 /// The bucket without the key: a leaf, where one key is left.
-fn remove_from_bucket<K: Ord + Drop, V: Drop, H: KeyHash<K>>(
+fn remove_from_bucket<K: Ord + Drop, V: Drop, H: KeyHash<K>, S: Beside<K, V>>(
     alloc: Global,
     pairs: &Vec<Arc<(K, V)>>,
     key: &K,
     at: HashPrefix,
     ticks: &mut Ticks,
-) -> Result<Removed<K, V>, AllocError>
+) -> Result<Removed<K, V, Side<K, V, S>>, AllocError>
     requires hashed { at.hash ≡ H.hash_of key.now }
     requires placed { IsSlot H.hash_of K.cmp (Some (Bucket pairs.now)) (prefix_of at) }
     ensures map { IfOk result (IsRemoved H.hash_of K.cmp at key.now (pairs_of pairs.now.items)) }

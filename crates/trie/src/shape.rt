@@ -10,6 +10,7 @@ ghost use Rattle.trie.specs.Holding.{AreSlots, held_at, seen_in};
 ghost use Rattle.trie.specs.Shapes.{prefix_text, shape_below, shape_of};
 ghost use Rattle.trie.specs.Tree.{entries_in, IsSlot};
 
+use crate::beside::Beside;
 use crate::digits::{Bitmap, SLOTS, digit_text};
 use crate::node::{Node, Seen, View, child_at, view_of};
 use cells::KeyHash;
@@ -106,24 +107,24 @@ impl fmt::Display for Prefix {
 }
 
 /// The shape of the keys in a root.
-pub fn shape_in<K: Ord, V, H: KeyHash<K>>(
+pub fn shape_in<K: Ord, V, H: KeyHash<K>, S: Beside<K, V>>(
     alloc: Global,
-    root: Seen<'_, K, V>,
+    root: Seen<'_, K, V, S>,
 ) -> Result<Shape, AllocError>
     requires placed { IsSlot H.hash_of K.cmp (seen_in root) [] }
     ensures { IfOk result (λ v. v.items ≡ shape_of H.hash_of (keys_of (held_at root.entry))) }
 {
     let list = Vec::new(alloc);
     let prefix = Prefix::empty(alloc);
-    with_shape::<K, V, H>(alloc, list, &prefix, root)
+    with_shape::<K, V, H, S>(alloc, list, &prefix, root)
 }
 
 /// The list with the shape below a prefix behind it.
-fn with_shape<K: Ord, V, H: KeyHash<K>>(
+fn with_shape<K: Ord, V, H: KeyHash<K>, S: Beside<K, V>>(
     alloc: Global,
     list: Shape,
     prefix: &Prefix,
-    slot: Seen<'_, K, V>,
+    slot: Seen<'_, K, V, S>,
 ) -> Result<Shape, AllocError>
     requires placed { IsSlot H.hash_of K.cmp (seen_in slot) prefix.now }
     ensures { IfOk result (λ v. v.items
@@ -137,14 +138,15 @@ fn with_shape<K: Ord, V, H: KeyHash<K>>(
             len,
             bitmap,
             children,
+            ..
         } => {
             let mut shape = with_number(alloc, list, prefix, len)?;
             for digit in 0..SLOTS {
                 if !is_shared(bitmap, children, digit) {
                     continue;
                 }
-                let (slot, longer) = step::<K, V, H>(alloc, bitmap, children, prefix, digit)?;
-                shape = with_shape::<K, V, H>(alloc, shape, &longer, slot)?;
+                let (slot, longer) = step::<K, V, H, S>(alloc, bitmap, children, prefix, digit)?;
+                shape = with_shape::<K, V, H, S>(alloc, shape, &longer, slot)?;
             }
             Ok(shape)
         }
@@ -153,7 +155,11 @@ fn with_shape<K: Ord, V, H: KeyHash<K>>(
 
 /// Whether two keys or more share the prefix that ends in this digit. Below an empty slot there is none and below a leaf
 /// one, so no prefix is made for them.
-fn is_shared<K, V>(bitmap: Bitmap, children: &Vec<Node<K, V>>, digit: usize) -> bool
+fn is_shared<K, V, S: Beside<K, V>>(
+    bitmap: Bitmap,
+    children: &Vec<Node<K, V, S>>,
+    digit: usize,
+) -> bool
     requires digit { digit < slot_count }
     requires dense { IsDense bitmap (length children.now.items) }
     ensures { result ≡ false → length (entries_in (get_or (slots_in bitmap children.now.items) digit None)) < 2 }
@@ -179,13 +185,13 @@ fn with_number(
 }
 
 /// One step down: the slot of a digit behind the prefix, and the prefix with that digit.
-fn step<'a, K: Ord, V, H: KeyHash<K>>(
+fn step<'a, K: Ord, V, H: KeyHash<K>, S: Beside<K, V>>(
     alloc: Global,
     bitmap: Bitmap,
-    children: &'a Vec<Node<K, V>>,
+    children: &'a Vec<Node<K, V, S>>,
     prefix: &Prefix,
     digit: usize,
-) -> Result<(Seen<'a, K, V>, Prefix), AllocError>
+) -> Result<(Seen<'a, K, V, S>, Prefix), AllocError>
     requires slots { AreSlots H.hash_of K.cmp prefix.now (slots_in bitmap children.now.items) }
     requires dense { IsDense bitmap (length children.now.items) }
     requires digit { digit < slot_count }

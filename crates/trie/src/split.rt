@@ -1,5 +1,5 @@
 //! Cutting a map into pieces.
-ghost use Rattle.std.specs.Prelude.{◌≡◌, ◌++◌, ◌∷◌, ◌&&◌, [], IfOk, OnOk, length, nat_lt};
+ghost use Rattle.std.specs.Prelude.{◌≡◌, ◌++◌, ◌∷◌, ◌&&◌, [], IfOk, IfSome, OnOk, Option, length, nat_lt};
 ghost use Rattle.std.specs.Map.{keys_of};
 ghost use Rattle.trie.specs.Cuts.{IsPiece};
 ghost use Rattle.trie.specs.Maps.{RiseByHash};
@@ -9,6 +9,7 @@ ghost use Rattle.trie.specs.Nodes.{owned};
 ghost use Rattle.trie.specs.Tree.{entries};
 ghost use Rattle.trie.specs.Splitting.{IsCut, IsCuttable};
 
+use crate::beside::{Beside, Nothing, Side, Summary, Summed};
 use crate::cutting::Cutting;
 use crate::digits::SLOTS;
 use crate::entries::with_entries;
@@ -17,15 +18,16 @@ use crate::walk::{Visitor, walk_node};
 use cells::KeyHash;
 use std::alloc::{AllocError, Global};
 use std::marker::{Model, PhantomData};
+use std::sync::{Arc, Wait};
 
 /// A part of a map: the entries below one prefix, seen as their list.
 #[derive(Drop)]
-pub struct Piece<K: Ord, V, H: KeyHash<K>> {
-    node: Node<K, V>,
+pub struct Piece<K: Ord, V, H: KeyHash<K>, S: Beside<K, V> = Nothing> {
+    node: Node<K, V, S>,
     hash: PhantomData<H>,
 }
 
-impl<K: Ord, V, H: KeyHash<K>> Model for Piece<K, V, H> {
+impl<K: Ord, V, H: KeyHash<K>, S: Beside<K, V>> Model for Piece<K, V, H, S> {
     ghost use Rattle.std.specs.Prelude.{List};
 
     ghost Value = { List (K × V) };
@@ -39,7 +41,7 @@ impl<K: Ord, V, H: KeyHash<K>> Model for Piece<K, V, H> {
     ghost invariant = { λ p. IsPiece H.hash_of K.cmp (owned p.node) };
 }
 
-impl<K: Ord, V, H: KeyHash<K>> Piece<K, V, H> {
+impl<K: Ord, V, H: KeyHash<K>, S: Beside<K, V>> Piece<K, V, H, S> {
     /// Lends all entries, in digit order, each as the visitor asks for it. It takes no memory of its own.
     pub fn walk<W: Visitor<K, V>>(&self, visitor: &mut W) -> Result<(), AllocError>
         requires { MayTakeAll W.asks W.takes visitor.old self.now }
@@ -70,13 +72,54 @@ impl<K: Ord, V, H: KeyHash<K>> Piece<K, V, H> {
     }
 }
 
+impl<K: Ord, V, H: KeyHash<K>, S: Summary<K, V>> Piece<K, V, H, Summed<K, V, S>> {
+    /// One owner more of the summary that lies beside the piece's entries, for all maps that share the piece. The
+    /// first caller calls `make` and leaves there what it gives; whoever comes meanwhile sleeps until that is done,
+    /// and whoever comes later finds it. A put, a remove or a merge makes some branches anew: beside these no summary
+    /// lies yet, and the pieces of the old map keep theirs. `make` must not ask for the summary of this piece: it
+    /// would wait for itself.
+    ///
+    /// None where the piece has no place for one, since it has fewer than [`LEAST_SUMMED`](crate::LEAST_SUMMED)
+    /// entries or more than [`MOST_SUMMED`](crate::MOST_SUMMED), or all of them have one hash; where `make` gave none
+    /// or memory for it was refused, which is then so for all callers; and where one owner more was refused, which is
+    /// so for this caller alone.
+    pub fn summary_or_make<R: Wait, F: FnOnce() -> Option<S> + Drop>(
+        &self,
+        rt: &R,
+        make: F,
+    ) -> Option<Arc<S>>
+        requires callable { F.pre make }
+        requires describes { (made : Option S) → F.post make made → IfSome made (S.describes self.now) }
+        ensures { IfSome result (λ summary. S.describes self.now summary.value) }
+    {
+        let side = side_of::<K, V, H, Summed<K, V, S>>(&self.node)?;
+        side.summary_or_make(rt, make)
+    }
+}
+
+/// What lies beside a piece's entries: something where its node is a branch.
+fn side_of<K: Ord, V, H: KeyHash<K>, S: Beside<K, V>>(
+    node: &Node<K, V, S>,
+) -> Option<&Side<K, V, S>>
+    requires { IsPiece H.hash_of K.cmp (owned node.now) }
+    ensures { IfSome result (λ side. side.now ≡ entries (owned node.now)) }
+{
+    match node {
+        Node::Leaf(_) => None,
+        Node::Inner(inner) => match &**inner {
+            Inner::Bucket(_) => None,
+            Inner::Branch { beside, .. } => Some(beside),
+        },
+    }
+}
+
 /// The list with the pieces of the slot behind it.
-pub fn with_pieces<K: Ord + Drop, V: Drop, H: KeyHash<K>>(
-    mut list: Vec<Piece<K, V, H>>,
-    slot: Seen<'_, K, V>,
+pub fn with_pieces<K: Ord + Drop, V: Drop, H: KeyHash<K>, S: Beside<K, V>>(
+    mut list: Vec<Piece<K, V, H, S>>,
+    slot: Seen<'_, K, V, S>,
     cutting: &Cutting,
     depth: u32,
-) -> Result<Vec<Piece<K, V, H>>, AllocError>
+) -> Result<Vec<Piece<K, V, H, S>>, AllocError>
     requires { IsCuttable H.hash_of K.cmp depth (seen_in slot) }
     ensures { IfOk result (λ v. IsCut H.hash_of K.cmp cutting.now.depth cutting.now.small depth (seen_in slot.entry) list.items v.items) }
 {
@@ -91,13 +134,14 @@ pub fn with_pieces<K: Ord + Drop, V: Drop, H: KeyHash<K>>(
                 len,
                 bitmap,
                 children,
+                ..
             } => {
                 if !is_opened(*len, cutting, depth) {
                     return with_piece(list, node);
                 }
                 for digit in 0..SLOTS {
                     let child = child_at(*bitmap, children, digit);
-                    list = with_pieces::<K, V, H>(list, child, cutting, depth + 1)?;
+                    list = with_pieces::<K, V, H, S>(list, child, cutting, depth + 1)?;
                 }
                 Ok(list)
             }
@@ -113,10 +157,10 @@ fn is_opened(len: u64, cutting: &Cutting, depth: u32) -> bool
 }
 
 /// The list with the node as a piece behind it.
-fn with_piece<K: Ord + Drop, V: Drop, H: KeyHash<K>>(
-    mut list: Vec<Piece<K, V, H>>,
-    node: &Node<K, V>,
-) -> Result<Vec<Piece<K, V, H>>, AllocError>
+fn with_piece<K: Ord + Drop, V: Drop, H: KeyHash<K>, S: Beside<K, V>>(
+    mut list: Vec<Piece<K, V, H, S>>,
+    node: &Node<K, V, S>,
+) -> Result<Vec<Piece<K, V, H, S>>, AllocError>
     requires { IsPiece H.hash_of K.cmp (owned node.now) }
     ensures { IfOk result (λ v. v.items ≡ list.items ++ entries (owned node.now) ∷ []) }
 {

@@ -11,6 +11,7 @@ ghost use Rattle.trie.specs.Maps.{RiseByHash};
 ghost use Rattle.trie.specs.Merging.{CanBlend, ClonesEqual, IsMerged};
 ghost use Rattle.trie.specs.Shapes.{shape_of};
 
+use crate::beside::{Beside, Nothing};
 use crate::blend::Blend;
 use crate::build::{in_digit_order, slot_of, with_hashes, with_owners};
 use crate::cutting::Cutting;
@@ -32,12 +33,12 @@ use std::sync::Arc;
 /// A finite map that never changes, seen as the list of its entries in digit order. A change gives
 /// another map, which shares what stays.
 #[derive(Drop)]
-pub struct Trie<K: Ord, V, H: KeyHash<K>> {
-    root: Slot<K, V>,
+pub struct Trie<K: Ord, V, H: KeyHash<K>, S: Beside<K, V> = Nothing> {
+    root: Slot<K, V, S>,
     hash: PhantomData<H>,
 }
 
-impl<K: Ord, V, H: KeyHash<K>> Model for Trie<K, V, H> {
+impl<K: Ord, V, H: KeyHash<K>, S: Beside<K, V>> Model for Trie<K, V, H, S> {
     ghost use Rattle.std.specs.Prelude.{List};
 
     ghost Value = { List (K × V) };
@@ -50,7 +51,7 @@ impl<K: Ord, V, H: KeyHash<K>> Model for Trie<K, V, H> {
     ghost invariant = { λ t. IsTrie H.hash_of K.cmp (node_of t.root) };
 }
 
-impl<K: Ord, V, H: KeyHash<K>> Trie<K, V, H> {
+impl<K: Ord, V, H: KeyHash<K>, S: Beside<K, V>> Trie<K, V, H, S> {
     /// The map with no entry. It takes no memory.
     pub fn empty() -> Self
         ensures { result ≡ [] }
@@ -66,7 +67,7 @@ impl<K: Ord, V, H: KeyHash<K>> Trie<K, V, H> {
         ensures { option_copied result ≡ value_at (digit_order H.hash_of K.cmp) self.now key.now }
     {
         let at = HashPrefix::empty(H::hash(key));
-        let Some(entry) = get_at::<K, V, H>(seen(&self.root), key, at) else {
+        let Some(entry) = get_at::<K, V, H, S>(seen(&self.root), key, at) else {
             return None;
         };
         Some(&entry.1)
@@ -99,11 +100,11 @@ impl<K: Ord, V, H: KeyHash<K>> Trie<K, V, H> {
     pub fn shape(&self, alloc: Global) -> Result<Shape, AllocError>
         ensures { IfOk result (λ v. v.items ≡ shape_of H.hash_of (keys_of self.now)) }
     {
-        shape_in::<K, V, H>(alloc, seen(&self.root))
+        shape_in::<K, V, H, S>(alloc, seen(&self.root))
     }
 }
 
-impl<K: Ord + Drop, V: Drop, H: KeyHash<K>> Trie<K, V, H> {
+impl<K: Ord + Drop, V: Drop, H: KeyHash<K>, S: Beside<K, V>> Trie<K, V, H, S> {
     /// The same map, with one owner more.
     pub fn share(&self) -> Result<Self, AllocError>
         ensures { IfOk result (λ t. t ≡ self.now) }
@@ -122,7 +123,7 @@ impl<K: Ord + Drop, V: Drop, H: KeyHash<K>> Trie<K, V, H> {
     {
         let sorted = in_digit_order(with_hashes::<K, V, H>(alloc, pairs)?)?;
         let owned = with_owners(alloc, sorted)?;
-        let root = slot_of::<K, V, H>(alloc, owned.as_slice(), 0)?;
+        let root = slot_of::<K, V, H, S>(alloc, owned.as_slice(), 0)?;
         Ok(Trie {
             root,
             hash: PhantomData,
@@ -132,10 +133,14 @@ impl<K: Ord + Drop, V: Drop, H: KeyHash<K>> Trie<K, V, H> {
     /// The pieces of the map, in digit order: starting from the root, a branch of fewer than `depth`
     /// digits that has more than `small` entries is replaced by its children, and each node that is
     /// not replaced is a piece, which shares it. A map with no entry has no piece.
-    pub fn split(&self, alloc: Global, cutting: &Cutting) -> Result<Vec<Piece<K, V, H>>, AllocError>
+    pub fn split(
+        &self,
+        alloc: Global,
+        cutting: &Cutting,
+    ) -> Result<Vec<Piece<K, V, H, S>>, AllocError>
         ensures { IfOk result (λ v. v.items ≡ cut H.hash_of cutting.now.depth cutting.now.small self.now) }
     {
-        with_pieces::<K, V, H>(Vec::new(alloc), seen(&self.root), cutting, 0)
+        with_pieces::<K, V, H, S>(Vec::new(alloc), seen(&self.root), cutting, 0)
     }
 
     /// The map with the pair: for an equal key, the new key and value stand. It makes a node for
@@ -155,7 +160,7 @@ impl<K: Ord + Drop, V: Drop, H: KeyHash<K>> Trie<K, V, H> {
     {
         let pair = Arc::new(alloc, (key, value))?;
         let at = HashPrefix::empty(H::hash(&pair.0));
-        let root = put_at::<K, V, H>(alloc, seen(&self.root), &pair, at, ticks)?;
+        let root = put_at::<K, V, H, S>(alloc, seen(&self.root), &pair, at, ticks)?;
         Ok(Trie {
             root: Some(root),
             hash: PhantomData,
@@ -171,7 +176,7 @@ impl<K: Ord + Drop, V: Drop, H: KeyHash<K>> Trie<K, V, H> {
         ensures grows { ticks.old ≤ ticks.new }
     {
         let at = HashPrefix::empty(H::hash(key));
-        match remove_at::<K, V, H>(alloc, seen(&self.root), key, at, ticks)? {
+        match remove_at::<K, V, H, S>(alloc, seen(&self.root), key, at, ticks)? {
             Removed::Missing => self.share(),
             Removed::Left(root) => Ok(Trie {
                 root,
@@ -181,7 +186,7 @@ impl<K: Ord + Drop, V: Drop, H: KeyHash<K>> Trie<K, V, H> {
     }
 }
 
-impl<K: Ord + Clone + Drop, V: Drop, H: KeyHash<K>> Trie<K, V, H> {
+impl<K: Ord + Clone + Drop, V: Drop, H: KeyHash<K>, S: Beside<K, V>> Trie<K, V, H, S> {
     /// The map with the entries of both: keys of one keep their value, keys of both have the blend of
     /// this map's value and the other's, under the other's key. What only one of them
     /// has below a prefix is shared, so the nodes that are made are at most a whole path for each
@@ -189,7 +194,7 @@ impl<K: Ord + Clone + Drop, V: Drop, H: KeyHash<K>> Trie<K, V, H> {
     pub fn merge<B: Blend<V>>(
         &self,
         alloc: Global,
-        other: &Trie<K, V, H>,
+        other: &Trie<K, V, H, S>,
         blend: &B,
         ticks: &mut Ticks,
     ) -> Result<Self, AllocError>
@@ -202,7 +207,7 @@ impl<K: Ord + Clone + Drop, V: Drop, H: KeyHash<K>> Trie<K, V, H> {
     {
         let first = seen(&self.root);
         let second = seen(&other.root);
-        let root = merge_at::<K, V, H, B>(alloc, first, second, blend, 0, ticks)?;
+        let root = merge_at::<K, V, H, S, B>(alloc, first, second, blend, 0, ticks)?;
         Ok(Trie {
             root,
             hash: PhantomData,

@@ -5,6 +5,7 @@ ghost use Rattle.trie.specs.Nodes.{owned};
 ghost use Rattle.trie.specs.Tree.{entries};
 ghost use Rattle.trie.specs.Walks.{MayTakeAll, TakesAll};
 
+use crate::beside::Beside;
 use crate::node::{Inner, Node};
 use std::alloc::AllocError;
 use std::sync::Arc;
@@ -24,8 +25,8 @@ pub trait Visitor<K, V> {
 }
 
 /// Lends the entries of the node, in digit order.
-pub fn walk_node<K, V, W: Visitor<K, V>>(
-    node: &Node<K, V>,
+pub fn walk_node<K, V, S: Beside<K, V>, W: Visitor<K, V>>(
+    node: &Node<K, V, S>,
     visitor: &mut W,
 ) -> Result<(), AllocError>
     requires { MayTakeAll W.asks W.takes visitor.old (entries (owned node.now)) }

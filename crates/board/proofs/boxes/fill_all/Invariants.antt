@@ -1,4 +1,4 @@
-use Rattle.std.proofs.Common.{◌≡◌, ℕ, ◌+◌, ◌-◌, ◌<◌, length, All}
+use Rattle.std.proofs.Common.{◌≡◌, ◌+◌, ◌-◌, ◌<◌, length, All}
 use Rattle.board.specs.Ends.{GoesOn}
 use Rattle.board.specs.Law.{IsEnd}
 use Rattle.board.proofs.boxes.fill_all.Given as goal

@@ -31,5 +31,5 @@ returns-clause-held g c =
     branch_made g.H.KeyHash.hash_of g.K.Ord.cmp c.args.at.hash c.args.at.depth lt _ c.requires.slots
     (node_of c.args.slot) c.requires.placed c.next.result c.next.ensures.value c.in_ok-new.new c.in_ok-new.ensures
     c.requires.some c.total-len.result (c.total-len.ensures ∙ rw c.deref.ensures.value refl)
-    (sym c.in_ok-only.ensures ∙ ap node_of c.in_default.is) in
+    (sym c.in_ok-only.ensures ∙ ap node_of c.in_default.is) c.in_ok-beside.beside c.in_ok-beside.ensures in
     IfOk-weaker c.make.result _ _ (λ n e. made (owned n) e) c.make.ensures.made

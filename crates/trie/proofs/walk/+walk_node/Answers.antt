@@ -20,7 +20,7 @@ returns-after-loop-child g t c =
     rw (
       c.in-Inner.is,
       sym c.deref-in-Inner.ensures ∙ c.in-Branch.is,
-      entries-Branch _ _ c.in-Branch.children,
+      entries-Branch _ _ c.in-Branch.children _,
       ← c.deref-child-items.ensures.value,
     ) (rw (take_all c.loop-child.child-index (values c.deref-child-items.result.now)
     (omega (arith, length-map c.deref-child-items.result.now owned, c.loop-child-test.false)))
@@ -35,9 +35,9 @@ visit-requires g t c =
 pub walk_node-requires : goal.walk_node-requires
 walk_node-requires g t c =
     let all : entries (owned c.args.node.now) ≡ flat_map entries (values c.in-Branch.children.items) =
-    ap (λ n. entries (owned n)) c.in-Inner.is ∙ ap inner_entries (sym c.deref-in-Inner.ensures ∙ c.in-Branch.is) ∙ entries-Branch _ _ c.in-Branch.children in
+    ap (λ n. entries (owned n)) c.in-Inner.is ∙ ap inner_entries (sym c.deref-in-Inner.ensures ∙ c.in-Branch.is) ∙ entries-Branch _ _ c.in-Branch.children _ in
     let may : MayTakeAll g.W.Visitor.asks g.W.Visitor.takes c.loop-child.visitor (entries (owned c.child-item.result)) =
     may_child g.W.Visitor.asks g.W.Visitor.takes owned entries c.deref-child-items.result.now c.loop-child.child-index
     c.child-item.result (search rules) c.child-item.is c.args.visitor.now c.loop-child.visitor
     (rw (all, ← c.deref-child-items.ensures.value) at c.requires) c.loop-child.invariant in
-    λ κs outlives. (search (rules, the_lemmas), (outlives.0, (outlives.1.0, (outlives.1.1, may))))
+    λ κs outlives. (search (rules, the_lemmas), (outlives.0, (outlives.1.0, (outlives.1.1.0, (outlives.1.1.1, may)))))

@@ -1,4 +1,4 @@
-use Rattle.std.proofs.Common.{◌≡◌, ◌+◌, ◌≤◌, arith, length, refl, rules, sym, ap, ◌∙◌}
+use Rattle.std.proofs.Common.{◌≡◌, ◌+◌, ◌≤◌, arith, refl, rules, sym, ap, ◌∙◌}
 use Rattle.std.specs.FinMap.{len}
 use Rattle.board.specs.Editions.{Edition}
 use Rattle.board.specs.Limits.{row_limit}

@@ -1,4 +1,4 @@
-use Rattle.std.proofs.Common.{rules, ◌≡◌, ℕ, ◌+◌, ◌*◌, refl, ap, ◌∙◌, get_or, length, replicate}
+use Rattle.std.proofs.Common.{rules, ◌≡◌, ◌+◌, ◌*◌, refl, ap, ◌∙◌, get_or, length, replicate}
 use lib.ListN.{length-replicate}
 use Rattle.board.proofs.HistoryLemmas.{zeros_at}
 use Rattle.board.proofs.RuleLemmas.{starts}

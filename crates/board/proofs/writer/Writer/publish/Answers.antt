@@ -1,5 +1,4 @@
-use Rattle.std.proofs.Common.{rules, ◌≡◌, [], ◌∷◌, ◌++◌, sym, ap, ◌∙◌, subst}
-use Rattle.board.specs.Editions.{Edition}
+use Rattle.std.proofs.Common.{sym, ◌∙◌, subst}
 use Rattle.board.specs.Law.{IsEnd}
 use Rattle.board.proofs.SeatLemmas.{end_of}
 use Rattle.board.proofs.writer.Writer.publish.Goals as goal

@@ -1,4 +1,4 @@
-use Rattle.std.proofs.Common.{rules, arith, ◌≡◌, ◌+◌, ◌<◌, sym, ap, ◌∙◌}
+use Rattle.std.proofs.Common.{rules, arith, ◌≡◌, ◌+◌, ◌<◌, ap, ◌∙◌}
 use Rattle.board.specs.Ends.{progress_at}
 use Rattle.board.proofs.RuleLemmas.{seats}
 use Rattle.board.proofs.writer.Writer.reader.Goals as goal

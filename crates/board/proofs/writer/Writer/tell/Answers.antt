@@ -1,4 +1,4 @@
-use Rattle.std.proofs.Common.{rules, arith, ◌≡◌, ◌≤◌, sym, ap, ◌∙◌}
+use Rattle.std.proofs.Common.{rules, arith, ◌≡◌, ◌≤◌, ap, ◌∙◌}
 use Rattle.board.specs.Ends.{progress_at}
 use Rattle.board.specs.Law.{progress_of}
 use Rattle.board.proofs.RuleLemmas.{tells}
