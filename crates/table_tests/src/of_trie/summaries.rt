@@ -151,29 +151,34 @@ fn a_change_makes_one_summary_anew(rt: HostRuntime) -> Result<(), Fail> {
     Ok(())
 }
 
-/// How many entries a map has, and whether there is a place for their summary.
-const PLACES: [(u64, bool); 4] = [
-    (LEAST_SUMMED - 1, false),
-    (LEAST_SUMMED, true),
-    (MOST_SUMMED, true),
-    (MOST_SUMMED + 1, false),
-];
-
-/// Whether a summary is found beside all entries, where one would be made.
-fn has_place<R: Wait>(rt: &R, alloc: Global, len: u64) -> Result<bool, AllocError> {
+/// The size that is found beside all entries of a map of so many, and how often one was made.
+fn found_beside_all<R: Wait>(
+    rt: &R,
+    alloc: Global,
+    len: u64,
+) -> Result<(Option<u64>, u64), AllocError> {
     let calls = AtomicU64::new(0);
     let whole = Cutting { depth: 0, small: 0 };
     let pieces = map_of(alloc, len, 1)?.split(alloc, &whole)?;
     let first = pieces.first().ok_or(AllocError)?;
     let size = asked(rt, alloc, &calls, first);
-    Ok(size.is_some() && calls.load(SeqCst) == 1)
+    Ok((size, calls.load(SeqCst)))
 }
 
-/// Too few entries and too many have no place for a summary.
 #[test]
-fn pieces_of_some_sizes_have_places(rt: HostRuntime) -> Result<(), Fail> {
-    for (len, place) in PLACES {
-        assert_eq!(rt; has_place(&rt, rt.alloc(), len)?, place);
+fn enough_entries_have_a_place(rt: HostRuntime) -> Result<(), Fail> {
+    for len in [LEAST_SUMMED, MOST_SUMMED] {
+        let (size, calls) = found_beside_all(&rt, rt.alloc(), len)?;
+        let size = size.ok_or(AllocError)?;
+        assert_eq!(rt; (size, calls), (len, 1));
+    }
+    Ok(())
+}
+
+#[test]
+fn too_few_entries_and_too_many_have_no_place(rt: HostRuntime) -> Result<(), Fail> {
+    for len in [LEAST_SUMMED - 1, MOST_SUMMED + 1] {
+        assert_eq!(rt; found_beside_all(&rt, rt.alloc(), len)?, (None, 0));
     }
     Ok(())
 }
