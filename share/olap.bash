@@ -2,7 +2,7 @@
 
 _olap() {
     local word=${COMP_WORDS[COMP_CWORD]} before=${COMP_WORDS[COMP_CWORD - 1]} place
-    local options="--workers --depth --small --hash --rows --strict --explain --help"
+    local options="--workers --depth --small --hash --rows --strict --explain --progress --help"
     COMPREPLY=()
     if ((COMP_CWORD == 1)); then
         mapfile -t COMPREPLY < <(compgen -W "run live check help --help --version" -- "$word")

@@ -3,6 +3,8 @@
 import importlib
 import os
 import pathlib
+import pty
+import select
 import subprocess
 import tempfile
 
@@ -78,6 +80,48 @@ def written_to(program, case, command):
     return differences(case, int(status), ran.stdout, errors)
 
 
+def held(program, case, first):
+    """The same, and whether the output begins to be seen with `first` while the run goes on: as long as it was not seen,
+    little is read of what goes to standard error, so that the run is held, which has to tell more of its refusals there than
+    a pipe holds."""
+    with tempfile.TemporaryDirectory() as room:
+        lay_out(room, case.files)
+        streams = {"stdin": subprocess.DEVNULL, "stdout": subprocess.PIPE, "stderr": subprocess.PIPE}
+        ran = subprocess.Popen([program, *case.words], cwd=room, **streams)
+        output, errors, wanted = b"", b"", as_bytes(first)
+        while len(output) < len(wanted) and ran.poll() is None:
+            if select.select([ran.stdout], [], [], 0.05)[0]:
+                output += os.read(ran.stdout.fileno(), 65536)
+            else:
+                errors += os.read(ran.stderr.fileno(), 4096)
+        is_seen = output.startswith(wanted) and ran.poll() is None
+        last = ran.communicate(timeout=SECONDS)
+    found = differences(case, ran.returncode, output + last[0], errors + last[1])
+    return found if is_seen else [*found, f"{first!r} was not seen while the run went on"]
+
+
+def on_screen(program, case):
+    """The same where standard error is a screen; where the case says nothing of the output, standard output is the same
+    one."""
+    with tempfile.TemporaryDirectory() as room:
+        lay_out(room, case.files)
+        screen, terminal = pty.openpty()
+        output = subprocess.PIPE if case.output else terminal
+        streams = {"stdin": subprocess.DEVNULL, "stdout": output, "stderr": terminal}
+        ran = subprocess.Popen([program, *case.words], cwd=room, **streams)
+        os.close(terminal)
+        errors = b""
+        try:
+            while piece := os.read(screen, 65536):
+                errors += piece
+        except OSError:
+            # (nobody has the terminal any more)
+            pass
+        os.close(screen)
+        output = ran.communicate(timeout=SECONDS)[0] or b""
+    return differences(case, ran.returncode, output, errors)
+
+
 def tables():
     """Each table's name, with its module."""
     for path in sorted((TOP / "tools/cases").glob("*.py")):
@@ -96,3 +140,17 @@ def cases_written_to():
     for name, module in tables():
         for case, command in getattr(module, "WRITTEN_TO", []):
             yield f"{name}: {case.title}", case, command
+
+
+def cases_held():
+    """Those whose run is held, each with what is to be seen of its output until then."""
+    for name, module in tables():
+        for case, first in getattr(module, "HELD", []):
+            yield f"{name}: {case.title}", case, first
+
+
+def cases_on_screen():
+    """Those with a screen."""
+    for name, module in tables():
+        for case in getattr(module, "ON_SCREEN", []):
+            yield f"{name}: {case.title}", case

@@ -16,6 +16,11 @@ VIEWED = FIRST + TABLE + "put x\n"
 LIVE = ("live", "--query", "SELECT COUNT(*) FROM T")
 
 
+def later(text):
+    """The script without its first line."""
+    return text.removeprefix(FIRST)
+
+
 def ends(title, text, kilobytes, streams="2> errors", output=FIRST_WRITES, errors="", command=("run",)):
     case = Case(title, [*command, SCRIPT], {SCRIPT: text, "errors": ""}, output=output, errors=errors, status=3)
     return case, f'(ulimit -v {kilobytes}; "$@" {streams}); echo $? > status'
@@ -24,12 +29,15 @@ def ends(title, text, kilobytes, streams="2> errors", output=FIRST_WRITES, error
 WRITTEN_TO = [
     ends("no memory", MANY, 10_000, errors="olap: ended 90\n"),
     ends("no thread", REPORT, 6_000, errors="olap: ended 91\n"),
-    # Where the flush fails, too, the line tells why the run ended.
-    ends("no memory, and a full disk", MANY, 10_000, "> /dev/full 2> errors", "", "olap: ended 90\n"),
-    ends("no thread, and a full disk", REPORT, 6_000, "> /dev/full 2> errors", "", "olap: ended 91\n"),
+    # Nothing was to be written to the full disk, or else it is met first, since each block is written at once.
+    ends("no memory, and a full disk", later(MANY), 10_000, "> /dev/full 2> errors", "", "olap: ended 90\n"),
+    ends("no thread, and a full disk", later(REPORT), 6_000, "> /dev/full 2> errors", "", "olap: ended 91\n"),
+    ends("a full disk, and then no memory", MANY, 10_000, "> /dev/full 2> errors", "", "olap: ended 92\n"),
+    ends("a full disk, and then no thread", REPORT, 6_000, "> /dev/full 2> errors", "", "olap: ended 92\n"),
     ends("no viewer's thread", VIEWED, 6_000, errors="olap: ended 91\n", command=LIVE),
     ends("one viewer's thread of two", VIEWED, 14_000, errors="olap: ended 91\n", command=LIVE),
-    ends("no viewer's thread, and a full disk", VIEWED, 6_000, "> /dev/full 2> errors", "", "olap: ended 91\n", LIVE),
+    ends("no viewer's thread, and a full disk", later(VIEWED), 6_000, "> /dev/full 2> errors", "", "olap: ended 91\n", LIVE),
+    ends("a full disk, and then no viewer's thread", VIEWED, 6_000, "> /dev/full 2> errors", "", "olap: ended 92\n", LIVE),
     ends("viewers, and a full disk", VIEWED, "unlimited", "> /dev/full 2> errors", "", "olap: ended 92\n", LIVE),
     # A line that nobody can read changes no status.
     ends("no memory, and nobody reads why", MANY, 10_000, "2> /dev/full"),

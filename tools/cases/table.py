@@ -1,5 +1,6 @@
 """What a case of `tools/program` is: how the program is started, and what it must write."""
 
+import re
 from dataclasses import dataclass, field
 
 import tails
@@ -40,6 +41,29 @@ class OneOf(Text):
 
     def __str__(self):
         return " or ".join(map(repr, self.texts))
+
+
+@dataclass
+class Like(Text):
+    """A text of which each line is like one of these, whatever their order; what stands for a line is a regular expression."""
+
+    lines: tuple = ()
+
+    def __init__(self, *lines):
+        super().__init__()
+        self.lines = lines
+
+    def is_met_by(self, got):
+        left = list(self.lines)
+        for line in got.decode(errors="backslashreplace").splitlines():
+            like = next((it for it in left if re.fullmatch(it, line)), None)
+            if like is None:
+                return False
+            left.remove(like)
+        return not left
+
+    def __str__(self):
+        return f"(lines like {self.lines!r}, in some order)"
 
 
 @dataclass

@@ -5,10 +5,12 @@ use crate::check::check_files;
 use crate::input::Folder;
 use crate::manual::{Topic, refuse_page, show, topic_of};
 use crate::program::run_words;
+use crate::tell::Screen;
 use std::alloc::Global;
 use std::io::{BufWriter, Write};
 use std::sync::Wait;
 use std::thread::Threads;
+use std::time::Clock;
 
 /// What the words after the program's name ask for.
 #[derive(Clone, Copy, Debug, Drop)]
@@ -26,14 +28,12 @@ enum Asked<'w> {
 /// Does what the words after the program's name ask for, of which there is one at least, and gives the program's status: that
 /// of [`run_words`] for a command and of [`check_files`] for a check, and for the manual 0 where its page was written, 2 where it
 /// has no such page, and 3 where the page could not be written.
-pub fn answer<F: Folder, W: Write + Drop, E: Write, R: Threads + Wait + Sync + Eprint + Print>(
-    rt: &R,
-    alloc: Global,
-    words: &[String],
-    folder: &F,
-    out: BufWriter<W>,
-    err: &mut E,
-) -> u8
+pub fn answer<
+    F: Folder,
+    W: Write + Drop,
+    E: Write,
+    R: Threads + Wait + Sync + Eprint + Print + Clock + Screen,
+>(rt: &R, alloc: Global, words: &[String], folder: &F, out: BufWriter<W>, err: &mut E) -> u8
     ensures { (result ≡ 0) ⊎ ((result ≡ 1) ⊎ ((result ≡ 2) ⊎ (result ≡ 3))) }
 {
     match asked_by(words) {

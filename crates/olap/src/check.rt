@@ -72,6 +72,7 @@ fn job_of_check(alloc: Global, script: &str, parts: &[String]) -> Result<Job, Al
         hash: HashChoice::default(),
         on_refusal: OnRefusal::GoesOn,
         explains: true,
+        tells_progress: false,
         script,
         parts: names,
         live: None,

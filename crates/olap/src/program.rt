@@ -14,15 +14,18 @@ use crate::close::{NOTHING_RUN, WRITTEN, close_finished};
 use crate::explaining::{Explaining, Told};
 use crate::input::{Folder, Input, Unread, Unreadable, read_input};
 use crate::job::{Job, WordsFault};
-use crate::tell::{Errors, Tell};
+use crate::progress::Progress;
+use crate::tell::{Errors, Renew, Screen};
+use crate::telling::{Ending, Telling};
 use crate::words::job_of;
-use crew::{Gate, Open};
+use crew::Open;
 use report::Pour;
 use script::{Finish, HashChoice, How, OnRefusal, Setup, Viewing, run_last};
 use std::alloc::Global;
 use std::io::{BufWriter, Read, Write};
 use std::sync::Wait;
 use std::thread::Threads;
+use std::time::Clock;
 
 /// Runs what the words after the program's name ask for, over the files that they name, and gives the
 /// program's status and the writer back. What a run writes goes to `out`, and so does help; why there
@@ -32,8 +35,13 @@ use std::thread::Threads;
 /// was refused. At 1 a strict run stopped after the first refused line, and its output up to that line was
 /// written. At 2 nothing was run, since the words are refused or a file can't be read; at 3 the run ended
 /// early. `rt` starts the threads of a report's workers, and has the standard error to which reasons go, where the words
-/// ask for them by `--explain`.
-pub fn run_words<F: Folder, W: Write + Drop, E: Write, R: Threads + Wait + Sync + Eprint>(
+/// ask for them by `--explain`, and how far the run is, where they ask for that by `--progress`, and the clock for it.
+pub fn run_words<
+    F: Folder,
+    W: Write + Drop,
+    E: Write,
+    R: Threads + Wait + Sync + Eprint + Clock + Screen,
+>(
     rt: &R,
     alloc: Global,
     given: &[String],
@@ -59,7 +67,12 @@ pub fn run_words<F: Folder, W: Write + Drop, E: Write, R: Threads + Wait + Sync 
 
 /// Runs a job over the files that it names, and gives the program's status and the writer back, as
 /// [`run_words`] does.
-fn run_job<F: Folder, W: Write + Drop, E: Write, R: Threads + Wait + Sync + Eprint>(
+fn run_job<
+    F: Folder,
+    W: Write + Drop,
+    E: Write,
+    R: Threads + Wait + Sync + Eprint + Clock + Screen,
+>(
     rt: &R,
     alloc: Global,
     job: &Job,
@@ -81,14 +94,20 @@ fn run_job<F: Folder, W: Write + Drop, E: Write, R: Threads + Wait + Sync + Epri
         return (cannot_read(Unreadable { name, why }, err), out);
     };
     match read_input(folder, job, room) {
-        Ok(input) => run_told(rt, alloc, &Errors::new(rt), job, &input, out, err),
+        Ok(input) => run_told(rt, alloc, &errors_of(rt, job), job, &input, out, err),
         Err(unread) => (cannot_read(unread, err), out),
     }
 }
 
+/// Where a job tells reasons and how far it is: a line is written anew on a screen, where it tells that.
+fn errors_of<'r, R: Screen>(rt: &'r R, job: &Job) -> Errors<'r, R> {
+    let renews = job.tells_progress && rt.is_screen();
+    Errors::new(rt, renews)
+}
+
 /// Runs a job over what was read for it, and gives the program's status and the writer back, as [`run_input`] does. `teller`
-/// is told why lines are refused, where the job asks for it.
-fn run_told<'a, T: Tell + Sync, W: Write + Drop, E: Write, R: Threads + Wait + Sync>(
+/// is told why lines are refused, and how far the run is, where the job asks for it.
+fn run_told<'a, T: Renew + Sync, W: Write + Drop, E: Write, R: Threads + Wait + Sync + Clock>(
     rt: &'a R,
     alloc: Global,
     teller: &'a T,
@@ -106,7 +125,10 @@ fn run_told<'a, T: Tell + Sync, W: Write + Drop, E: Write, R: Threads + Wait + S
     ensures beginning { BeginsToWrite (HoweverFinished (IsRunBy job.now.on_refusal (hash_of_choice job.now.hash) (givens job.now.how.rows input.now.parts.items) job.now.live input.now.script.items))
         (writer_contents W.contents out) (writer_contents W.contents result.1) }
 {
-    let gate = Explaining::new(teller, alloc, Told::of_run(job.explains), job, input);
+    let gate = Telling {
+        explaining: Explaining::new(teller, alloc, Told::of_run(job.explains), job, input),
+        progress: progress_of(teller, rt, job),
+    };
     run_input(
         rt,
         alloc,
@@ -119,6 +141,19 @@ fn run_told<'a, T: Tell + Sync, W: Write + Drop, E: Write, R: Threads + Wait + S
         out,
         err,
     )
+}
+
+/// What tells how far a run is that begins now, where the job asks for it.
+fn progress_of<'a, T, C: Clock>(
+    teller: &'a T,
+    clock: &'a C,
+    job: &Job,
+) -> Option<Progress<'a, T, C>> {
+    if job.tells_progress {
+        Some(Progress::new(teller, clock))
+    } else {
+        None
+    }
 }
 
 /// Runs the script that standard input holds, with the defaults and no parts, and gives the program's
@@ -162,8 +197,8 @@ pub fn run_standard_input<I: Read + Drop, W: Write + Drop, E: Write, R: Threads 
 /// Runs the script over the parts, with viewers beside it where there are some, flushes what it wrote, and gives the program's
 /// status and the writer back: 0 where the output was written whole, 1 where the run stopped after a refused line, and none of
 /// what it wrote waits in the buffer; and 3 where a beginning of it was written, and why it ended is on `err`. The gate is told of
-/// the run's steps. The memory of the run's table is left to the system.
-pub fn run_input<'a, G: Gate, W: Write + Drop, E: Write, R: Threads + Wait + Sync>(
+/// the run's steps, and of its end before that is told on `err`. The memory of the run's table is left to the system.
+pub fn run_input<'a, G: Ending, W: Write + Drop, E: Write, R: Threads + Wait + Sync>(
     rt: &'a R,
     alloc: Global,
     how: &'a How,
@@ -197,6 +232,7 @@ pub fn run_input<'a, G: Gate, W: Write + Drop, E: Write, R: Threads + Wait + Syn
     };
     let ended = run_last(&setup, hash, input.script.as_slice(), &mut pour);
     let mut out = pour.into_inner();
+    gate.ended();
     let status = close_finished(ended, &mut out, err);
     (status, out)
 }

@@ -10,22 +10,53 @@ pub trait Tell {
     fn tell<D: Display + Drop>(&self, line: D);
 }
 
+/// Where one line may be written anew, again and again, between the lines that are told.
+pub trait Renew: Tell {
+    /// Whether it is.
+    fn renews(&self) -> bool;
+
+    /// Writes the line in the place of the last one that was written so.
+    fn renew<D: Display + Drop>(&self, line: D);
+}
+
+/// What knows of a screen.
+pub trait Screen {
+    /// Whether standard error goes to a screen, to which standard output does not go.
+    fn is_screen(&self) -> bool;
+}
+
 /// Lines that go to standard error. Nobody may read it any more, so a failure to write changes nothing.
 #[derive(Drop)]
 pub struct Errors<'r, R> {
     rt: &'r R,
+    renews: bool,
 }
 
 impl<'r, R> Errors<'r, R> {
-    /// The standard error of `rt`.
-    pub fn new(rt: &'r R) -> Errors<'r, R> {
-        Errors { rt }
+    /// The standard error of `rt`, and whether a line of it is written anew.
+    pub fn new(rt: &'r R, renews: bool) -> Errors<'r, R> {
+        Errors { rt, renews }
     }
 }
 
 impl<'r, R: Eprint> Tell for Errors<'r, R> {
     fn tell<D: Display + Drop>(&self, line: D) {
-        let _ = self.rt.eprintln(line);
+        let _ = if self.renews {
+            // (in the place of the line that is written anew, whose rest is erased)
+            self.rt.eprint(format_args!("\r{line}\x1b[K\n"))
+        } else {
+            self.rt.eprintln(line)
+        };
+    }
+}
+
+impl<'r, R: Eprint> Renew for Errors<'r, R> {
+    fn renews(&self) -> bool {
+        self.renews
+    }
+
+    fn renew<D: Display + Drop>(&self, line: D) {
+        let _ = self.rt.eprint(format_args!("\r{line}\x1b[K"));
     }
 }
 

@@ -81,10 +81,12 @@ fn a_report_runs_beside_later_lines(rt: HostRuntime) -> Result<(), Fail> {
     Ok(())
 }
 
-/// Holds the first reports until so many have come, and keeps how many were there at most, and the last edition.
+/// Holds the first reports until so many have come and an edition is published, and keeps how many were there at most, and the
+/// last edition.
 #[derive(Drop)]
 struct Held {
     until: u64,
+    edition: u64,
     published: AtomicU64,
     entered: AtomicU64,
     left: AtomicU64,
@@ -93,15 +95,21 @@ struct Held {
 }
 
 impl Held {
-    fn until(until: u64) -> Held {
+    fn until(until: u64, edition: u64) -> Held {
         Held {
             until,
+            edition,
             published: AtomicU64::new(0),
             entered: AtomicU64::new(0),
             left: AtomicU64::new(0),
             late: AtomicU64::new(0),
             most: AtomicU64::new(0),
         }
+    }
+
+    /// Whether what the first reports are held for comes within the turns.
+    fn may_go_on(&self) -> bool {
+        reaches(&self.entered, self.until) && reaches(&self.published, self.edition)
     }
 }
 
@@ -114,7 +122,7 @@ impl Gate for Held {
         let before = self.entered.fetch_add(1, SeqCst);
         let there = before.wrapping_add(1).wrapping_sub(self.left.load(SeqCst));
         self.most.fetch_max(there, SeqCst);
-        if before < self.until && !reaches(&self.entered, self.until) {
+        if before < self.until && !self.may_go_on() {
             self.late.fetch_add(1, SeqCst);
         }
     }
@@ -144,7 +152,7 @@ const WHOLE: Cutting = Cutting { depth: 0, small: 0 };
 
 #[test]
 fn eight_reports_are_under_way(rt: HostRuntime) -> Result<(), Fail> {
-    let gate = Held::until(8);
+    let gate = Held::until(8, 0);
     let (script, reports) = ten(rt.alloc())?;
     let mut out = Pour::new(Vec::new(rt.alloc()));
     let how = How::of(1, WHOLE, 20);
@@ -168,7 +176,8 @@ fn eight_reports_are_under_way(rt: HostRuntime) -> Result<(), Fail> {
 /// ninth is read.
 #[test]
 fn a_fault_of_the_writer_leaves_no_report_under_way(rt: HostRuntime) -> Result<(), Fail> {
-    let gate = Held::until(8);
+    // A report that ends is written with the next line, so none may end before the line of the ninth.
+    let gate = Held::until(8, 9);
     let (script, _reports) = ten(rt.alloc())?;
     let how = How::of(1, WHOLE, 20);
     let failing = Failing { call: 3, taking: 0 };
@@ -198,7 +207,7 @@ fn ends_behind_a_beginning<R: Threads + Wait + Sync>(
     script: &[u8],
     reports: &[u8],
 ) -> Result<bool, Refused> {
-    let gate = Held::until(0);
+    let gate = Held::until(0, 0);
     let how = How::of(2, CUTTING, 20);
     let mut tape = Tape::new(alloc, 1000, 1000, None)?;
     let ended = run::<Plain, _, _, _>(rt, alloc, script, &[], &how, &gate, &mut tape);
