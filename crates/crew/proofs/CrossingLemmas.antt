@@ -7,9 +7,7 @@ use Rattle.std.proofs.Crossing.{crosses}
 use Rattle.std.proofs.MapsCrossing.{HashMap-send, HashMap-sync}
 use Rattle.aggs.specs.contracts.acc.Acc as Acc
 use Rattle.aggs.specs.contracts.distinct.CountDistinct as CountDistinct
-use Rattle.cells.specs.Crossing.{cell_send, cell_sync, row_send, row_sync, tuple_send}
-use Rattle.cells.specs.contracts.cell.Cell as CellType
-use Rattle.cells.specs.contracts.row.Row as RowType
+use Rattle.cells.specs.Crossing.{cell_send, cell_sync, tuple_send}
 use Rattle.cells.specs.declared.cell.Cell.{Cell}
 use Rattle.cells.specs.declared.hash.KeyHash as KeyHash
 use Rattle.columns.specs.contracts.code_column.CodeColumn as CodeColumn
@@ -22,12 +20,7 @@ use Rattle.groups.specs.contracts.bag.Bag as Bag
 use Rattle.groups.specs.contracts.folding.Folding as Folding
 use Rattle.groups.specs.contracts.pool.SetBag as SetBag
 use Rattle.query.specs.Crossing.{plan_sync}
-use Rattle.std.specs.declared.cmp.Ord as Ord
-use Rattle.std.specs.declared.cmp.PartialEq as PartialEq
-use Rattle.std.specs.declared.cmp.PartialOrd as PartialOrd
-use Rattle.trie.specs.Crossing.{field_sync, node_send}
-use Rattle.trie.specs.contracts.split.Piece as Piece
-use Rattle.trie.specs.declared.beside.Beside as Beside
+use Rattle.trie.specs.Crossing.{node_send}
 
 aggregation_send : IsSend Aggregation.the_field.row
 aggregation_send = search (sendable, crosses) depth 40

@@ -6,7 +6,7 @@ use Rattle.std.specs.List.{range_with_len}
 use Rattle.std.specs.Prelude.{slice_index_or}
 use Rattle.std.proofs.lemmas.List.Folds.{flat_map-map}
 use Rattle.std.proofs.lemmas.Simd.{pick_l_whole}
-use Rattle.crew.specs.Gathering.{PieceValue, rows_at, rows_at_place, rows_in}
+use Rattle.crew.specs.Gathering.{PieceValue, rows_at, rows_in}
 use Rattle.groups.specs.Partials.{rows_of}
 
 -- those at all places are the rows of all pieces

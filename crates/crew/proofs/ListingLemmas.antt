@@ -1,7 +1,7 @@
 -- Rows dealt out to lists: together they are all rows, and how workers gather them.
-use Rattle.std.proofs.Common.{◌≡◌, ℕ, zero, suc, ◌+◌, ◌<◌, ◌≤◌, ◌^◌, Bool, true, false, cond, List, [], ◌∷◌, ◌++◌, filter, flat_map, get_or, length, map, refl, sym, ap, ap₂, ◌∙◌, subst, arith, IsPermutation}
+use Rattle.std.proofs.Common.{◌≡◌, ℕ, zero, suc, ◌+◌, ◌<◌, ◌≤◌, Bool, true, false, cond, List, [], ◌∷◌, ◌++◌, flat_map, get_or, length, refl, sym, ap, ap₂, ◌∙◌, subst, arith, IsPermutation}
 use Rattle.std.specs.List.{AllByRecursion, AllZip, concat, range_with_len}
-use Rattle.std.specs.Prelude.{Option, Some, Vec}
+use Rattle.std.specs.Prelude.{Option, Vec}
 use Rattle.std.specs.declared.alloc.Global.{Global}
 use Rattle.std.proofs.lemmas.List.{append_assoc, get_or-map, length-append, length-map, map-append, take_all}
 use Rattle.std.proofs.Math.Seq.{get_or-append_seam}

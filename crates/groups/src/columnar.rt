@@ -108,14 +108,7 @@ fn tally<H: KeyHash<Cell>>(
         return Ok(counted(alloc, count, numbers)?);
     }
     let column = column_of(columns, aggregation.column);
-    Ok(tallied(
-        alloc,
-        aggregation.kind,
-        count,
-        numbers,
-        rows,
-        column,
-    )?)
+    Ok(tallied(alloc, aggregation.kind, count, numbers, rows, column)?)
 }
 
 /// The groups of these tuples, each with its accumulators.

@@ -224,7 +224,14 @@ fn laid_out<H: KeyHash<Cell> + KeyHash<Tuple> + Send + Sync, G: Gate, R: Threads
     let Ok(pieces) = pieces_of(alloc, root, cutting) else {
         return None;
     };
-    let made = columns_of(rt, alloc, pieces.as_slice(), named.as_slice(), workers, gate);
+    let made = columns_of(
+        rt,
+        alloc,
+        pieces.as_slice(),
+        named.as_slice(),
+        workers,
+        gate,
+    );
     let Ok(mut columns) = made else {
         return None;
     };

@@ -9,10 +9,12 @@ turn-requires-clause-last g c =
 
 pub loop-copy-preserved : goal.loop-copy-preserved
 loop-copy-preserved g c =
-    let is = c.pop.ensures.items ∙ ap (λ o. c.pop.new.self.items ++ option_to_list o) c.in-Some.is in
-    (goes_further _ _ _ _ _ c.loop-copy.invariant.0 c.wait_for_side-side.ensures _ c.turn.ensures,
-    omega (arith, c.loop-copy.invariant.1, ap length is, length-append c.pop.new.self.items (c.in-Some.copy ∷ [])), omega arith,
-     left_ends c.args.seat.now _ _ _ _ c.loop-copy.invariant.0 c.wait_for_side-side.ensures _ _ _ is c.loop-copy.invariant.3)
+    let is = c.pop.ensures.items ∙ ap (λ o. c.pop.new.self.items ++ option_to_list o) c.in-Some.is in (
+      goes_further _ _ _ _ _ c.loop-copy.invariant.0 c.wait_for_side-side.ensures _ c.turn.ensures,
+      omega (arith, c.loop-copy.invariant.1, ap length is, length-append c.pop.new.self.items (c.in-Some.copy ∷ [])),
+      omega arith,
+      left_ends c.args.seat.now _ _ _ _ c.loop-copy.invariant.0 c.wait_for_side-side.ensures _ _ _ is c.loop-copy.invariant.3,
+    )
 
 pub returns : goal.returns
 returns g c =
