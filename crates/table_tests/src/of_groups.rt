@@ -64,7 +64,7 @@ fn is_short<H: KeyHash<Cell>>(alloc: Global, sale: &Piece<Cell, Row, H>) -> Resu
     Ok(sale.entries(alloc)?.len() <= 1)
 }
 
-/// How many groups there are when foldings of both pieces were joined five hundred times in turn; of longer pieces none is.
+/// How many groups there are when foldings of both pieces were joined five times in turn; of longer pieces none is.
 fn groups_of(
     alloc: Global,
     plan: &Plan,
@@ -74,7 +74,7 @@ fn groups_of(
     let mut folding = Folding::new(alloc, plan)?;
     if is_short(alloc, first)? {
         if is_short(alloc, second)? {
-            for _i in 0..500u64 {
+            for _i in 0..5u64 {
                 folding = folding.join(alloc, Folding::of_piece(alloc, plan, first)?)?;
                 folding = folding.join(alloc, Folding::of_piece(alloc, plan, second)?)?;
             }
@@ -89,7 +89,7 @@ fn planned(alloc: Global, schema: &Schema, query: &str) -> Result<Plan, Refused>
     check(alloc, query, schema)
 }
 
-/// How many groups the query has when foldings of both pieces were joined five hundred times in turn.
+/// How many groups the query has when foldings of both pieces were joined five times in turn.
 fn counted(
     alloc: Global,
     schema: &Schema,
@@ -101,7 +101,7 @@ fn counted(
     Ok(groups_of(alloc, &plan, first, second)?)
 }
 
-/// How many groups there are by tuple when foldings of rows of both tuples were joined five hundred times in turn.
+/// How many groups there are by tuple when foldings of rows of both tuples were joined five times in turn.
 fn groups_in_turn(
     alloc: Global,
     schema: &Schema,
