@@ -2,12 +2,14 @@
 // and refuses one of them. REFUSE names a kind, `allocation` (malloc and realloc, by which vectors and texts grow) or `thread`.
 // The call of number FAIL_AT among those of that kind fails, and the file TELL then says so; what a refused realloc was to
 // move stays as it is. Without FAIL_AT the file has three numbers at the end of the program: the calls of that kind, the most
-// bytes that were held at once, as they were asked for, and the blocks that are held still.
+// bytes that were held at once, as they were asked for, and the blocks that are held still. With IN_TURN a thread begins when
+// it is joined, so that threads run one after another.
 #define _GNU_SOURCE
 #include <dlfcn.h>
 #include <errno.h>
 #include <fcntl.h>
 #include <pthread.h>
+#include <semaphore.h>
 #include <stdio.h>
 #include <stdlib.h>
 #include <string.h>
@@ -29,6 +31,21 @@ static void *(*next_malloc)(size_t);
 static void *(*next_realloc)(void *, size_t);
 static void (*next_free)(void *);
 static int (*next_create)(pthread_t *, const pthread_attr_t *, void *(*)(void *), void *);
+static int (*next_join)(pthread_t, void **);
+
+static int (*next_detach)(pthread_t);
+
+// A thread that begins when it is joined.
+struct waiting {
+    void *(*start)(void *);
+    void *with;
+    pthread_t thread;
+    sem_t wanted;
+    struct waiting *older;
+};
+static int in_turn;
+static struct waiting *youngest;
+static pthread_mutex_t list = PTHREAD_MUTEX_INITIALIZER;
 
 static void tell(const char *text, int length)
 {
@@ -63,6 +80,9 @@ __attribute__((constructor)) static void look_up(void)
     next_realloc = dlsym(RTLD_NEXT, "realloc");
     next_free = dlsym(RTLD_NEXT, "free");
     next_create = dlsym(RTLD_NEXT, "pthread_create");
+    next_join = dlsym(RTLD_NEXT, "pthread_join");
+    next_detach = dlsym(RTLD_NEXT, "pthread_detach");
+    in_turn = getenv("IN_TURN") != NULL;
     fail_at = number ? atol(number) : 0;
     refused = strcmp(kind, "thread") ? ALLOCATION : THREAD;
     if (!number)
@@ -145,7 +165,58 @@ void free(void *block)
     next_free(head);
 }
 
+static void *begin(void *block)
+{
+    struct waiting *self = block;
+    while (sem_wait(&self->wanted))
+        ;
+    return self->start(self->with);
+}
+
 int pthread_create(pthread_t *thread, const pthread_attr_t *how, void *(*start)(void *), void *with)
 {
-    return is_refused(THREAD) ? EAGAIN : next_create(thread, how, start, with);
+    if (is_refused(THREAD))
+        return EAGAIN;
+    if (!in_turn)
+        return next_create(thread, how, start, with);
+    // (it is not counted, and stays)
+    struct waiting *self = next_malloc(sizeof *self);
+    if (!self)
+        return EAGAIN;
+    *self = (struct waiting){.start = start, .with = with};
+    sem_init(&self->wanted, 0, 0);
+    int failed = next_create(thread, how, begin, self);
+    if (failed)
+        return failed;
+    self->thread = *thread;
+    pthread_mutex_lock(&list);
+    self->older = youngest;
+    youngest = self;
+    pthread_mutex_unlock(&list);
+    return 0;
+}
+
+// (the youngest of this number, since an older one has ended)
+static void let_begin(pthread_t thread)
+{
+    look_up();
+    pthread_mutex_lock(&list);
+    struct waiting *it = youngest;
+    while (it && it->thread != thread)
+        it = it->older;
+    pthread_mutex_unlock(&list);
+    if (it)
+        sem_post(&it->wanted);
+}
+
+int pthread_join(pthread_t thread, void **result)
+{
+    let_begin(thread);
+    return next_join(thread, result);
+}
+
+int pthread_detach(pthread_t thread)
+{
+    let_begin(thread);
+    return next_detach(thread);
 }

@@ -23,9 +23,10 @@ def library(room):
     return built
 
 
-def environment(library, kind, tell):
-    """What a program is started with whose calls of the kind, `allocation` or `thread`, are counted in the file `tell`."""
-    return {"LD_PRELOAD": str(library), "REFUSE": kind, "TELL": str(tell)}
+def environment(library, kind, tell, in_turn=False):
+    """What a program is started with whose calls of the kind, `allocation` or `thread`, are counted in the file `tell`, and
+    whose threads begin when they are joined, if they are to run in turn."""
+    return {"LD_PRELOAD": str(library), "REFUSE": kind, "TELL": str(tell), **({"IN_TURN": "1"} if in_turn else {})}
 
 
 def told(tell):

@@ -6,7 +6,6 @@ use Rattle.atomic_table.proofs.badge.Badge.TheSendSync as TheBadge
 use Rattle.atomic_table.proofs.send_lease.SendLease.TheSendSync as TheLease
 use Rattle.atomic_table.proofs.shared.Shared.TheSendSync as TheShared
 use Rattle.atomic_table.specs.contracts.owned.Table as Table
-use Rattle.board.proofs.beside.Beside.TheSendSync as TheBeside
 use Rattle.board.specs.contracts.law.About as About
 use Rattle.board.specs.contracts.law.Law as Law
 use Rattle.board.specs.contracts.law.LawTableRuleOptionSnapshotViewAbout.TheImpl as Rule
@@ -19,6 +18,7 @@ use Rattle.board.specs.contracts.viewer.Viewer as Viewer
 use Rattle.cells.specs.Crossing.{cell_send, cell_sync, row_send, row_sync}
 use Rattle.cells.specs.declared.cell.Cell.{Cell}
 use Rattle.cells.specs.declared.hash.KeyHash as KeyHash
+use Rattle.columns.specs.Crossing.{beside_send, beside_sync}
 use Rattle.std.specs.contracts.alloc.Global as Global
 use Rattle.std.specs.contracts.impls.GlobalAllocator.TheImpl as Heap
 use Rattle.std.specs.contracts.option.Option as OptionType
@@ -31,10 +31,10 @@ told_send = let badge = TheBadge.the_send View.the_row in search (sendable, cros
 -- ---- snapshots, the board, and viewers
 module _ (H : RattleType) (cells : KeyHash.Ghosts H.Denot Cell) (s : IsSend H) (y : IsSync H) where
   pub root_send : IsSend (Root.the_field H cells).row
-  root_send = let sent = cell_send in let shared = cell_sync in let row = row_send in let rows = row_sync in search (node_send, sendable, crosses) depth 40
+  root_send = let sent = cell_send in let shared = cell_sync in let row = row_send in let rows = row_sync in let send = beside_send in let sync = beside_sync in search (node_send, sendable, crosses) depth 40
 
   pub snapshot_send : IsSend (Snapshot.the_field H cells).row
-  snapshot_send = let root = root_send in let sent = TheBeside.the_send H cells in let shared = TheBeside.the_sync H cells in search (sendable, crosses) depth 40
+  snapshot_send = let root = root_send in search (sendable, crosses) depth 40
 
   abbrev slot : RattleType
   slot = OptionType.the_row (Snapshot.the_row H cells)

@@ -1,11 +1,11 @@
 -- What a draft may be, and how many rows it has.
-use Rattle.std.proofs.Common.{◌≡◌, ℕ, ◌+◌, ◌-◌, ◌≤◌, Bool, true, false, None, Some, Option, refl, ◌∙◌, arith, cond}
+use Rattle.std.proofs.Common.{◌≡◌, ℕ, ◌+◌, ◌-◌, ◌≤◌, Bool, true, false, None, Some, Option, refl, sym, subst, ◌∙◌, arith, cond}
 use Rattle.std.specs.FinMap.{contains_key, empty, get, insert, len, len-empty, len-insert, len-remove, remove}
 use Rattle.cells.specs.CellOrder.{cell_cmp, cell_cmp-total}
 use Rattle.cells.specs.Values.{RowValue}
 use Rattle.cells.specs.declared.cell.Cell.{Cell}
-use Rattle.cells.specs.Tables.{AreRowsOf, Rows}
-use Rattle.board.specs.Editions.{Editions, IsKept, limit, schema}
+use Rattle.cells.specs.Tables.{AreRowsOf, Rows, laid_over}
+use Rattle.board.specs.Editions.{ChangesDraft, Editions, IsKept, Publishes, draft, limit, schema}
 
 -- no rows keep any limit
 pub empty_within : (rows : Rows) (most : ℕ) → rows ≡ empty → len rows ≤ most
@@ -52,3 +52,10 @@ most_by old key row (Some there) e = omega (arith, len_over old key row there e)
 -- whatever is there, a row more at most
 pub len_most : (old : Rows) (key : Cell) (row : RowValue) → len (insert old key row) ≤ len old + 1
 len_most old key row = most_by old key row (get old key) refl
+
+-- what was seen of a keeper before and after its draft was changed, or a publish
+pub changes_as : (view old new : Editions) (later : Rows) → view ≡ old → ChangesDraft view new (laid_over later (draft view)) → ChangesDraft old new (laid_over later (draft old))
+changes_as view old new later is changes = subst (λ k. ChangesDraft k new (laid_over later (draft k))) is changes
+
+pub seen_as : (view old mid new : Editions) → view ≡ old → new ≡ mid → Publishes view mid → Publishes old new
+seen_as view old mid new is same publishes = subst (λ k. Publishes k new) is (subst (Publishes view) (sym same) publishes)

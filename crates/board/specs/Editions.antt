@@ -2,6 +2,7 @@
 use Rattle.std.specs.Prelude.{◌≡◌, ℕ, ◌+◌, ◌≤◌, List, [], ◌∷◌, ◌++◌, length, All, refl}
 use Rattle.std.specs.Coded.{Coded, code_by, coded×, coded_ℕ, coded_list}
 use Rattle.std.specs.FinMap as map
+use Rattle.std.specs.List.Sorted.{IsPermutation}
 use mathlib.Core.List.{IsPrefix}
 use Rattle.atomic_table.specs.Seated.{TableId, table_id_coded}
 use Rattle.cells.specs.Codes.{coded_cell, coded_row, coded_table}
@@ -85,6 +86,11 @@ pub record AreListed (rows : Rows) : Type 0 where
   pub list : List RowValue
   pub left : AreLeft list
   pub is : rows ≡ table_of list
+
+-- the list has each of the rows once, in some order, and so as many as there are
+pub record IsListOf (rows : Rows) (list : List RowValue) : Type 0 where
+  pub order : IsPermutation list (map.values rows)
+  pub count : length list ≡ map.len rows
 
 -- what is so of each keeper: its limit is in range, its draft keeps it and has rows of the table, and its last edition
 -- is one and ends its history, which begins with edition 0

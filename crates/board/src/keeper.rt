@@ -15,10 +15,11 @@ use crate::told::Told;
 use crate::viewer::Viewer;
 use crate::writer::Writer;
 use cells::{Cell, KeyHash, Refused, Row, Schema, later_puts_lie_over};
+use columns::RowTrie;
 use std::alloc::Global;
 use std::marker::Model;
 use std::sync::{Arc, Wait};
-use trie::{Trie, entries_are_a_map};
+use trie::entries_are_a_map;
 
 /// Holds a draft, which updates change, and the last published edition. A report never reads the
 /// draft: it takes a [`Snapshot`] of what was published.
@@ -59,7 +60,7 @@ impl<H: KeyHash<Cell>> Keeper<H> {
         ensures refused { IfErr result (λ e. e ≡ Refused.OutOfMemory) }
     {
         let draft = Root::empty(alloc);
-        let last = Snapshot::first(alloc, Arc::new(alloc, schema)?)?;
+        let last = Snapshot::first(alloc, Arc::new(alloc, schema)?);
         let writer = Writer::new(alloc, places as usize, last.share_schema()?)?;
         Ok(Keeper {
             alloc,
@@ -94,7 +95,7 @@ impl<H: KeyHash<Cell>> Keeper<H> {
     /// when it is loaded.
     ///
     /// [`Refused::TooManyRows`] exactly where the draft would have more rows than the limit.
-    pub fn absorb(&mut self, rows: Trie<Cell, Row, H>) -> Result<(), Refused>
+    pub fn absorb(&mut self, rows: RowTrie<H>) -> Result<(), Refused>
         requires rows { AreRowsOf (schema self.old) (map_of cell_cmp rows) }
         ensures draft { OnOk result (ChangesDraft self.old self.new (laid_over (map_of cell_cmp rows) (draft self.old))) }
         ensures within { OnOk result (map.len (draft self.new) ≤ limit self.old) }
@@ -105,10 +106,14 @@ impl<H: KeyHash<Cell>> Keeper<H> {
         // The law by which rows laid over others are no fewer; it does nothing.
         later_puts_lie_over();
         if !is_within(&rows, self.limit) {
+            drop(rows);
             return Err(Refused::TooManyRows);
         }
-        let draft = self.draft.with_rows(&rows)?;
+        let laid = self.draft.with_rows(&rows);
+        drop(rows);
+        let draft = laid?;
         if draft.len() > self.limit {
+            drop(draft);
             return Err(Refused::TooManyRows);
         }
         self.draft = draft;
@@ -138,7 +143,7 @@ impl<H: KeyHash<Cell>> Keeper<H> {
         ensures refused { IfErr result (λ e. e ≡ Refused.OutOfMemory) }
         ensures unchanged { OnErr result (self.new ≡ self.old) }
     {
-        let next = self.last.next(self.alloc, self.draft.share()?)?;
+        let next = self.last.next(self.draft.share()?)?;
         let copies = self.writer.copies(self.alloc, &next)?;
         self.last = self.writer.publish(rt, next, copies);
         Ok(self.tell())
@@ -228,7 +233,7 @@ fn has_room<H: KeyHash<Cell>>(draft: &Root<H>, key: &Cell, limit: u64) -> bool
 }
 
 /// Whether the rows of a trie are no more than the limit.
-fn is_within<H: KeyHash<Cell>>(rows: &Trie<Cell, Row, H>, limit: u64) -> bool
+fn is_within<H: KeyHash<Cell>>(rows: &RowTrie<H>, limit: u64) -> bool
     ensures { IsTrue result ↔ (map.len (map_of cell_cmp rows.now) ≤ limit) }
 {
     entries_are_a_map::<Cell, Row, H>();

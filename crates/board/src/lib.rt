@@ -2,7 +2,6 @@
 //! and viewers in other threads, who see what is published without waiting.
 #![tactic(auto)]
 
-mod beside;
 mod boxes;
 mod crossing;
 mod keeper;
@@ -16,7 +15,6 @@ mod told;
 mod viewer;
 mod writer;
 
-pub use beside::RowsOf;
 pub use crossing::viewers_cross_threads;
 pub use keeper::Keeper;
 pub use laws::{an_edition_has_a_list_of_rows, rows_have_the_shape_of_their_keys};

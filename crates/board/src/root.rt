@@ -9,16 +9,17 @@ ghost use Rattle.trie.specs.Maps.{RiseByHash, map_of};
 ghost use Rattle.trie.specs.Shapes.{shape_of};
 
 use cells::{Cell, KeyHash, Row, later_puts_lie_over};
+use columns::RowTrie;
 use std::alloc::{AllocError, Global};
 use std::marker::Model;
 use trie::{Later, Shape, Ticks, Trie, entries_are_a_map, entries_still_rise};
 
-/// Rows by their keys, which never change once they are made: a trie of the rows. A change makes a new
-/// root, which shares the rows that stay and most of the nodes.
+/// Rows by their keys, which never change once they are made: a trie of the rows, with places for the columns of its pieces. A
+/// change makes a new root, which shares the rows that stay and most of the nodes, and with these the columns beside them.
 #[derive(Drop)]
 pub struct Root<H: KeyHash<Cell>> {
     alloc: Global,
-    rows: Trie<Cell, Row, H>,
+    rows: RowTrie<H>,
 }
 
 impl<H: KeyHash<Cell>> Model for Root<H> {
@@ -42,7 +43,7 @@ impl<H: KeyHash<Cell>> Model for Root<H> {
 // by which its entries are a finite map. So does that of `later_puts_lie_over`, the law of rows laid over others.
 impl<H: KeyHash<Cell>> Root<H> {
     /// The rows that a trie holds.
-    fn of(alloc: Global, rows: Trie<Cell, Row, H>) -> Root<H>
+    fn of(alloc: Global, rows: RowTrie<H>) -> Root<H>
         requires { RiseByHash H.hash_of cell_cmp (keys_of rows) }
         ensures { result ≡ map_of cell_cmp rows }
     {
@@ -85,7 +86,7 @@ impl<H: KeyHash<Cell>> Root<H> {
     }
 
     /// The rows with those of a trie laid over them, which are shared.
-    pub(crate) fn with_rows(&self, later: &Trie<Cell, Row, H>) -> Result<Root<H>, AllocError>
+    pub(crate) fn with_rows(&self, later: &RowTrie<H>) -> Result<Root<H>, AllocError>
         requires { map.len self.now + map.len (map_of cell_cmp later.now) < 2 ^ 64 }
         ensures { IfOk result (λ root. root ≡ laid_over (map_of cell_cmp later.now) self.now) }
     {
@@ -118,7 +119,7 @@ impl<H: KeyHash<Cell>> Root<H> {
     }
 
     /// The trie that holds the rows, for those who go through all of them. It takes no memory.
-    pub fn rows(&self) -> &Trie<Cell, Row, H>
+    pub fn rows(&self) -> &RowTrie<H>
         ensures map { map_of cell_cmp result.now ≡ self.now }
         ensures rise { RiseByHash H.hash_of cell_cmp (keys_of result.now) }
     {

@@ -1,74 +1,65 @@
 //! One published edition, for good.
-ghost use Rattle.std.specs.Prelude.{◌≡◌, ◌+◌, ◌<◌, ◌≤◌, ◌^◌, IfOk, IfSome};
+ghost use Rattle.std.specs.Prelude.{◌≡◌, ◌+◌, ◌<◌, ◌≤◌, ◌^◌, IfOk};
 ghost use Rattle.std.specs.FinMap.{empty, len};
 ghost use Rattle.cells.specs.Tables.{AreRowsOf};
 ghost use Rattle.board.specs.Editions.{IsEdition};
 ghost use Rattle.board.specs.Limits.{row_limit};
 
-use crate::beside::{Beside, RowsOf};
 use crate::root::Root;
 use cells::{Cell, KeyHash, Schema};
-use columns::Columns;
-use shelf::Shelf;
 use std::alloc::{AllocError, Global};
 use std::marker::Model;
 use std::sync::Arc;
 
-/// A snapshot is one owner more of a published edition's rows, and of their columns, once these are made. It keeps them
-/// whatever the keeper does later, and after the keeper has ended.
+/// A snapshot is one owner more of a published edition's rows, and of the columns beside their pieces, once these are made. It
+/// keeps them whatever the keeper does later, and after the keeper has ended.
 #[derive(Drop)]
 pub struct Snapshot<H: KeyHash<Cell>> {
     edition: u64,
     root: Root<H>,
-    beside: Arc<Beside<H>>,
+    schema: Arc<Schema>,
 }
 
 impl<H: KeyHash<Cell>> Model for Snapshot<H> {
-    ghost use Rattle.std.specs.Prelude.{◌≡◌};
     ghost use Rattle.board.specs.Editions.{Edition, IsEdition, coded_edition};
 
     ghost Value = { Edition };
 
     ghost coded = { coded_edition };
 
-    ghost view = { λ s. record { number = s.edition; rows = s.root; schema = s.beside.value.schema.value } };
+    ghost view = { λ s. record { number = s.edition; rows = s.root; schema = s.schema.value } };
 
-    // Its rows are rows of its schema, and no more than a draft may have; columns beside them hold these rows.
-    ghost invariant = { λ s. IsEdition s.beside.value.schema.value s.root × (s.beside.value.columns ≡ s.root) };
+    // Its rows are rows of its schema, and no more than a draft may have.
+    ghost invariant = { λ s. IsEdition s.schema.value s.root };
 }
 
 impl<H: KeyHash<Cell>> Snapshot<H> {
-    pub(crate) fn new(
-        alloc: Global,
-        edition: u64,
-        root: Root<H>,
-        schema: Arc<Schema>,
-    ) -> Result<Snapshot<H>, AllocError>
+    pub(crate) fn new(edition: u64, root: Root<H>, schema: Arc<Schema>) -> Snapshot<H>
         requires { IsEdition schema.value root }
-        ensures { IfOk result (λ s. s ≡ record { number = edition; rows = root; schema = schema.value }) }
+        ensures { result ≡ record { number = edition; rows = root; schema = schema.value } }
     {
-        let beside = Beside::new(alloc, &root, schema)?;
-        Ok(Snapshot {
+        Snapshot {
             edition,
             root,
-            beside: Arc::new(alloc, beside)?,
-        })
+            schema,
+        }
     }
 
     /// Edition 0, which has no rows.
-    pub(crate) fn first(alloc: Global, schema: Arc<Schema>) -> Result<Snapshot<H>, AllocError>
-        ensures { IfOk result (λ s. s ≡ record { number = 0; rows = empty; schema = schema.value }) }
+    pub(crate) fn first(alloc: Global, schema: Arc<Schema>) -> Snapshot<H>
+        ensures { result ≡ record { number = 0; rows = empty; schema = schema.value } }
     {
-        Snapshot::new(alloc, 0, Root::empty(alloc), schema)
+        Snapshot::new(0, Root::empty(alloc), schema)
     }
 
     /// The edition behind this one, with those rows.
-    pub(crate) fn next(&self, alloc: Global, root: Root<H>) -> Result<Snapshot<H>, AllocError>
+    pub(crate) fn next(&self, root: Root<H>) -> Result<Snapshot<H>, AllocError>
         requires number { self.now.number + 1 < 2 ^ 64 }
         requires rows { IsEdition self.now.schema root }
         ensures { IfOk result (λ s. s ≡ record { number = self.now.number + 1; rows = root; schema = self.now.schema }) }
     {
-        Snapshot::new(alloc, self.edition + 1, root, self.share_schema()?)
+        let schema = self.share_schema()?;
+        Ok(Snapshot::new(self.edition + 1, root, schema))
     }
 
     /// One owner more of the same edition.
@@ -76,11 +67,11 @@ impl<H: KeyHash<Cell>> Snapshot<H> {
         ensures { IfOk result (λ s. s ≡ self.now) }
     {
         let root = self.root.share()?;
-        let beside = Arc::try_clone(&self.beside)?;
+        let schema = self.share_schema()?;
         Ok(Snapshot {
             edition: self.edition,
             root,
-            beside,
+            schema,
         })
     }
 
@@ -88,8 +79,7 @@ impl<H: KeyHash<Cell>> Snapshot<H> {
     pub(crate) fn share_schema(&self) -> Result<Arc<Schema>, AllocError>
         ensures { IfOk result (λ s. s.value ≡ self.now.schema) }
     {
-        let beside = &self.beside;
-        Arc::try_clone(&beside.schema)
+        Arc::try_clone(&self.schema)
     }
 
     /// The edition's number. It takes no memory.
@@ -113,16 +103,6 @@ impl<H: KeyHash<Cell>> Snapshot<H> {
     pub fn schema(&self) -> &Schema
         ensures { result.now ≡ self.now.schema }
     {
-        let beside = &self.beside;
-        &beside.schema
-    }
-
-    /// The shelf for the columns of the edition's rows, which all snapshots of the edition share. The first call for an edition
-    /// answers None and marks it as asked, so that who asks an edition once pays for no columns. It takes no memory.
-    pub fn columns_if_asked_before(&self) -> Option<&Shelf<Columns<H>, RowsOf<H>>>
-        ensures { IfSome result (λ shelf. shelf.now ≡ self.now.rows) }
-    {
-        let beside = &self.beside;
-        beside.columns_if_asked_before()
+        &self.schema
     }
 }

@@ -1,7 +1,7 @@
 -- Codes, and the cells that they stand for.
 use Rattle.std.specs.Prelude.{◌≡◌, ℕ, ◌+◌, ◌<◌, ◌≤◌, List, [], ◌∷◌, ◌++◌, length, map, take, Option, Some, None, refl}
 use Rattle.std.proofs.Common.{get_or, ap, ap₂, sym, ◌∙◌, subst, arith}
-use Rattle.std.proofs.lemmas.List.{append_assoc, append-nil, get_or_append_left, get_or_default, get_or-map, length-append, length-map, map-append, take_all, take_more}
+use Rattle.std.proofs.lemmas.List.{append_assoc, get_or_append_left, get_or_default, get_or-map, length-append, length-map, map-append, take_all, take_more}
 use Rattle.std.proofs.lemmas.List.Elements.{All-from_recursion, All-get_or}
 use Rattle.std.proofs.Math.Seq.{get_or-append_seam}
 use Rattle.cells.specs.declared.cell.Cell.{Cell}
@@ -46,18 +46,6 @@ recode_added cells old items cell code is added number = subst (λ l. Recode (ce
   stand = ap (λ (c : Cell). c ∷ []) (get_or-append_seam cells cell [] Null);
 }))
 
--- a cell was there
-pub recode_found : (cells : List Cell) (cell : Cell) (code : ℕ) → code < length cells → get_or cells code Null ≡ cell → Recode (cell ∷ []) cells cells (code ∷ [])
-recode_found cells cell code below is = record {
-  more = [];
-  grown = sym (append-nil cells);
-  within = (below, tt);
-  stand = ap (λ (c : Cell). c ∷ []) is;
-}
-
-pub recode_none : Recode [] [] [] []
-recode_none = record { more = []; grown = refl; within = tt; stand = refl }
-
 pub recode_next : (cells : List Cell) (i : ℕ) (cell : Cell) (old mid new : List Cell) (codes added : List ℕ) (code : ℕ) → i < length cells → cell ≡ get_or cells i cell →
     Recode (take i cells) old mid codes → Recode (cell ∷ []) mid new (code ∷ []) → added ≡ codes ++ code ∷ [] → Recode (take (i + 1) cells) old new added
 recode_next cells i cell old mid new codes added code h is one two e =
@@ -89,12 +77,6 @@ gives_made old new list codes none is one = rw is (record {
 -- ---- cells put into a column
 pub puts_both : (xs ys : List Cell) (old mid new : ColumnValue) → Puts xs old mid → Puts ys mid new → Puts (xs ++ ys) old new
 puts_both xs ys old mid new one two = record { behind = two.behind ∙ ap (λ l. l ++ ys) one.behind ∙ append_assoc (cells_of old) xs ys }
-
--- codes of numbers came to those of numbers
-pub puts_numbers : (cells : List Cell) (old new : ColumnValue) (codes : List ℕ) → old.cells ≡ None → new ≡ record { cells = None; by_row = old.by_row ++ codes } → decoded None codes ≡ cells → Puts cells old new
-puts_numbers cells old new codes none is stand = record {
-  behind = ap cells_of is ∙ decoded_both None old.by_row codes ∙ ap₂ (λ (a b : List Cell). a ++ b) (ap (λ d. decoded d old.by_row) (sym none)) stand;
-}
 
 -- codes of the list that was given came to those of the column
 pub puts_coded : (cells : List Cell) (old mid : ColumnValue) (list grown : List Cell) (codes added : List ℕ) → GivesList old mid list → Recode cells list grown codes → added ≡ mid.by_row ++ codes →

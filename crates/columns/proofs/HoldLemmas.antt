@@ -6,9 +6,10 @@ use Rattle.std.proofs.lemmas.List.{append_assoc, append-nil, map-append, take_mo
 use Rattle.cells.specs.Values.{RowValue}
 use Rattle.cells.specs.declared.cell.Cell.{Cell}
 use Rattle.cells.specs.declared.cell.Cell.TheVariants.{Null}
-use Rattle.columns.specs.Coding.{AddsColumn, PutsAt, PutsFor, TakesRow, no_column}
+use Rattle.columns.specs.Coding.{AddsColumn, Puts, PutsAt, PutsFor, TakesRow, no_column}
 use Rattle.columns.specs.Columns.{ColumnValue, ColumnsValue, HaveAll, Hold, cells_at, cells_of, has, rows_of}
 use Rattle.trie.specs.Walks.{TakesAll}
+use Rattle.columns.proofs.ColumnsLemmas.{puts_both}
 
 -- the column has the rows' cells of its index
 abbrev pub IsColumn : List RowValue → ℕ × ColumnValue → Type 0
@@ -20,16 +21,6 @@ is_of index c = c.0 == index
 pub all_push : {X : Type 0} (P : X → Type 0) (xs : List X) (x : X) → AllByRecursion P xs → P x → AllByRecursion P (xs ++ x ∷ [])
 all_push P [] x all one = (one, tt)
 all_push P (y ∷ xs) x all one = (all.0, all_push P xs x all.1 one)
-
-pub all_first : {X : Type 0} (P : X → Type 0) (xs : List X) (i : ℕ) → AllByRecursion P xs → AllByRecursion P (take i xs)
-all_first P xs zero all = tt
-all_first P [] (suc i) all = tt
-all_first P (x ∷ xs) (suc i) all = (all.0, all_first P xs i all.1)
-
-pub all_at : {X : Type 0} (P : X → Type 0) (xs : List X) (i : ℕ) (d : X) → i < length xs → AllByRecursion P xs → P (get_or xs i d)
-all_at P [] i d h all = absurd (omega (arith, h))
-all_at P (x ∷ xs) zero d h all = all.0
-all_at P (x ∷ xs) (suc i) d h all = all_at P xs i d (omega (arith, h)) all.1
 
 -- ---- a column more
 pub has_push : (columns : ColumnsValue) (c : ℕ × ColumnValue) (index : ℕ) → has (columns ++ c ∷ []) index ≡ (has columns index || (c.0 == index))
@@ -112,6 +103,20 @@ taken_has index old new (x ∷ entries) (mid, one, rest) = taken_has index mid n
 
 pub cells_both : (rows more : List RowValue) (k : ℕ) → cells_at k (rows ++ more) ≡ cells_at k rows ++ cells_at k more
 cells_both rows more k = map-append (λ r. get_or r.cells k Null) rows more
+
+pub piece_put : (old new : ℕ × ColumnValue) (entries : List (Cell × RowValue)) → TakesAll (λ old key row new. PutsFor (λ index. cells_at index (row ∷ [])) old new) old entries new →
+    PutsFor (λ index. cells_at index (rows_of entries)) old new
+piece_put old new [] e = record {
+  same = ap (λ (c : ℕ × ColumnValue). c.0) e;
+  puts = record { behind = ap (λ (c : ℕ × ColumnValue). cells_of c.1) e ∙ sym (append-nil (cells_of old.1)) };
+}
+piece_put old new (x ∷ entries) (mid, one, rest) =
+    let more = piece_put mid new entries rest in
+    record {
+      same = more.same ∙ one.same;
+      puts = puts_both (cells_at old.0 (x.1 ∷ [])) (cells_at old.0 (rows_of entries)) old.1 mid.1 new.1 one.puts
+          (subst (λ k. Puts (cells_at k (rows_of entries)) mid.1 new.1) one.same more.puts);
+    }
 
 -- the column of one index more
 pub named_next : (named : List ℕ) (i index : ℕ) (old new : ColumnsValue) → i < length named → index ≡ get_or named i 0 → AddsColumn index old new → HaveAll (take i named) old → HaveAll (take (i + 1) named) new

@@ -24,19 +24,6 @@ all_before : {X : Type 0} (P : X → Type 0) (xs ys : List X) → AllByRecursion
 all_before P [] ys all = (tt, all)
 all_before P (x ∷ xs) ys all = let rest = all_before P xs ys all.1 in ((all.0, rest.0), rest.1)
 
-pub goes_first : (all other kept rest : ColumnsValue) → kept ≡ [] → rest ≡ all → Goes all other kept rest
-goes_first all other kept rest none is = record {
-  done = [];
-  split = sym is;
-  both = record {
-    held = λ rows more held others. subst (AllByRecursion (IsColumn (rows ++ more))) (sym none) tt;
-    there = λ index one two. absurd (true-false (sym one));
-  };
-}
-  where
-    true-false : true ≡ false → ⊥
-    true-false e = cc
-
 later : (all done rest left : ColumnsValue) (n : ℕ × ColumnValue) → all ≡ done ++ rest → rest ≡ n ∷ left → all ≡ (done ++ n ∷ []) ++ left
 later all done rest left n e is = e ∙ ap (λ l. done ++ l) is ∙ sym (append_assoc done (n ∷ []) left)
 

@@ -1,2 +1,4 @@
 pub mod Columns
+pub mod Crossing
 pub mod Coding
+pub mod Beside

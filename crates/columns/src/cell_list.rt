@@ -19,6 +19,34 @@ const PROBES: usize = 32;
 /// An odd number whose digits have no pattern: 2^64 over the golden ratio.
 const MIXER: u64 = 0x9E37_79B9_7F4A_7C15;
 
+/// Different cells of which each has its index as its code, and to which no more come.
+#[derive(Drop)]
+pub(crate) struct KeptCells {
+    cells: Vec<Cell>,
+}
+
+impl Model for KeptCells {
+    ghost use Rattle.std.specs.Prelude.{List};
+    ghost use Rattle.std.specs.Coded.{codes};
+    ghost use Rattle.cells.specs.Codes.{coded_cell};
+    ghost use Rattle.cells.specs.declared.cell.Cell.{Cell};
+
+    ghost Value = { List Cell };
+
+    ghost coded = { Prim.hlevel (codes, coded_cell) };
+
+    ghost view = { λ l. l.cells.items };
+}
+
+impl KeptCells {
+    /// The cells: that of a code has the code as its index. It takes no memory.
+    pub fn cells(&self) -> &[Cell]
+        ensures { result.now ≡ self.now }
+    {
+        self.cells.as_slice()
+    }
+}
+
 /// Different cells, of which each has its index as its code.
 ///
 /// Cells that come find their codes by hints, which rest on hashes. Nothing rests on the hints: a cell that they do not show
@@ -69,6 +97,15 @@ impl<H: KeyHash<Cell>> CellList<H> {
     {
         self.hints.clear();
         self.hints.shrink_to_fit();
+    }
+
+    /// The cells, for good: no more come.
+    pub fn kept(self) -> KeptCells
+        ensures { result ≡ self }
+    {
+        let CellList { mut cells, .. } = self;
+        cells.shrink_to_fit();
+        KeptCells { cells }
     }
 
     /// The codes of some cells, which are added where they are not found.

@@ -5,6 +5,7 @@ ghost use Rattle.columns.specs.Coding.{GivesList, Puts};
 ghost use Rattle.columns.specs.Columns.{AreCodes, cell_of, cells_of, decoded};
 
 use crate::cell_list::CellList;
+use crate::kept_column::KeptColumn;
 use crate::number_code::{number_cell, number_code};
 use crate::span::Span;
 use cells::{Cell, KeyHash};
@@ -112,6 +113,42 @@ impl<H: KeyHash<Cell>> CodeColumn<H> {
         match other.cells() {
             Some(cells) => self.append_listed(cells, other.codes()),
             None => self.append_numbers(other.codes(), other.numbers),
+        }
+    }
+
+    /// The same of a column to which no more cells come.
+    pub fn append_kept(&mut self, other: &KeptColumn) -> Result<(), AllocError>
+        ensures { OnOk result (Puts (cells_of other.now) self.old self.new) }
+    {
+        self.by_row.reserve(other.by_row.len())?;
+        match other.cells() {
+            Some(cells) => self.append_listed(cells, other.codes()),
+            None => self.append_numbers(other.codes(), other.numbers),
+        }
+    }
+
+    /// The column, for good: no more cells come. What only serves to find codes goes.
+    pub fn kept(self) -> KeptColumn
+        ensures { result ≡ self }
+    {
+        let CodeColumn {
+            mut by_row,
+            list,
+            numbers,
+            ..
+        } = self;
+        by_row.shrink_to_fit();
+        match list {
+            Some(list) => KeptColumn {
+                by_row,
+                list: Some(list.kept()),
+                numbers,
+            },
+            None => KeptColumn {
+                by_row,
+                list: None,
+                numbers,
+            },
         }
     }
 

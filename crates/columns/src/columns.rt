@@ -2,15 +2,20 @@
 ghost use Rattle.std.specs.Prelude.{◌≡◌, ◌<◌, ◌∷◌, ◌++◌, ℕ, List, [], true, IfOk, IfSome, OnOk, length, slice_index_or};
 ghost use Rattle.std.specs.Option.{is_some, option_copied};
 ghost use Rattle.cells.specs.Values.{RowValue};
+ghost use Rattle.columns.specs.Beside.{ArePlacesFor};
 ghost use Rattle.columns.specs.Coding.{AddsColumn, PutsAt};
 ghost use Rattle.columns.specs.Columns.{HaveAll, Hold, cells_at, cells_of, has, rows_of};
 
 use crate::code_column::CodeColumn;
 use crate::named_column::NamedColumn;
+use crate::piece_columns::{PieceColumns, RowPiece};
 use cells::{Cell, KeyHash, Row};
 use std::alloc::{AllocError, Global};
 use std::marker::Model;
-use trie::{Piece, Visitor};
+use std::sync::Wait;
+use std::sync::atomic::AtomicU64;
+use std::sync::atomic::Ordering::SeqCst;
+use trie::{Beside, Piece, Visitor};
 
 /// Columns of rows: those of some indexes, the others are left out. Rows come one after another. It owns copies of the cells.
 #[derive(Drop)]
@@ -72,12 +77,37 @@ impl<H: KeyHash<Cell>> Columns<H> {
 
     /// Puts the rows of a piece of a table behind those that are there, in the order in which they are walked. After an error,
     /// which is that a growth was refused, nothing is known of the columns.
-    pub fn take(&mut self, piece: &Piece<Cell, Row, H>) -> Result<(), AllocError>
+    pub fn take<S: Beside<Cell, Row>>(
+        &mut self,
+        piece: &Piece<Cell, Row, H, S>,
+    ) -> Result<(), AllocError>
         ensures same { (index : ℕ) → OnOk result (has self.new index ≡ has self.old index) }
         ensures held { (rows : List RowValue) → Hold rows self.old → OnOk result (Hold (rows ++ rows_of piece.now) self.new) }
     {
         piece.walk(self)?;
         Ok(())
+    }
+
+    /// The same by the columns that lie beside the piece, where it has a place for them. Those that are not there yet are laid
+    /// out, and stay beside it. It tells how many columns were laid out; where the piece has no place these are all.
+    pub fn take_kept<R: Wait>(
+        &mut self,
+        rt: &R,
+        alloc: Global,
+        piece: &RowPiece<H>,
+    ) -> Result<u64, AllocError>
+        ensures same { (index : ℕ) → OnOk result (has self.new index ≡ has self.old index) }
+        ensures held { (rows : List RowValue) → Hold rows self.old → OnOk result (Hold (rows ++ rows_of piece.now) self.new) }
+    {
+        let Some(kept) = PieceColumns::beside(rt, alloc, piece) else {
+            self.take(piece)?;
+            return Ok(self.column_count() as u64);
+        };
+        let laid = AtomicU64::new(0);
+        for place in 0..self.column_count() {
+            self.take_kept_at(rt, alloc, place, piece, &kept, &laid)?;
+        }
+        Ok(laid.load(SeqCst))
     }
 
     /// These columns with the rows of other ones of the same table behind their own. A column that the other ones have not is
@@ -121,6 +151,23 @@ impl<H: KeyHash<Cell>> Columns<H> {
         ensures { result ≡ length self.now }
     {
         self.columns.len()
+    }
+
+    /// Puts the cells of a piece's rows behind those of the column at the place, by what lies beside the piece.
+    fn take_kept_at<R: Wait>(
+        &mut self,
+        rt: &R,
+        alloc: Global,
+        place: usize,
+        piece: &RowPiece<H>,
+        kept: &PieceColumns,
+        laid: &AtomicU64,
+    ) -> Result<(), AllocError>
+        requires place { place < length self.old }
+        requires kept { ArePlacesFor piece.now kept.now.places.items }
+        ensures { OnOk result (PutsAt place (λ index. cells_at index (rows_of piece.now)) self.old self.new) }
+    {
+        self.columns[place].take_kept(rt, alloc, piece, kept, laid)
     }
 
     /// Puts the row's cell at the end of the column at the place.

@@ -47,8 +47,3 @@ all_weaker P Q weaker (n ∷ ns) all = (weaker n all.0, all_weaker P Q weaker ns
 pub all_of : (P : ℕ → Type 0) → ((n : ℕ) → P n) → (ns : List ℕ) → AllByRecursion P ns
 all_of P each [] = tt
 all_of P each (n ∷ ns) = (each n, all_of P each ns)
-
--- what holds of all holds of the last
-pub at_last : (P : ℕ → Type 0) (ns : List ℕ) (n : ℕ) → AllByRecursion P (ns ++ n ∷ []) → P n
-at_last P [] n all = all.0
-at_last P (m ∷ ns) n all = at_last P ns n all.1

@@ -14,6 +14,10 @@ pub trait Gate: Sync {
     /// that entered it.
     fn left(&self, _piece: u64) {}
 
+    /// So many columns of the piece of this number were laid out, each by going through its rows: the others that were wanted lay
+    /// beside it. Called by the worker that has left it.
+    fn laid_out(&self, _piece: u64, _columns: u64) {}
+
     /// The edition of this number, counted from 1, is the last published one now. Called after each
     /// publish that is accepted, by the thread of the keeper.
     fn published(&self, _edition: u64) {}

@@ -12,13 +12,13 @@ ghost use Rattle.groups.specs.Partials.{Stands};
 use crate::gate::Gate;
 use crate::laying::columns_of;
 use crate::listing::gather_rows;
-use cells::{Cell, KeyHash, Refused, Row, Tuple};
+use cells::{Cell, KeyHash, Refused, Tuple};
+use columns::RowPiece;
 use groups::{Folding, Partial, any_order, needed_columns};
 use query::Plan;
 use std::alloc::{AllocError, Global};
 use std::sync::Wait;
 use std::thread::Threads;
-use trie::Piece;
 
 /// The partial result of the rows of all pieces, of which there are at most [`MAX_PIECES`](crate::MAX_PIECES), for
 /// which the plan's WHERE is true. The pieces have at most 4,294,967,296 rows. As many workers as the smaller of `workers`,
@@ -29,11 +29,11 @@ use trie::Piece;
 ///
 /// [`Refused::NoWorker`] where a thread could not be started; otherwise [`Refused::OutOfMemory`] where there was no
 /// memory, here or for a worker. All threads that were started are joined before this returns, however it ends.
-pub fn gather<H: KeyHash<Cell> + KeyHash<Tuple> + Send + Sync, G: Gate, R: Threads + Wait>(
+pub fn gather<H: KeyHash<Cell> + KeyHash<Tuple> + Send + Sync, G: Gate, R: Threads + Wait + Sync>(
     rt: &R,
     alloc: Global,
     plan: &Plan,
-    pieces: &[Piece<Cell, Row, H>],
+    pieces: &[RowPiece<H>],
     workers: u64,
     gate: &G,
 ) -> Result<Partial<H>, Refused>
@@ -52,12 +52,12 @@ pub fn gather_pieces<
     'a,
     H: KeyHash<Cell> + KeyHash<Tuple> + Send + Sync,
     G: Gate,
-    R: Threads + Wait,
+    R: Threads + Wait + Sync,
 >(
     rt: &R,
     alloc: Global,
     plan: &'a Plan,
-    pieces: &[Piece<Cell, Row, H>],
+    pieces: &[RowPiece<H>],
     workers: u64,
     gate: &G,
 ) -> Result<Folding<'a, H>, Refused>
@@ -77,7 +77,7 @@ pub fn gather_pieces<
 }
 
 /// How many rows the pieces have.
-fn row_count<H: KeyHash<Cell>>(pieces: &[Piece<Cell, Row, H>]) -> u64
+fn row_count<H: KeyHash<Cell>>(pieces: &[RowPiece<H>]) -> u64
     requires { length (rows_in pieces.now) ≤ cell_limit }
     ensures { result ≡ length (rows_in pieces.now) }
 {

@@ -10,26 +10,30 @@ ghost use Rattle.crew.specs.Shares.{AreShared};
 use crate::gate::Gate;
 use crate::sharing::share_out;
 use crate::task::Task;
-use cells::{Cell, KeyHash, Refused, Row, Tuple};
-use columns::Columns;
+use cells::{Cell, KeyHash, Refused, Tuple};
+use columns::{Columns, RowPiece};
 use std::alloc::{AllocError, Global};
 use std::sync::Wait;
 use std::thread::Threads;
-use trie::Piece;
 
 /// The columns of the rows of all pieces, of which there are at most [`MAX_PIECES`](crate::MAX_PIECES): those of the indexes
 /// `named`, which may be named more than once. As many workers as the smaller of `workers`,
 /// taken as 1 at least and [`MAX_SEATS`](crate::MAX_SEATS) at most, and the number of pieces draw pieces until none are left,
 /// each in a thread of its own. The rows stand in the order in which the workers drew their pieces, which another run may
-/// change. The columns own copies of the cells. The gate is told of each piece that a worker takes, before and after, also
+/// change. The columns own copies of the cells. They are put together from those that lie beside the pieces, where a piece has a
+/// place for them: what is not there yet is laid out and stays. The gate is told of each piece that a worker takes, before and after, also
 /// where memory was refused.
 ///
 /// [`Refused::NoWorker`] where a thread could not be started; otherwise [`Refused::OutOfMemory`] where there was no
 /// memory, here or for a worker. All threads that were started are joined before this returns, however it ends.
-pub fn columns_of<H: KeyHash<Cell> + KeyHash<Tuple> + Send + Sync, G: Gate, R: Threads + Wait>(
+pub fn columns_of<
+    H: KeyHash<Cell> + KeyHash<Tuple> + Send + Sync,
+    G: Gate,
+    R: Threads + Wait + Sync,
+>(
     rt: &R,
     alloc: Global,
-    pieces: &[Piece<Cell, Row, H>],
+    pieces: &[RowPiece<H>],
     named: &[usize],
     workers: u64,
     gate: &G,
@@ -40,20 +44,20 @@ pub fn columns_of<H: KeyHash<Cell> + KeyHash<Tuple> + Send + Sync, G: Gate, R: T
     ensures refused { IfErr result (λ e. (e ≡ Refused.NoWorker) ⊎ (e ≡ Refused.OutOfMemory)) }
 {
     let laying = Laying {
+        rt,
         pieces,
         named,
         gate,
     };
-    let parts = parts_of(rt, alloc, &laying, workers)?;
+    let parts = parts_of(alloc, &laying, workers)?;
     Ok(appended(alloc, &laying, parts)?)
 }
 
 /// The columns of each worker, of the pieces that it drew. There are as many workers as the smaller of `workers` and the
 /// number of pieces.
-fn parts_of<'a, H: KeyHash<Cell> + Send + Sync, G: Gate, R: Threads + Wait>(
-    rt: &R,
+fn parts_of<'a, H: KeyHash<Cell> + Send + Sync, G: Gate, R: Threads + Wait + Sync>(
     alloc: Global,
-    laying: &Laying<'a, H, G>,
+    laying: &Laying<'a, H, G, R>,
     workers: u64,
 ) -> Result<Vec<Columns<H>>, Refused>
     requires pieces { length laying.now.pieces.now ≤ piece_limit }
@@ -61,21 +65,23 @@ fn parts_of<'a, H: KeyHash<Cell> + Send + Sync, G: Gate, R: Threads + Wait>(
     ensures workers { IfOk result (λ v. vec_len v ≡ min (workers_of workers) (length laying.now.pieces.now)) }
     ensures refused { IfErr result (λ e. (e ≡ Refused.NoWorker) ⊎ (e ≡ Refused.OutOfMemory)) }
 {
+    let rt = laying.rt;
     share_out(rt, alloc, laying.pieces.len() as u64, workers, laying)
 }
 
-/// The work on all pieces: each worker puts the rows of those that it draws into columns of its own.
+/// The work on all pieces: each worker puts the rows of those that it draws into columns of its own, by the columns beside them.
 #[derive(Drop)]
-struct Laying<'a, H: KeyHash<Cell>, G> {
-    pieces: &'a [Piece<Cell, Row, H>],
+struct Laying<'a, H: KeyHash<Cell>, G, R> {
+    rt: &'a R,
+    pieces: &'a [RowPiece<H>],
     // the indexes of the columns that are wanted
     named: &'a [usize],
     gate: &'a G,
 }
 
-impl<'a, H: KeyHash<Cell>, G> Laying<'a, H, G> {
+impl<'a, H: KeyHash<Cell>, G, R> Laying<'a, H, G, R> {
     /// The piece at the place.
-    fn piece(&self, place: u64) -> &Piece<Cell, Row, H>
+    fn piece(&self, place: u64) -> &RowPiece<H>
         requires { place < length self.now.pieces.now }
         ensures { result.now ≡ slice_index_or self.now.pieces.now place [] }
     {
@@ -84,7 +90,7 @@ impl<'a, H: KeyHash<Cell>, G> Laying<'a, H, G> {
     }
 }
 
-impl<'a, H: KeyHash<Cell> + Send + Sync, G: Gate> Task for Laying<'a, H, G> {
+impl<'a, H: KeyHash<Cell> + Send + Sync, G: Gate, R: Wait + Sync> Task for Laying<'a, H, G, R> {
     ghost use Rattle.std.specs.Prelude.{length};
     ghost use Rattle.crew.specs.Gathering.{rows_at};
     ghost use Rattle.crew.specs.Laying.{LaidOut};
@@ -99,20 +105,21 @@ impl<'a, H: KeyHash<Cell> + Send + Sync, G: Gate> Task for Laying<'a, H, G> {
         Columns::of_named(alloc, self.named)
     }
 
-    fn take(&self, _alloc: Global, made: &mut Columns<H>, place: u64) -> Result<(), AllocError> {
+    fn take(&self, alloc: Global, made: &mut Columns<H>, place: u64) -> Result<(), AllocError> {
         self.gate.entered(place);
-        let taken = made.take(self.piece(place));
+        let taken = made.take_kept(self.rt, alloc, self.piece(place));
         self.gate.left(place);
-        taken?;
+        let laid = taken?;
+        self.gate.laid_out(place, laid);
         Ok(())
     }
 }
 
 /// The columns of all pieces, from those of the workers who shared them: the first worker's, with those of the others
 /// behind them in their order.
-fn appended<'a, H: KeyHash<Cell>, G>(
+fn appended<'a, H: KeyHash<Cell>, G, R>(
     alloc: Global,
-    laying: &Laying<'a, H, G>,
+    laying: &Laying<'a, H, G, R>,
     parts: Vec<Columns<H>>,
 ) -> Result<Columns<H>, AllocError>
     requires { AreShared (λ places. LaidOut laying.now.named.now (rows_at laying.now.pieces.now places)) (length laying.now.pieces.now) parts.items }

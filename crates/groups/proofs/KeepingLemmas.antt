@@ -150,8 +150,6 @@ unmarked_more marks numbers places i kept added same h are mark e =
     ap (λ b. chosen marks (take i numbers) (take i places) ++ keep_if b (get_or places i 0) []) (sym mark) ∙ sym (chosen_next marks numbers places i same h)
 
 -- ---- a row after another
-pub kept_so_far : (p : PredicateTree (Test ℕ)) (all : List RowValue) → KeptBy p all [] []
-kept_so_far p all = record { kept = refl; among = λ n h. h; few = omega arith }
 
 pub kept_next : (p : PredicateTree (Test ℕ)) (all : List RowValue) (places some : List ℕ) (i : ℕ) → i < length places → KeptBy p all (take i places) some → (b : Bool) →
     b ≡ keeps (Some p) (get_or all (get_or places i 0) no_row) → KeptBy p all (take (i + 1) places) (some ++ keep_if b (get_or places i 0) [])

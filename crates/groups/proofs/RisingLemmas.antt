@@ -39,9 +39,6 @@ use Rattle.trie.specs.Holding.{lent}
 pub record RiseTo (at : ℕ) (ts : List (List Cell)) : Type 0 where
   pub each : (i : ℕ) (d : List Cell) → i + 1 < at → tuple_cmp (get_or ts i d) (get_or ts (i + 1) d) ≡ Less
 
-pub rise_first : (at : ℕ) (ts : List (List Cell)) → at ≤ 1 → RiseTo at ts
-rise_first at ts h = record { each = λ i d more. absurd (omega (arith, h, more)) }
-
 pub rise_more : (before at : ℕ) (ts : List (List Cell)) → at ≡ before + 1 → ((d : List Cell) → tuple_cmp (get_or ts before d) (get_or ts at d) ≡ Less) → RiseTo at ts → RiseTo (at + 1) ts
 rise_more before at ts next less now = record { each = λ i d h. by i d h (nat_lt (i + 1) at) refl }
   where

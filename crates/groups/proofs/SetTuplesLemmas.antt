@@ -228,7 +228,7 @@ keys_lent [] = refl
 keys_lent (x ∷ xs) = ap (λ l. x.0.now ∷ l) (keys_lent xs)
 
 sorted_lent_keys : {H : Type 0} (xs : List (Bor (List Cell) × Bor (List (Acc H)))) →
-    IsSortedByKey (λ x. x.0) (λ (a b : Bor (List Cell)). tuple_cmp a.now b.now) xs → IsSorted tuple_cmp (map (λ x. x.0.now) xs)
+    IsSortedByKey (λ x. x.0.now) tuple_cmp xs → IsSorted tuple_cmp (map (λ x. x.0.now) xs)
 sorted_lent_keys [] up = λ k d l h. absurd (omega arith)
 sorted_lent_keys (x ∷ xs) up = λ k d l h.
     let n : k + 1 < length (x ∷ xs) = omega (arith, length-map (x ∷ xs) (λ t. t.0.now)) in
@@ -238,5 +238,5 @@ sorted_lent_keys (x ∷ xs) up = λ k d l h.
     rw (a, b) (up k x l n)
 
 pub sorted_lent : {H : Type 0} (xs : List (Bor (List Cell) × Bor (List (Acc H)))) →
-    IsSortedByKey (λ x. x.0) (λ (a b : Bor (List Cell)). tuple_cmp a.now b.now) xs → IsSorted tuple_cmp (keys_of (lent xs))
+    IsSortedByKey (λ x. x.0.now) tuple_cmp xs → IsSorted tuple_cmp (keys_of (lent xs))
 sorted_lent xs up = subst (IsSorted tuple_cmp) (sym (keys_lent xs)) (sorted_lent_keys xs up)

@@ -12,6 +12,7 @@ pub mod Columnar
 pub mod Dealing
 pub mod Keeping
 pub mod Pools
+pub mod Ranks
 pub mod Folds
 pub mod Coarsening
 pub mod Laying

@@ -26,7 +26,7 @@ use cells::{Cell, KeyHash, Row, Tuple};
 use columns::Columns;
 use query::Plan;
 use std::alloc::{AllocError, Global};
-use trie::Piece;
+use trie::{Beside, Piece};
 
 /// Groups of some rows, from which a partial result or the rows of a report are made. Rows are folded into the groups of a few
 /// grouping sets alone, the sources, from which those of the others are made in the end. It owns copies of the cells that it
@@ -56,10 +56,10 @@ impl<'a, H: KeyHash<Cell> + KeyHash<Tuple>> Folding<'a, H> {
     }
 
     /// The folding of the rows of the piece for which the plan's WHERE is true. The piece has at most 4,294,967,296 rows.
-    pub fn of_piece(
+    pub fn of_piece<S: Beside<Cell, Row>>(
         alloc: Global,
         plan: &'a Plan,
-        piece: &Piece<Cell, Row, H>,
+        piece: &Piece<Cell, Row, H, S>,
     ) -> Result<Folding<'a, H>, AllocError>
         requires { length piece.now ≤ cell_limit }
         ensures { IfOk result (Folds plan.now (kept plan.now.condition (rows_of piece.now))) }
@@ -204,10 +204,10 @@ impl<'a, H: KeyHash<Cell> + KeyHash<Tuple>> Folding<'a, H> {
 }
 
 /// The columns of the rows of the piece that the plan needs.
-fn columns_of_piece<H: KeyHash<Cell>>(
+fn columns_of_piece<H: KeyHash<Cell>, S: Beside<Cell, Row>>(
     alloc: Global,
     plan: &Plan,
-    piece: &Piece<Cell, Row, H>,
+    piece: &Piece<Cell, Row, H, S>,
 ) -> Result<Columns<H>, AllocError>
     ensures held { IfOk result (Hold (rows_of piece.now)) }
     ensures serve { IfOk result (Serve plan.now) }

@@ -24,6 +24,7 @@ mod parting;
 mod pool;
 mod pool_rows;
 mod pool_tries;
+mod ranked;
 mod report_row;
 mod rising;
 mod set_columns;

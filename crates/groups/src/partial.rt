@@ -15,7 +15,7 @@ use cells::{Cell, KeyHash, Row, Tuple};
 use query::Plan;
 use std::alloc::{AllocError, Global};
 use std::marker::Model;
-use trie::{Piece, Trie};
+use trie::{Beside, Piece, Trie};
 
 /// A partial result of a plan: for each of its grouping sets the groups of some rows, as a trie from their tuples to
 /// their accumulators. It stands for these rows in whatever order they came. It owns copies of the cells that it
@@ -51,10 +51,10 @@ impl<H: KeyHash<Cell> + KeyHash<Tuple>> Partial<H> {
 
     /// The partial result of the rows of the piece for which the plan's WHERE is true. The piece has at most 4,294,967,296
     /// rows.
-    pub fn of_piece(
+    pub fn of_piece<S: Beside<Cell, Row>>(
         alloc: Global,
         plan: &Plan,
-        piece: &Piece<Cell, Row, H>,
+        piece: &Piece<Cell, Row, H, S>,
     ) -> Result<Partial<H>, AllocError>
         requires { length piece.now ≤ cell_limit }
         ensures { IfOk result (λ p. Stands H.KeyHash-2.hash_of plan.now (kept plan.now.condition (rows_of piece.now)) p) }

@@ -7,6 +7,7 @@ ghost use Rattle.trie.specs.Entries.{IsRising};
 ghost use Rattle.trie.specs.Holding.{lent};
 
 use crate::accumulators::Accumulators;
+use crate::ranked::Ranked;
 use cells::{Cell, KeyHash, Tuple};
 use std::alloc::{AllocError, Global};
 use std::cmp::Ordering;
@@ -34,7 +35,7 @@ pub fn in_order<'a, H: KeyHash<Cell>>(
     ensures sorted { IfOk result (λ v. IsSorted tuple_cmp (keys_of (lent v.items))) }
 {
     let mut all = lent_groups(alloc, groups)?;
-    all.sort_by_key(|group| group.0)?;
+    all.sort_by_cached_key(|group| Ranked::of(group.0))?;
     Ok(all)
 }
 

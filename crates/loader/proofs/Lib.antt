@@ -1,3 +1,4 @@
+pub mod CrossingLemmas
 pub mod FieldsLemmas
 pub mod HeaderLemmas
 pub mod LatestLemmas

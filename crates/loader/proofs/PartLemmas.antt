@@ -86,10 +86,6 @@ read_behind hash_of t header later all (Ok shares) took is read = record {
 read_behind hash_of t header later all (Err number) took is read =
     ap (rows_behind_header t) took ∙ ap (λ b. if b then rows_from t 1 later else Err 0) is ∙ read
 
--- the first record is no header
-pub no_header : (t : Table) (first : List (List ℕ)) (later all : List (List (List ℕ))) → all ≡ first ∷ later → is_header t.columns first ≡ false → rows_behind_header t all ≡ Err 0
-no_header t first later all took no_other = ap (rows_behind_header t) took ∙ ap (λ b. if b then rows_from t 1 later else Err 0) no_other
-
 -- ---- how many records
 
 records_next_few : (f : State → List ℕ → List (List (List ℕ))) (most : ℕ) → ((s : State) (bytes : List ℕ) → length (f s bytes) ≤ most) → (o : Option Read) → length (records_next f o) ≤ most + 1

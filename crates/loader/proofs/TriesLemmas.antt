@@ -1,6 +1,7 @@
 -- The rows of shares as tries, put together.
 use Rattle.std.proofs.Common.{◌≡◌, Option, Some, None, ℕ, List, [], ◌∷◌, ◌++◌, refl, ap, ap₂, sym, ◌∙◌}
 use Rattle.std.proofs.lemmas.Grind.{flat_map-append}
+use Rattle.std.proofs.lemmas.List.{append-nil}
 use Rattle.std.proofs.lemmas.List.Folds.{flat_map-map}
 use Rattle.std.proofs.lemmas.List.Sums.{fold-append}
 use Rattle.std.specs.FinMap.{empty, get, insert, same_map}
@@ -63,3 +64,9 @@ module _ (stands : (later earlier : Rows) (key : Cell) → get (laid_over later 
   merged_over order value first second both is = same_map cell_cmp-total exact_cells _ _ (λ key.
       value both key ∙ is.values key ∙ later_first (value_at order first key) (value_at order second key)
       ∙ sym (ap₂ option_or (value second key) (value first key)) ∙ sym (stands (map_of cell_cmp second) (map_of cell_cmp first) key))
+
+-- what was begun of all, once none are left
+pub begun_all : {X Y A : Type 0} (f : Y → List A) (h : X → List A) (begun : List Y) (left given runs : List X) → left ≡ [] → flat_map f begun ++ flat_map h left ≡ flat_map h given → given ≡ runs →
+    flat_map f begun ≡ flat_map h runs
+begun_all f h begun left given runs none all is =
+    sym (append-nil (flat_map f begun)) ∙ ap (λ l. flat_map f begun ++ flat_map h l) (sym none) ∙ all ∙ ap (flat_map h) is

@@ -16,13 +16,13 @@ use crate::fault::PartFault;
 use crate::part::{Content, read_part};
 use crate::shares::Shares;
 use crate::tries::trie_of_shares;
-use cells::{Cell, KeyHash, Row, Schema};
+use cells::{Cell, KeyHash, Schema};
+use columns::RowTrie;
 use crew::{Gate, Task, share_out};
 use std::alloc::{AllocError, Global};
 use std::marker::PhantomData;
 use std::sync::Wait;
 use std::thread::Threads;
-use trie::Trie;
 
 /// Loads a list of parts: the rows of their records by their keys, as if all records were put one after another in
 /// listed order, so that of a key's rows the last one stands.
@@ -50,7 +50,7 @@ pub fn load<H: KeyHash<Cell> + Send + Sync, G: Gate, R: Threads + Wait>(
     schema: &Schema,
     workers: u64,
     gate: &G,
-) -> Result<Trie<Cell, Row, H>, PartFault>
+) -> Result<RowTrie<H>, PartFault>
     requires many { length parts.now ≤ piece_limit }
     requires bytes { sum_by part_len (map part_of parts.now) ≤ listed_limit }
     ensures loaded { Loads (rows_of_parts schema.now (map part_of parts.now)) result }

@@ -8,12 +8,13 @@ ghost use Rattle.loader.specs.declared.fault.PartFault.TheVariants.{NoWorker, Ou
 use crate::fault::PartFault;
 use crate::shares::{KeyedRows, SHARES, Share, Shares};
 use cells::{Cell, KeyHash, Row, later_puts_lie_over, updates_make_a_map};
+use columns::RowTrie;
 use crew::Gate;
 use std::alloc::{AllocError, Global};
 use std::snapshot::Snapshot;
 use std::sync::Wait;
-use std::thread::{self, Promise, PromisedHandle, Threads};
-use trie::{Later, Ticks, Trie, entries_are_a_map};
+use std::thread::{self, Promise, PromisedHandle, Scope, Threads};
+use trie::{Later, Ticks, entries_are_a_map};
 
 /// Shares of which one thread makes a trie.
 #[derive(Drop)]
@@ -38,7 +39,7 @@ pub(crate) fn trie_of_shares<H: KeyHash<Cell> + Send + Sync, G: Gate, R: Threads
     parts: usize,
     workers: u64,
     gate: &G,
-) -> Result<Trie<Cell, Row, H>, PartFault>
+) -> Result<RowTrie<H>, PartFault>
     ensures held { IfOk result (HoldsShares H.hash_of (in_shares shares.shares.items)) }
     ensures refused { IfErr result (λ e. (e ≡ NoWorker) ⊎ (e ≡ OutOfMemory)) }
 {
@@ -102,12 +103,12 @@ fn one_by_one<H: KeyHash<Cell>, G: Gate>(
     alloc: Global,
     runs: Vec<Run>,
     gate: &G,
-) -> Result<Trie<Cell, Row, H>, AllocError>
+) -> Result<RowTrie<H>, AllocError>
     ensures { IfOk result (HoldsAll (flat_map (λ run. all_in run.shares.items) runs.items)) }
 {
     entries_are_a_map::<Cell, Row, H>();
     later_puts_lie_over();
-    let mut all = Trie::empty();
+    let mut all = RowTrie::empty();
     for run in runs {
         let more = trie_of_run(alloc, run, gate)?;
         all = merged(alloc, all, more)?;
@@ -121,33 +122,63 @@ fn side_by_side<H: KeyHash<Cell> + Send + Sync, G: Gate, R: Threads + Wait>(
     alloc: Global,
     runs: Vec<Run>,
     gate: &G,
-) -> Result<Trie<Cell, Row, H>, PartFault>
+) -> Result<RowTrie<H>, PartFault>
     ensures held { IfOk result (HoldsAll (flat_map (λ run. all_in run.shares.items) runs.items)) }
     ensures refused { IfErr result (λ e. (e ≡ NoWorker) ⊎ (e ≡ OutOfMemory)) }
 {
     thread::scope(
         thread::scope_env(),
         rt,
-        move |scope| -> Result<Trie<Cell, Row, H>, PartFault>
+        move |scope| -> Result<RowTrie<H>, PartFault>
             ensures held { IfOk result (HoldsAll (flat_map (λ run. all_in run.shares.items) runs.items)) }
             ensures refused { IfErr result (λ e. (e ≡ NoWorker) ⊎ (e ≡ OutOfMemory)) }
         {
             let mut begun = Vec::with_capacity(alloc, runs.len())?;
             for run in runs {
-                let promise = RunTrie {
-                    shares: Snapshot::of(&run.shares),
-                };
-                let job = move || -> Result<Trie<Cell, Row, H>, AllocError>
-                    ensures { IfOk result (HoldsAll (all_in run.shares.items)) }
-                { trie_of_run(alloc, run, gate) };
-                let Ok(thread) = scope.spawn_with(promise, job) else {
-                    return Err(PartFault::NoWorker);
-                };
-                begun.push(thread)?;
+                begun.push(start_run(scope, alloc, run, gate)?)?;
             }
             Ok(joined(rt, alloc, begun)?)
         },
     )
+}
+
+/// Starts a thread in which the trie of a run is made.
+fn start_run<'s, 'e: 's, H: KeyHash<Cell> + Send + Sync + 's, G: Gate>(
+    scope: &Scope<'s, &'e ()>,
+    alloc: Global,
+    run: Run,
+    gate: &'s G,
+) -> Result<RunThread<H>, PartFault>
+    ensures started { IfOk result (λ thread. thread.promise.shares.value ≡ run.shares) }
+    ensures refused { IfErr result (λ e. e ≡ NoWorker) }
+{
+    let promise = RunTrie {
+        shares: Snapshot::of(&run.shares),
+    };
+    let job = move || -> Result<RowTrie<H>, AllocError>
+        ensures { IfOk result (HoldsAll (all_in run.shares.items)) }
+    { trie_of_run(alloc, run, gate) };
+    in_thread(scope, promise, job)
+}
+
+/// Starts a thread for a job that keeps the promise. It stands over any job, so that letting go of what a job owns is one
+/// call.
+fn in_thread<
+    's,
+    'e: 's,
+    T: Send + Drop + 's,
+    P: Promise<T> + Drop,
+    F: FnOnce() -> T + Send + Drop + 's,
+>(scope: &Scope<'s, &'e ()>, promise: P, job: F) -> Result<PromisedHandle<T, P>, PartFault>
+    requires runs { F.pre job }
+    requires keeps { (made : T) → F.post job made → P.kept_by promise made }
+    ensures started { IfOk result (λ handle. handle.promise ≡ promise) }
+    ensures refused { IfErr result (λ e. e ≡ NoWorker) }
+{
+    match scope.spawn_with(promise, job) {
+        Ok(handle) => Ok(handle),
+        Err(_) => Err(PartFault::NoWorker),
+    }
 }
 
 /// What the thread of a run hands back: the trie of its rows.
@@ -156,7 +187,7 @@ struct RunTrie {
     shares: Snapshot<Vec<Share>>,
 }
 
-impl<H: KeyHash<Cell>> Promise<Result<Trie<Cell, Row, H>, AllocError>> for RunTrie {
+impl<H: KeyHash<Cell>> Promise<Result<RowTrie<H>, AllocError>> for RunTrie {
     ghost use Rattle.std.specs.Prelude.{IfOk};
     ghost use Rattle.loader.specs.Shares.{all_in};
     ghost use Rattle.loader.specs.Tries.{HoldsAll};
@@ -165,19 +196,19 @@ impl<H: KeyHash<Cell>> Promise<Result<Trie<Cell, Row, H>, AllocError>> for RunTr
 }
 
 /// The thread in which the trie of a run is made.
-type RunThread<H> = PromisedHandle<Result<Trie<Cell, Row, H>, AllocError>, RunTrie>;
+type RunThread<H> = PromisedHandle<Result<RowTrie<H>, AllocError>, RunTrie>;
 
 /// The trie of the rows of all runs, once their threads have made theirs.
 fn joined<H: KeyHash<Cell>, R: Threads>(
     rt: &R,
     alloc: Global,
     begun: Vec<RunThread<H>>,
-) -> Result<Trie<Cell, Row, H>, AllocError>
+) -> Result<RowTrie<H>, AllocError>
     ensures { IfOk result (HoldsAll (flat_map (λ thread. all_in thread.promise.shares.value.items) begun.items)) }
 {
     entries_are_a_map::<Cell, Row, H>();
     later_puts_lie_over();
-    let mut all = Trie::empty();
+    let mut all = RowTrie::empty();
     for thread in begun {
         let more = thread.join(rt)?;
         all = merged(alloc, all, more)?;
@@ -190,7 +221,7 @@ fn trie_of_run<H: KeyHash<Cell>, G: Gate>(
     alloc: Global,
     run: Run,
     gate: &G,
-) -> Result<Trie<Cell, Row, H>, AllocError>
+) -> Result<RowTrie<H>, AllocError>
     ensures { IfOk result (HoldsAll (all_in run.shares.items)) }
 {
     if let Some(place) = run.place {
@@ -198,7 +229,7 @@ fn trie_of_run<H: KeyHash<Cell>, G: Gate>(
     }
     entries_are_a_map::<Cell, Row, H>();
     later_puts_lie_over();
-    let mut all = Trie::empty();
+    let mut all = RowTrie::empty();
     for share in run.shares {
         let more = trie_of(alloc, rows_of(alloc, share)?)?;
         all = merged(alloc, all, more)?;
@@ -218,22 +249,19 @@ fn rows_of(alloc: Global, share: Share) -> Result<KeyedRows, AllocError>
 }
 
 /// The trie of rows, each beside its key, as if they were put one after another.
-fn trie_of<H: KeyHash<Cell>>(
-    alloc: Global,
-    rows: KeyedRows,
-) -> Result<Trie<Cell, Row, H>, AllocError>
+fn trie_of<H: KeyHash<Cell>>(alloc: Global, rows: KeyedRows) -> Result<RowTrie<H>, AllocError>
     ensures { IfOk result (HoldsAll rows.items) }
 {
     entries_are_a_map::<Cell, Row, H>();
-    Trie::from_pairs(alloc, rows)
+    RowTrie::from_pairs(alloc, rows)
 }
 
 /// The rows of two tries, where those of the second lie over those of the first.
 fn merged<H: KeyHash<Cell>>(
     alloc: Global,
-    first: Trie<Cell, Row, H>,
-    second: Trie<Cell, Row, H>,
-) -> Result<Trie<Cell, Row, H>, AllocError>
+    first: RowTrie<H>,
+    second: RowTrie<H>,
+) -> Result<RowTrie<H>, AllocError>
     ensures { IfOk result (IsLaidOver first second) }
 {
     entries_are_a_map::<Cell, Row, H>();

@@ -33,17 +33,6 @@ one_line (x ∷ xs) h = no_cut (x == 10) x xs (position_or_len (λ b. b == 10) x
 pub no_end : (bs : List ℕ) → position (λ b. b == 10) bs ≡ None → between_ends bs ≡ bs ∷ []
 no_end bs e = one_line bs (no_place _ _ e)
 
--- one line more was taken
-pub more_lines : (whole parts later : List (List ℕ)) (lines : List (Bor (List ℕ))) (line : Bor (List ℕ)) → whole ≡ map (λ l. l.now) lines ++ parts → parts ≡ line.now ∷ later
-    → whole ≡ map (λ l. l.now) (lines ++ line ∷ []) ++ later
-more_lines whole parts later lines line before first =
-    before ∙ ap (λ (more : List (List ℕ)). map (λ l. l.now) lines ++ more) first
-    ∙ sym (append_assoc (map (λ l. l.now) lines) (line.now ∷ []) later)
-    ∙ ap (λ (front : List (List ℕ)). front ++ later) (sym (map-append (λ (l : Bor (List ℕ)). l.now) lines (line ∷ [])))
-
-pub all_lines : (whole : List (List ℕ)) (lines : List (Bor (List ℕ))) → whole ≡ map (λ l. l.now) lines ++ [] → map (λ l. l.now) lines ≡ whole
-all_lines whole lines e = sym (e ∙ append-nil _)
-
 -- ---- the line of a number
 
 past : (lines : List (Bor (List ℕ))) (place : ℕ) → length lines ≤ place → [] ≡ line_at (map (λ l. l.now) lines) place

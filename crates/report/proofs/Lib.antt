@@ -1,3 +1,4 @@
+pub mod StartedLemmas
 pub mod CrossingLemmas
 pub mod PiecesLemmas
 pub mod WaitingLemmas

@@ -1,20 +1,18 @@
--- The rows of the pieces of a trie, and of its columns, are those of its map.
+-- The rows of the pieces of a trie are those of its map.
 use Rattle.std.proofs.Common.{◌≡◌, ◌≤◌, ℕ, List, [], ◌∷◌, ◌++◌, length, refl, sym, ap, ◌∙◌, arith}
 use Rattle.std.specs.FinMap.{entries, len, values}
 use Rattle.std.specs.List.{AllByRecursion, flat_map}
 use Rattle.std.specs.List.Sorted.{IsPermutation}
 use Rattle.std.proofs.lemmas.List.{length-append, length-map, map-append}
 use Rattle.std.proofs.lemmas.List.Sorted.{IsPermutation-map, IsPermutation-sym, IsPermutation-trans, length_permutation}
-use Rattle.board.specs.Beside.{AreColumnsOf, IsListOf}
+use Rattle.board.specs.Editions.{IsListOf}
 use Rattle.cells.specs.CellOrder.{cell_cmp}
 use Rattle.cells.specs.Laws.{len_left}
 use Rattle.cells.specs.Tables.{Rows, keyed_rows, table}
 use Rattle.cells.specs.Updates.{AreLeft}
 use Rattle.cells.specs.Values.{RowValue}
 use Rattle.cells.specs.declared.cell.Cell.{Cell}
-use Rattle.columns.specs.Columns.{ColumnsValue}
 use Rattle.crew.specs.Gathering.{PieceValue, rows_in}
-use Rattle.crew.specs.Laying.{HoldAll}
 use Rattle.groups.specs.Partials.{rows_of}
 use Rattle.trie.specs.Cuts.{IsPart}
 use Rattle.trie.specs.Maps.{map_of}
@@ -70,14 +68,3 @@ are_pieces moves rows es is es_once hash pieces parts joined =
       };
       few = few_pieces hash es pieces parts;
     }
-
--- columns of these rows, in some order, are those of the edition
-pub hold_edition : (rows : Rows) (list : List RowValue) (columns : ColumnsValue) → IsListOf rows list → HoldAll list columns → AreColumnsOf rows columns
-hold_edition rows list columns all holds = record {
-  list = holds.rows;
-  all = record {
-    order = IsPermutation-trans holds.rows list (values rows) holds.order all.order;
-    count = sym (length_permutation holds.rows list holds.order) ∙ all.count;
-  };
-  held = holds.held;
-}

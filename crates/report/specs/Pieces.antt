@@ -1,7 +1,7 @@
 -- The rows that pieces of a table hold.
 use Rattle.std.specs.Prelude.{◌≡◌, ◌≤◌, ℕ, List, length}
 use Rattle.std.specs.Map.{keys_of}
-use Rattle.board.specs.Beside.{IsListOf}
+use Rattle.board.specs.Editions.{IsListOf}
 use Rattle.cells.specs.CellOrder.{cell_cmp}
 use Rattle.cells.specs.Tables.{Rows}
 use Rattle.cells.specs.Values.{RowValue}

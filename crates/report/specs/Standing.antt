@@ -1,6 +1,6 @@
 -- The rows of a report over those of an edition.
 use Rattle.std.specs.Prelude.{◌≡◌, List}
-use Rattle.board.specs.Beside.{IsListOf}
+use Rattle.board.specs.Editions.{IsListOf}
 use Rattle.cells.specs.Tables.{Rows}
 use Rattle.cells.specs.Values.{RowValue}
 use Rattle.cells.specs.declared.total.Total.{Total}

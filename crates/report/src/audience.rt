@@ -1,5 +1,6 @@
 //! The threads of viewers.
-ghost use Rattle.std.specs.Prelude.{◌≡◌, ◌+◌, ◌<◌, ◌≤◌, ◌^◌, [], IfOk, IfSome, IsNone, OnErr, OnOk};
+ghost use Rattle.std.specs.Prelude.{◌≡◌, ◌∷◌, ◌++◌, ◌+◌, ◌<◌, ◌≤◌, ◌^◌, [], IfOk, IfSome, IsNone, OnErr, OnOk};
+ghost use Rattle.report.specs.Audiences.{watch_of};
 ghost use Rattle.report.specs.Watching.{ComesBack, HasWatched, unwatched, with_watch, without_watch};
 
 use crate::starting::{Starter, in_thread};
@@ -9,7 +10,7 @@ use board::{Viewer, viewers_cross_threads};
 use cells::{Cell, KeyHash, Tuple};
 use crew::Gate;
 use query::Plan;
-use std::alloc::Global;
+use std::alloc::{AllocError, Global};
 use std::collections::VecDeque;
 use std::marker::Model;
 use std::snapshot;
@@ -113,7 +114,16 @@ impl<H: KeyHash<Cell>> Audience<H> {
         };
         self.begun = number;
         let handle = start(starter, viewer, plan, number, count)?;
-        self.started.push_back(Started { handle })?;
+        self.push(Started { handle })?;
+        Ok(())
+    }
+
+    /// Puts a viewer whose thread was started behind the others.
+    fn push(&mut self, started: Started<H>) -> Result<(), AllocError>
+        ensures pushed { OnOk result (self.new ≡ record { begun = self.old.begun; watches = self.old.watches ++ watch_of started ∷ [] }) }
+        ensures kept { OnErr result (self.new ≡ self.old) }
+    {
+        self.started.push_back(started)?;
         Ok(())
     }
 

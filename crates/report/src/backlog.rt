@@ -207,6 +207,15 @@ impl<H: KeyHash<Cell>> Backlog<H> {
         ensures { OnOk result (self.new ≡ with_report self.old snapshot plan) }
     {
         let answer = starter.start(line, snapshot, plan)?;
+        self.push_started(answer)?;
+        Ok(())
+    }
+
+    /// Puts a report whose thread was started behind all the rest.
+    fn push_started(&mut self, answer: Started<H>) -> Result<(), AllocError>
+        requires { length self.old.reports < under_way_limit }
+        ensures { OnOk result (self.new ≡ with_report self.old answer.handle.promise.edition.value answer.handle.promise.plan.value) }
+    {
         let before = mem::replace(&mut self.after, Vec::new(self.alloc));
         self.reports.push_back(Pending { before, answer })?;
         Ok(())

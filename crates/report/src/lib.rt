@@ -22,7 +22,7 @@ pub use answering::{Answering, answer};
 pub use audience::Audience;
 pub use backlog::Backlog;
 pub use failing::Failing;
-pub use limits::{COLUMNS_FROM, MAX_REPORTS, MAX_WORKERS};
+pub use limits::{MAX_REPORTS, MAX_WORKERS};
 pub use out::{Out, OutFault, write_whole};
 pub use pour::Pour;
 pub use printing::text;

@@ -4,15 +4,44 @@ ghost use Rattle.report.specs.Pieces.{AreCut, ArePiecesOf};
 
 use board::Root;
 use cells::{Cell, KeyHash, Row};
+use columns::RowPiece;
 use std::alloc::{AllocError, Global};
-use trie::{Cutting, Piece, a_map_has_its_entries, entries_are_a_map, pieces_are_parts};
+use trie::{
+    Cutting, LEAST_SUMMED, MAX_DEPTH, MOST_SUMMED, a_map_has_its_entries, entries_are_a_map,
+    pieces_are_parts,
+};
+
+/// From so many rows on columns stay beside the pieces of a table. With fewer they cost less than what keeps them.
+const KEPT_FROM: u64 = 4_096;
+
+/// So many parts make the least piece that is cut. Its 32 parts then have a place for columns each, with hardly an exception,
+/// since hashes spread evenly.
+const LEAST_PARTS: u64 = 40;
+
+/// A put makes the columns of one piece anew, so that pieces should not have much more than this part of the rows.
+const SHARE: u64 = 16;
+
+/// The cutting of so many rows, where this one is asked for: it, or from [`KEPT_FROM`] rows on one whose pieces have places
+/// for their columns and are few.
+pub(crate) fn cutting_of(rows: u64, asked: Cutting) -> Cutting {
+    if rows < KEPT_FROM {
+        return asked;
+    }
+    let small = (rows / SHARE)
+        .max(LEAST_PARTS * LEAST_SUMMED)
+        .min(MOST_SUMMED);
+    Cutting {
+        depth: MAX_DEPTH,
+        small,
+    }
+}
 
 /// The pieces that the cutting makes of the rows.
 pub(crate) fn pieces_of<H: KeyHash<Cell>>(
     alloc: Global,
     root: &Root<H>,
     cutting: &Cutting,
-) -> Result<Vec<Piece<Cell, Row, H>>, AllocError>
+) -> Result<Vec<RowPiece<H>>, AllocError>
     ensures rows { IfOk result (λ pieces. ArePiecesOf root.now pieces.items) }
     ensures cut { IfOk result (λ pieces. AreCut H.hash_of cutting.now root.now pieces.items) }
 {

@@ -113,7 +113,7 @@ impl<'a, 's, 'e: 's, R: Threads + Wait + Sync, G: Gate> Starter<'a, 's, 'e, R, G
     }
 }
 
-impl<'a, R: Threads + Wait, G: Gate> Answering<'a, R, G> {
+impl<'a, R: Threads + Wait + Sync, G: Gate> Answering<'a, R, G> {
     /// The text of the report of a line. Then, once what it was asked of is let go, the flag is set.
     fn answered<H: KeyHash<Cell> + KeyHash<Tuple> + Send + Sync>(
         &self,

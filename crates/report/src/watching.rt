@@ -56,7 +56,7 @@ impl<H: KeyHash<Cell>> Model for Watcher<H> {
     ghost invariant = { λ w. AreShots w.viewer.history w.plan 0 w.shots.items };
 }
 
-impl<'a, R: Threads + Wait, G: Gate> Answering<'a, R, G> {
+impl<'a, R: Threads + Wait + Sync, G: Gate> Answering<'a, R, G> {
     /// The report of the plan on the snapshot.
     fn shot<H: KeyHash<Cell> + KeyHash<Tuple> + Send + Sync>(
         &self,
@@ -89,7 +89,7 @@ impl<H: KeyHash<Cell>> Watcher<H> {
 
 impl<H: KeyHash<Cell> + KeyHash<Tuple> + Send + Sync> Watcher<H> {
     /// The viewer once it has made so many reports more, each on a snapshot that is taken then.
-    pub(crate) fn watched<R: Threads + Wait, G: Gate>(
+    pub(crate) fn watched<R: Threads + Wait + Sync, G: Gate>(
         self,
         answering: &Answering<'_, R, G>,
         number: u64,
@@ -103,7 +103,7 @@ impl<H: KeyHash<Cell> + KeyHash<Tuple> + Send + Sync> Watcher<H> {
     }
 
     /// Makes so many reports more.
-    fn watch<R: Threads + Wait, G: Gate>(
+    fn watch<R: Threads + Wait + Sync, G: Gate>(
         &mut self,
         answering: &Answering<'_, R, G>,
         number: u64,
@@ -118,7 +118,7 @@ impl<H: KeyHash<Cell> + KeyHash<Tuple> + Send + Sync> Watcher<H> {
     }
 
     /// Makes one report more.
-    fn watch_once<R: Threads + Wait, G: Gate>(
+    fn watch_once<R: Threads + Wait + Sync, G: Gate>(
         &mut self,
         answering: &Answering<'_, R, G>,
         number: u64,
@@ -135,7 +135,7 @@ impl<H: KeyHash<Cell> + KeyHash<Tuple> + Send + Sync> Watcher<H> {
     /// last one, and in place of a report on a higher one stands the last report.
     ///
     /// [`Want::Worker`] where a thread can't be started, [`Want::Memory`] where a growth was refused.
-    pub fn finish<R: Threads + Wait, G: Gate>(
+    pub fn finish<R: Threads + Wait + Sync, G: Gate>(
         self,
         answering: &Answering<'_, R, G>,
         keeper: &mut Keeper<H>,
@@ -157,7 +157,7 @@ impl<H: KeyHash<Cell> + KeyHash<Tuple> + Send + Sync> Watcher<H> {
 }
 
 /// The report on the last edition of the keeper, once the viewer has learnt what the keeper tells.
-fn last_look<H: KeyHash<Cell> + KeyHash<Tuple> + Send + Sync, R: Threads + Wait, G: Gate>(
+fn last_look<H: KeyHash<Cell> + KeyHash<Tuple> + Send + Sync, R: Threads + Wait + Sync, G: Gate>(
     answering: &Answering<'_, R, G>,
     viewer: &mut Viewer<H>,
     plan: &Plan,
@@ -173,7 +173,7 @@ fn last_look<H: KeyHash<Cell> + KeyHash<Tuple> + Send + Sync, R: Threads + Wait,
 }
 
 /// A report on a snapshot that the viewer takes now. The gate is told of the snapshot before it is answered.
-fn look<H: KeyHash<Cell> + KeyHash<Tuple> + Send + Sync, R: Threads + Wait, G: Gate>(
+fn look<H: KeyHash<Cell> + KeyHash<Tuple> + Send + Sync, R: Threads + Wait + Sync, G: Gate>(
     answering: &Answering<'_, R, G>,
     viewer: &mut Viewer<H>,
     plan: &Plan,

@@ -1,3 +1,4 @@
+pub mod LoadsLemmas
 pub mod BlocksLemmas
 pub mod CommandsLemmas
 pub mod EndingsLemmas

@@ -14,9 +14,6 @@ use Rattle.script.specs.Stops.{IsQuiet, IsRefusal}
 use Rattle.script.specs.declared.fault.Fault.{Fault}
 use Rattle.script.specs.declared.fault.Fault.TheVariants.{Line}
 
-pub refusal_tells : (number : ℕ) (fault : Fault) → IsRefusal number (refusal number fault)
-refusal_tells number fault = record { fault = fault; is = refl }
-
 unlike : (m n a b : ℕ) → m ≡ n → m ≡ a → n ≡ b → a < b → ⊥
 unlike m n a b same is_a is_b less = omega arith
 

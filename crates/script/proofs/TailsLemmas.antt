@@ -250,10 +250,6 @@ expected_nobody (Some other) viewing desk stage watches same is attend = go atte
   go (turned says) is = absurd cc
   go (begun many all) is = absurd cc
 
-pub if_err_of : {T : Type 0} (r : Result T Ended) (e : Ended) (P : Type 0) → IfErr r (λ _. P) → IsErrOf r e → P
-if_err_of (Ok x) e P p late = absurd cc
-if_err_of (Err f) e P p late = p
-
 pub may_want : (givens : Givens) (asked : Option Viewing) (script : Lines) → AsksForWorkers givens script → MayWant givens asked script
 may_want givens None script asks = asks
 may_want givens (Some viewing) script asks = tt

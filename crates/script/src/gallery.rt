@@ -135,7 +135,7 @@ impl<H: KeyHash<Cell> + KeyHash<Tuple> + Send + Sync> Gallery<H> {
     }
 
     /// Writes what comes behind the blocks of all lines: nothing, where a run asks for no viewers; else the live tail.
-    pub fn write_tail<O: Out, G: Gate, R: Threads + Wait>(
+    pub fn write_tail<O: Out, G: Gate, R: Threads + Wait + Sync>(
         &mut self,
         setup: &Setup<'_, R, G>,
         desk: &mut Option<Keeper<H>>,
@@ -161,7 +161,7 @@ impl<H: KeyHash<Cell> + KeyHash<Tuple> + Send + Sync> Gallery<H> {
     }
 
     /// Waits for the viewers, one after another, and writes the blocks of each.
-    fn write_viewers<O: Out, G: Gate, R: Threads + Wait>(
+    fn write_viewers<O: Out, G: Gate, R: Threads + Wait + Sync>(
         &mut self,
         setup: &Setup<'_, R, G>,
         viewing: Viewing<&str>,
@@ -229,7 +229,7 @@ fn write_viewer<
     H: KeyHash<Cell> + KeyHash<Tuple> + Send + Sync,
     O: Out,
     G: Gate,
-    R: Threads + Wait,
+    R: Threads + Wait + Sync,
 >(
     answering: &Answering<'_, R, G>,
     viewing: Viewing<&str>,

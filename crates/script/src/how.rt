@@ -5,18 +5,15 @@ ghost use Rattle.script.specs.Limits.{IsWithin};
 ghost use Rattle.script.specs.Limits as limits;
 
 use crate::limits::{DEPTH, ROWS, SMALL, WORKERS};
-use report::COLUMNS_FROM;
 use std::marker::Model;
 use trie::Cutting;
 
-/// How a run is made, with every number in its range. From how many rows on an edition has columns is no part of what
-/// contracts see of it, since no output depends on that.
+/// How a run is made, with every number in its range.
 #[derive(Debug, Drop)]
 pub struct How {
     workers: u64,
     cutting: Cutting,
     rows: u64,
-    columns_from: u64,
 }
 
 impl Model for How {
@@ -72,19 +69,7 @@ impl How {
             workers,
             cutting,
             rows,
-            columns_from: COLUMNS_FROM,
         }
-    }
-
-    /// The same run, where an edition has columns from so many rows on, any number, as of
-    /// [`Answering`](report::Answering): with 0 each has them, and with the greatest number none. Where nothing is said it is
-    /// [`COLUMNS_FROM`]. It takes no memory.
-    pub fn with_columns_from(self, rows: u64) -> How
-        ensures { result ≡ self }
-    {
-        let mut how = self;
-        how.columns_from = rows;
-        how
     }
 
     /// How many workers load parts and answer a report, 1 to 64, each in a thread of its own; where a load lists fewer
@@ -101,12 +86,6 @@ impl How {
         ensures { result ≡ self.now.cutting }
     {
         self.cutting
-    }
-
-    /// From how many rows on an edition has columns. No clause tells the number, on which no output depends. It takes no
-    /// memory.
-    pub fn columns_from(&self) -> u64 {
-        self.columns_from
     }
 
     /// The most rows of the draft. It takes no memory.

@@ -17,14 +17,14 @@ use crate::fault::Fault;
 use crate::listing::{Listed, read_listing};
 use crate::setup::Setup;
 use board::Keeper;
-use cells::{Cell, KeyHash, Row};
+use cells::{Cell, KeyHash};
+use columns::RowTrie;
 use crew::Gate;
 use loader::{PartFault, load};
 use report::Want;
 use std::alloc::AllocError;
 use std::sync::Wait;
 use std::thread::Threads;
-use trie::Trie;
 
 /// Puts the rows of the parts that the text lists, in listed order, and gives the line's block: nothing, or the
 /// refusal of the listing, of the first listed part that has a faulty record, or of a draft that would have too many
@@ -95,7 +95,7 @@ fn want_of(fault: PartFault) -> Want
 fn lay_over<H: KeyHash<Cell>, G: Gate, R>(
     setup: &Setup<'_, R, G>,
     keeper: &mut Keeper<H>,
-    rows: Trie<Cell, Row, H>,
+    rows: RowTrie<H>,
     number: u64,
 ) -> Result<Vec<u8>, AllocError>
     requires { AreRowsOf (editions.schema keeper.old) (map_of cell_cmp rows) }

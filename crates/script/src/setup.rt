@@ -28,7 +28,6 @@ impl<'a, R, G: Gate> Setup<'a, R, G> {
             alloc: self.alloc,
             workers: self.how.workers(),
             cutting: self.how.cutting(),
-            columns_from: self.how.columns_from(),
             gate: self.gate,
         }
     }

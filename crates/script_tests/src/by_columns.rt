@@ -1,4 +1,4 @@
-//! Runs in which each edition has columns once it is asked again, and runs in which none has.
+//! Reports by the columns of pieces, however these are cut.
 
 use crate::runs::CUTTING;
 use cells::Fnv;
@@ -11,11 +11,10 @@ use std::sync::atomic::AtomicU64;
 use std::sync::atomic::Ordering::SeqCst;
 use std::test::Fail;
 use std::thread::Threads;
+use trie::Cutting;
 
-/// Each edition has columns, and none has.
-const ALWAYS: u64 = 0;
-
-const NEVER: u64 = u64::MAX;
+/// All rows are one piece.
+const WHOLE: Cutting = Cutting { depth: 0, small: 0 };
 
 /// Worked rows of reports over two editions, each asked again.
 const LINES: &[u8] = b"table SALES (ID INT KEY, REGION TEXT, ITEM TEXT, UNITS INT)
@@ -55,33 +54,39 @@ impl Gate for Pieces {
     }
 }
 
-/// What the lines write where editions have columns from so many rows on, and how many pieces were folded or laid out.
+/// What the lines write where rows are cut so, and how many pieces were laid out.
 fn written<R: Threads + Wait + Sync>(
     rt: &R,
     alloc: Global,
     lines: &[u8],
-    columns_from: u64,
+    how: &How,
 ) -> Result<(Vec<u8>, u64), Ended> {
     let parts = [Vec::from_slice(alloc, PART)?];
-    let how = How::of(2, CUTTING, 10).with_columns_from(columns_from);
     let gate = Pieces {
         entered: AtomicU64::new(0),
     };
     let mut out = Pour::new(Vec::new(alloc));
-    run::<Fnv, _, _, _>(rt, alloc, lines, &parts, &how, &gate, &mut out)?;
+    run::<Fnv, _, _, _>(rt, alloc, lines, &parts, how, &gate, &mut out)?;
     Ok((out.into_inner(), gate.entered.load(SeqCst)))
 }
 
-/// Also with each allocation failing in turn: where there is no memory for columns, rows are folded.
+/// Also with each allocation failing in turn.
 #[test]
 fn reports_are_the_same_by_columns(rt: HostRuntime) -> Result<(), Fail> {
-    let (by_rows, _) = written(&rt, rt.alloc(), LINES, NEVER)?;
-    let (by_columns, _) = written(&rt, rt.alloc(), LINES, ALWAYS)?;
-    assert_eq!(rt; by_columns.as_slice(), by_rows.as_slice());
+    let (by_one, _) = written(&rt, rt.alloc(), LINES, &How::of(1, WHOLE, 10))?;
+    let (by_two, _) = written(&rt, rt.alloc(), LINES, &How::of(2, CUTTING, 10))?;
+    assert_eq!(rt; by_two.as_slice(), by_one.as_slice());
     Ok(())
 }
 
-/// One table of four rows in as many pieces as it may have, and five reports on one edition.
+/// One table of four rows in as many pieces as it may have, and a report on it.
+const ONCE: &[u8] = b"table SALES (ID INT KEY, REGION TEXT, ITEM TEXT, UNITS INT)
+load 1
+publish
+report SELECT REGION, COUNT(*) FROM SALES GROUP BY REGION
+";
+
+/// Five reports on one edition.
 const AGAIN: &[u8] = b"table SALES (ID INT KEY, REGION TEXT, ITEM TEXT, UNITS INT)
 load 1
 publish
@@ -92,13 +97,13 @@ report SELECT MIN(REGION), MAX(UNITS) FROM SALES
 report SELECT COUNT(*) FROM SALES
 ";
 
-/// Of five reports on one edition that has columns, the first folds the pieces, the second lays them out, and no other reads
-/// them.
+/// The gate is told of each piece by each report.
 #[test]
-fn two_reports_of_an_edition_read_its_pieces(rt: HostRuntime) -> Result<(), Fail> {
-    let (_, five_times) = written(&rt, rt.alloc(), AGAIN, NEVER)?;
-    let (_, twice) = written(&rt, rt.alloc(), AGAIN, ALWAYS)?;
-    assert!(rt; twice > 0);
-    assert_eq!(rt; twice.checked_mul(5), five_times.checked_mul(2));
+fn each_report_of_an_edition_reads_its_pieces(rt: HostRuntime) -> Result<(), Fail> {
+    let how = How::of(2, CUTTING, 10);
+    let (_, once) = written(&rt, rt.alloc(), ONCE, &how)?;
+    let (_, five_times) = written(&rt, rt.alloc(), AGAIN, &how)?;
+    assert!(rt; once > 1);
+    assert_eq!(rt; once.checked_mul(5), Some(five_times));
     Ok(())
 }

@@ -1,5 +1,5 @@
-//! Runs over 5,000 rows, an edition of which has columns once it is asked again: how many pieces are read, for the reports of
-//! a run and for two viewers.
+//! Runs over 24,000 rows, which are cut into pieces that keep their columns: how many columns are laid out, for the reports of a
+//! run and for viewers.
 
 use crate::beside::reaches;
 use cells::Plain;
@@ -13,24 +13,29 @@ use std::sync::atomic::Ordering::SeqCst;
 use std::test::Fail;
 use std::thread::Threads;
 
-/// A part of 5,000 rows.
+/// A part of 24,000 rows.
 fn part(alloc: Global) -> Result<Vec<u8>, AllocError> {
-    let mut text = String::from_str(alloc, "K,V\n")?;
-    for key in 0..5_000u64 {
+    let mut text = String::from_str(alloc, "K,V,W\n")?;
+    for key in 0..24_000u64 {
         let value = key % 7;
-        write!(text, "{key},{value}\n")?;
+        write!(text, "{key},{value},{key}\n")?;
     }
     Ok(text.into_bytes())
 }
 
+/// A part of one row, of the piece of the last digit 5.
+const ONE: &[u8] = b"K,V,W\n5,8,9\n";
+
 /// How many pieces those rows have, where a key is its own hash: one for each last digit.
 const PIECES: u64 = 32;
 
-/// Counts the pieces that are read. A viewer of the edition without rows stays until the first is published.
+/// Counts the pieces that are read, and the columns of pieces that are laid out. A viewer of the edition without rows stays
+/// until the first is published.
 #[derive(Drop)]
 struct Read {
     published: AtomicU64,
     pieces: AtomicU64,
+    columns: AtomicU64,
     late: AtomicU64,
 }
 
@@ -39,6 +44,7 @@ impl Read {
         Read {
             published: AtomicU64::new(0),
             pieces: AtomicU64::new(0),
+            columns: AtomicU64::new(0),
             late: AtomicU64::new(0),
         }
     }
@@ -47,6 +53,10 @@ impl Read {
 impl Gate for Read {
     fn entered(&self, _piece: u64) {
         self.pieces.fetch_add(1, SeqCst);
+    }
+
+    fn laid_out(&self, _piece: u64, columns: u64) {
+        self.columns.fetch_add(columns, SeqCst);
     }
 
     fn published(&self, edition: u64) {
@@ -60,38 +70,72 @@ impl Gate for Read {
     }
 }
 
-const THREE_REPORTS: &[u8] = b"table T (K INT KEY, V INT)
+/// How many pieces were read, and how many columns of pieces were laid out.
+type Counts = (u64, u64);
+
+/// What the reports of a run read and laid out.
+fn read_by<R: Threads + Wait + Sync>(rt: &R, alloc: Global, lines: &[u8]) -> Result<Counts, Ended> {
+    let parts = [part(alloc)?, Vec::from_slice(alloc, ONE)?];
+    let how = How::default();
+    let gate = Read::nothing();
+    let mut out = Pour::new(Vec::new(alloc));
+    run::<Plain, _, _, _>(rt, alloc, lines, &parts, &how, &gate, &mut out)?;
+    Ok((gate.pieces.load(SeqCst), gate.columns.load(SeqCst)))
+}
+
+/// Three reports over two columns.
+const THREE_REPORTS: &[u8] = b"table T (K INT KEY, V INT, W INT)
 load 1
 publish
 report SELECT V, COUNT(*) FROM T GROUP BY V
 report SELECT V, COUNT(*) FROM T GROUP BY V
-report SELECT MIN(V), MAX(V) FROM T
+report SELECT MIN(V), MAX(W) FROM T
 ";
 
-/// How many pieces the three reports read.
-fn read_by<R: Threads + Wait + Sync>(rt: &R, alloc: Global, how: &How) -> Result<u64, Ended> {
-    let parts = [part(alloc)?];
-    let gate = Read::nothing();
-    let mut out = Pour::new(Vec::new(alloc));
-    run::<Plain, _, _, _>(rt, alloc, THREE_REPORTS, &parts, how, &gate, &mut out)?;
-    Ok(gate.pieces.load(SeqCst))
-}
-
-/// Of three reports the last reads no pieces.
+/// Each report reads each piece, and a column of a piece is laid out once.
 #[test]
-fn a_run_of_which_nothing_is_said_has_columns(rt: HostRuntime) -> Result<(), Fail> {
-    assert!(rt; read_by(&rt, rt.alloc(), &How::default())? <= 2 * PIECES);
-    let never = How::default().with_columns_from(u64::MAX);
-    assert_eq!(rt; read_by(&rt, rt.alloc(), &never)?, 3 * PIECES);
+fn columns_are_laid_out_once(rt: HostRuntime) -> Result<(), Fail> {
+    let counts = read_by(&rt, rt.alloc(), THREE_REPORTS)?;
+    assert_eq!(rt; counts, (3 * PIECES, 2 * PIECES));
     Ok(())
 }
 
-const PUBLISHED: &[u8] = b"table T (K INT KEY, V INT)\nload 1\npublish\n";
+/// Editions after a put, a removal and a load, each with a report over two columns.
+const FOUR_EDITIONS: &[u8] = b"table T (K INT KEY, V INT, W INT)
+load 1
+publish
+report SELECT V, SUM(W) FROM T GROUP BY V
+put 3,1,1
+publish
+report SELECT V, SUM(W) FROM T GROUP BY V
+delete 4
+publish
+report SELECT V, SUM(W) FROM T GROUP BY V
+load 2
+publish
+report SELECT V, SUM(W) FROM T GROUP BY V
+";
+
+/// After each change the columns of one piece alone are laid out.
+#[test]
+fn a_change_lays_out_one_piece_anew(rt: HostRuntime) -> Result<(), Fail> {
+    let counts = read_by(&rt, rt.alloc(), FOUR_EDITIONS)?;
+    assert_eq!(rt; counts, (4 * PIECES, 2 * PIECES + 2 * 3));
+    Ok(())
+}
+
+const PUBLISHED: &[u8] = b"table T (K INT KEY, V INT, W INT)
+load 1
+publish
+report SELECT V, COUNT(*) FROM T GROUP BY V
+report SELECT MAX(V) FROM T
+";
 
 const QUERY: &str = "SELECT V, COUNT(*) FROM T GROUP BY V";
 
-/// How many pieces are read for two viewers who are asked five times and once more, and how often one waited in vain.
-fn read_for_two<R: Threads + Wait + Sync>(rt: &R, alloc: Global) -> Result<(u64, u64), Ended> {
+/// How many columns of pieces are laid out for two reports and two viewers who are asked five times and once more, and how often
+/// one waited in vain.
+fn laid_out_for_all<R: Threads + Wait + Sync>(rt: &R, alloc: Global) -> Result<Counts, Ended> {
     let parts = [part(alloc)?];
     let how = How::default();
     let gate = Read::nothing();
@@ -99,13 +143,12 @@ fn read_for_two<R: Threads + Wait + Sync>(rt: &R, alloc: Global) -> Result<(u64,
     live::<Plain, _, _, _>(
         rt, alloc, PUBLISHED, &parts, &how, 2, 5, QUERY, &gate, &mut out,
     )?;
-    Ok((gate.pieces.load(SeqCst), gate.late.load(SeqCst)))
+    Ok((gate.columns.load(SeqCst), gate.late.load(SeqCst)))
 }
 
-/// Both go over the same columns: all their reports on the edition read as many pieces as the reports of a run.
+/// All go over the same columns, of each piece that was laid out once, whoever came first.
 #[test]
-fn two_viewers_share_the_columns_of_an_edition(rt: HostRuntime) -> Result<(), Fail> {
-    let by_run = read_by(&rt, rt.alloc(), &How::default())?;
-    assert_eq!(rt; read_for_two(&rt, rt.alloc())?, (by_run, 0));
+fn viewers_and_reports_share_the_columns_of_pieces(rt: HostRuntime) -> Result<(), Fail> {
+    assert_eq!(rt; laid_out_for_all(&rt, rt.alloc())?, (PIECES, 0));
     Ok(())
 }

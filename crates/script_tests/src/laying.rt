@@ -1,4 +1,4 @@
-//! Workers fold the pieces of an edition, and then lay them out as columns, two at a time.
+//! Workers lay out the pieces of an edition as columns, two at a time.
 
 use crate::beside::reaches;
 use crate::runs::CUTTING;
@@ -74,11 +74,11 @@ report SELECT V, COUNT(*) FROM T GROUP BY V
 const REPORTS: &str =
     "line 4 edition 1\nV | COUNT(*)\n'a' | 2\n'b' | 2\nline 6 edition 1\nV | COUNT(*)\n'a' | 2\n'b' | 2\n";
 
-/// Of an edition that has columns the first report folds the pieces, and the second lays them out.
+/// Two reports on an edition of few rows, each of which lays out its pieces.
 #[test]
-fn two_workers_fold_and_lay_out_at_the_same_time(rt: HostRuntime) -> Result<(), Fail> {
+fn two_workers_lay_out_at_the_same_time(rt: HostRuntime) -> Result<(), Fail> {
     let parts = [Vec::from_slice(rt.alloc(), PART)?];
-    let how = How::of(2, CUTTING, 10).with_columns_from(0);
+    let how = How::of(2, CUTTING, 10);
     let gate = Met::nobody();
     let mut out = Pour::new(Vec::new(rt.alloc()));
     run::<Plain, _, _, _>(&rt, rt.alloc(), LINES, &parts, &how, &gate, &mut out)?;

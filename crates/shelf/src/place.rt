@@ -106,4 +106,17 @@ impl<T: Drop, P: Promise<T>> Shelf<T, P> {
         );
         self.look()
     }
+
+    /// The same where [`value_or_make`](Shelf::value_or_make) gave none: calls `make`, which now may get its memory, and puts on
+    /// the shelf what it gives, unless another caller has put a value there by then. Nobody waits for it.
+    ///
+    /// None as of `value_or_make`, but for this caller alone.
+    pub fn value_or_make_again<F: FnOnce() -> Option<T>>(&self, make: F) -> Option<Arc<T>>
+        requires callable { F.pre make }
+        requires keeps { (made : Option T) → F.post make made → IfSome made (P.kept_by self.now) }
+        ensures { IfSome result (λ arc. P.kept_by self.now arc.value) }
+    {
+        self.fill(make);
+        self.look()
+    }
 }

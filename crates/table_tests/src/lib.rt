@@ -1,5 +1,5 @@
-//! Tests of `cells`, `trie`, `aggs`, `columns`, `groups` and `board` by their public items: what no clause says of them, and no
-//! script can show.
+//! Tests of `cells`, `trie`, `aggs`, `columns`, `groups`, `board` and `prepare` by their public items: what no clause says of
+//! them, and no script can show.
 #![tactic(auto)]
 
 #[cfg(test)]
@@ -12,6 +12,10 @@ mod of_cells;
 mod of_columns;
 #[cfg(test)]
 mod of_groups;
+#[cfg(test)]
+mod of_pieces;
+#[cfg(test)]
+mod of_prepare;
 #[cfg(test)]
 mod of_trie;
 #[cfg(test)]

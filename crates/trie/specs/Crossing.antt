@@ -1,5 +1,5 @@
 -- The nodes of a trie may cross threads where keys, values and what lies beside branches may. An inner node reaches itself
--- by way of its children.
+-- by way of its children. A place for a summary may cross threads where the summary may.
 use denote.Enum.Declared.{row}
 use denote.Hole.FixSend.{Crosses, both_send, both_sync}
 use denote.Param.Send.{IsSend, IsSync, sendable}
@@ -7,10 +7,13 @@ use denote.RattleType.{RattleType}
 use denote.Struct.Tuple as Struct
 use Rattle.std.proofs.Common.{[], ◌∷◌}
 use Rattle.std.proofs.Crossing.{crosses}
+use Rattle.shelf.specs.Crossing.{shelf_send, shelf_sync}
 use Rattle.trie.specs.contracts.beside.Side as Side
+use Rattle.trie.specs.contracts.beside.Summed as Summed
 use Rattle.trie.specs.contracts.node.Inner as Inner
 use Rattle.trie.specs.contracts.node.Owner as Owner
 use Rattle.trie.specs.declared.beside.Beside as Beside
+use Rattle.trie.specs.declared.beside.Summary as Summary
 
 module _ (K V B : RattleType) (ks : IsSend K) (ky : IsSync K) (vs : IsSend V) (vy : IsSync V) (bs : IsSend B) (by : IsSync B) where
   inner_crosses : Crosses (Inner.the_ring K V B) (Inner.the_member K V B)
@@ -62,3 +65,10 @@ module _ (K V S : RattleType) (beside : Beside.Ghosts S.Denot K.Denot V.Denot) w
 
     pub field_sync : IsSync (Owner.the_field (Struct.Tuple (K ∷ V ∷ [])) (Inner.the_row K V side)).row
     field_sync = let send = sent in let sync = shared in search (sendable, crosses) depth 40
+
+module _ (K V S : RattleType) (summary : Summary.Ghosts S.Denot K.Denot V.Denot) (ss : IsSend S) (sy : IsSync S) where
+  pub summed_send : IsSend (Summed.the_row K V S summary)
+  summed_send = search (shelf_send, sendable, crosses) depth 40
+
+  pub summed_sync : IsSync (Summed.the_row K V S summary)
+  summed_sync = search (shelf_sync, sendable, crosses) depth 40

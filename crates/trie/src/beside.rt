@@ -145,4 +145,19 @@ impl<K, V, S: Summary<K, V>> Side<K, V, Summed<K, V, S>> {
             Some(shelf) => shelf.value_or_make(rt, make),
         }
     }
+
+    /// The same where none was found there: what `make` makes now.
+    pub(crate) fn summary_or_make_again<F: FnOnce() -> Option<S> + Drop>(
+        &self,
+        make: F,
+    ) -> Option<Arc<S>>
+        requires callable { F.pre make }
+        requires describes { (made : Option S) → F.post make made → IfSome made (S.describes self.now) }
+        ensures { IfSome result (λ summary. S.describes self.now summary.value) }
+    {
+        match &self.beside.shelf {
+            None => None,
+            Some(shelf) => shelf.value_or_make_again(make),
+        }
+    }
 }

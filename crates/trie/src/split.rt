@@ -95,6 +95,20 @@ impl<K: Ord, V, H: KeyHash<K>, S: Summary<K, V>> Piece<K, V, H, Summed<K, V, S>>
         let side = side_of::<K, V, H, Summed<K, V, S>>(&self.node)?;
         side.summary_or_make(rt, make)
     }
+
+    /// The same where [`summary_or_make`](Piece::summary_or_make) gave none: calls `make`, which now may get its memory, and
+    /// leaves there what it gives, unless another caller has left a summary by then. Nobody waits for it.
+    ///
+    /// None where the piece has no place for one; where `make` gave none or memory for it was refused; and where one owner
+    /// more was refused. Each is so for this caller alone.
+    pub fn summary_or_make_again<F: FnOnce() -> Option<S> + Drop>(&self, make: F) -> Option<Arc<S>>
+        requires callable { F.pre make }
+        requires describes { (made : Option S) → F.post make made → IfSome made (S.describes self.now) }
+        ensures { IfSome result (λ summary. S.describes self.now summary.value) }
+    {
+        let side = side_of::<K, V, H, Summed<K, V, S>>(&self.node)?;
+        side.summary_or_make_again(make)
+    }
 }
 
 /// What lies beside a piece's entries: something where its node is a branch.

@@ -3,6 +3,7 @@
 use crate::gates::{Hold, Watch};
 use board::Keeper;
 use cells::{Cell, Plain, Refused, Row, Schema};
+use columns::RowTrie;
 use crew::{Gate, Open};
 use csv::ByteRecord;
 use loader::{PartFault, Records, load, read_record};
@@ -11,7 +12,6 @@ use std::process::Abort;
 use std::sync::Wait;
 use std::test::Fail;
 use std::thread::Threads;
-use trie::Trie;
 
 /// How many rows there are, or the first faulty part and its record.
 type Found = Result<u64, (u64, u64)>;
@@ -26,9 +26,7 @@ fn faulty(fault: PartFault) -> Result<Found, Refused> {
 }
 
 /// What was loaded, where no part is faulty.
-fn loaded(
-    rows: Result<Trie<Cell, Row, Plain>, PartFault>,
-) -> Result<Trie<Cell, Row, Plain>, Refused> {
+fn loaded(rows: Result<RowTrie<Plain>, PartFault>) -> Result<RowTrie<Plain>, Refused> {
     match rows {
         Ok(rows) => Ok(rows),
         Err(PartFault::OutOfMemory) => Err(Refused::OutOfMemory),
@@ -38,7 +36,7 @@ fn loaded(
 }
 
 /// What a load found.
-fn told(rows: Result<Trie<Cell, Row, Plain>, PartFault>) -> Result<Found, Refused> {
+fn told(rows: Result<RowTrie<Plain>, PartFault>) -> Result<Found, Refused> {
     match rows {
         Ok(rows) => Ok(Ok(rows.len())),
         Err(fault) => faulty(fault),
@@ -151,7 +149,7 @@ fn next_row(
 }
 
 /// Whether the map has this row.
-fn has_row(rows: &Trie<Cell, Row, Plain>, row: &Row) -> bool {
+fn has_row(rows: &RowTrie<Plain>, row: &Row) -> bool {
     match rows.get(row.key()) {
         Some(loaded) => loaded.cells() == row.cells(),
         None => false,
@@ -163,7 +161,7 @@ fn are_left(
     alloc: Global,
     records: &mut Records<'_>,
     schema: &Schema,
-    rows: &Trie<Cell, Row, Plain>,
+    rows: &RowTrie<Plain>,
 ) -> Result<bool, Refused> {
     for number in 0..100 {
         let Some(row) = next_row(alloc, records, schema)? else {

@@ -23,7 +23,7 @@ impl Gate for Flags {
 }
 
 /// The report on the edition that the viewer sees.
-fn reported<R: Threads + Wait>(
+fn reported<R: Threads + Wait + Sync>(
     rt: &R,
     alloc: Global,
     viewer: &mut Viewer<Plain>,
@@ -51,7 +51,7 @@ fn meets_the_second(viewer: &mut Viewer<Plain>) -> Result<bool, Refused> {
 }
 
 /// Whether the viewer reports on the first edition, which has one row, and then meets the second.
-fn sees_both<R: Threads + Wait>(
+fn sees_both<R: Threads + Wait + Sync>(
     rt: &R,
     alloc: Global,
     mut viewer: Viewer<Plain>,

@@ -37,7 +37,7 @@ pub(super) fn edition_of(
 }
 
 /// Whether the report of the keys has this text.
-fn is_counted<G: Gate, R: Threads + Wait>(
+fn is_counted<G: Gate, R: Threads + Wait + Sync>(
     rt: &R,
     alloc: Global,
     snapshot: &Snapshot<Plain>,
@@ -68,7 +68,7 @@ const NONE: &str = "ID | GROUPING(ID) | COUNT(*) | SUM(ID)\nNULL | 1 | 0 | NULL\
 const PIECES: [(u8, u64, u64); 5] = [(0, 2, 1), (1, 1, 6), (1, 64, 6), (13, 2, 10), (13, 7, 10)];
 
 /// Whether the report of the keys is right and the gate was told of each piece, once, as it was entered and left.
-fn is_told<R: Abort + Threads + Wait>(
+fn is_told<R: Abort + Threads + Wait + Sync>(
     rt: &R,
     alloc: Global,
     snapshot: &Snapshot<Plain>,
@@ -121,7 +121,7 @@ fn two_workers_gather_at_the_same_time(rt: HostRuntime) -> Result<(), Fail> {
 }
 
 /// Whether the report of the keys is right; where it is refused, by the same call made again.
-fn is_counted_at_last<R: Threads + Wait>(
+fn is_counted_at_last<R: Threads + Wait + Sync>(
     rt: &R,
     alloc: Global,
     snapshot: &Snapshot<Plain>,

@@ -7,7 +7,8 @@ ghost use Rattle.crew.specs.Limits.{piece_limit};
 
 use crate::of_report::answers::edition_of;
 use board::Snapshot;
-use cells::{Cell, Plain, Refused, Row, Total};
+use cells::{Plain, Refused, Total};
+use columns::RowPiece;
 use crew::{Open, gather};
 use groups::Partial;
 use query::{Plan, check, read};
@@ -15,14 +16,14 @@ use std::alloc::{AllocError, Global};
 use std::sync::Wait;
 use std::test::Fail;
 use std::thread::Threads;
-use trie::{Cutting, Piece};
+use trie::Cutting;
 
 /// The partial result of the pieces by two workers; where it is refused, by the same call made again.
-fn gathered<R: Threads + Wait>(
+fn gathered<R: Threads + Wait + Sync>(
     rt: &R,
     alloc: Global,
     plan: &Plan,
-    pieces: &[Piece<Cell, Row, Plain>],
+    pieces: &[RowPiece<Plain>],
 ) -> Result<Partial<Plain>, Refused>
     requires rows { length (rows_in pieces.now) ≤ cell_limit }
     requires pieces { length pieces.now ≤ piece_limit }
@@ -34,7 +35,7 @@ fn gathered<R: Threads + Wait>(
 }
 
 /// Whether the piece has one row at most.
-fn is_short(alloc: Global, piece: &Piece<Cell, Row, Plain>) -> Result<bool, AllocError>
+fn is_short(alloc: Global, piece: &RowPiece<Plain>) -> Result<bool, AllocError>
     ensures { IfOk result (λ short. IsTrue short → length piece.now ≤ 1) }
 {
     Ok(piece.entries(alloc)?.len() <= 1)
@@ -42,11 +43,11 @@ fn is_short(alloc: Global, piece: &Piece<Cell, Row, Plain>) -> Result<bool, Allo
 
 /// The partial result of the pieces, if they are two of one row each at most, and so few enough.
 #[tactic(auto, using(crate::proofs::GatheredLemmas::are_few))]
-fn gathered_of_two<R: Threads + Wait>(
+fn gathered_of_two<R: Threads + Wait + Sync>(
     rt: &R,
     alloc: Global,
     plan: &Plan,
-    pieces: &[Piece<Cell, Row, Plain>],
+    pieces: &[RowPiece<Plain>],
 ) -> Result<Option<Partial<Plain>>, Refused> {
     if pieces.len() != 2 {
         return Ok(None);
@@ -74,7 +75,7 @@ fn is_two_and_three(
 }
 
 /// Whether the rows of keys 1 and 2 are counted and summed up, each of which is a piece.
-fn are_counted<R: Threads + Wait>(
+fn are_counted<R: Threads + Wait + Sync>(
     rt: &R,
     alloc: Global,
     snapshot: &Snapshot<Plain>,

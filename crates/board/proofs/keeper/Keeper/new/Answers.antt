@@ -12,7 +12,7 @@ invariant_of-result g c = (
     within = search (rules, limit_stays);
     drafted = search (rules, rows_stay);
     begun = record { later = []; is = c.in_ok-writer.ensures.seen };
-    last = first_is_last _ _ _ c.in_ok-writer.ensures.seen c.in_ok-last.ensures;
+    last = first_is_last _ _ _ c.in_ok-writer.ensures.seen c.first-last.ensures;
     published = record { fit = search (rules, rows_stay); few = search (rules, limit_stays) };
   },
   search rules,

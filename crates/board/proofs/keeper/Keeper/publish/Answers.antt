@@ -1,8 +1,8 @@
-use Rattle.std.proofs.Common.{◌≡◌, ◌+◌, ◌≤◌, arith, refl, rules, sym, ap, ◌∙◌}
+use Rattle.std.proofs.Common.{◌≡◌, ◌++◌, ◌∷◌, [], ◌+◌, ◌≤◌, arith, refl, rules, sym, ap, ◌∙◌}
 use Rattle.std.specs.FinMap.{len}
 use Rattle.board.specs.Editions.{Edition}
 use Rattle.board.specs.Limits.{row_limit}
-use Rattle.board.proofs.EditionsLemmas.{same_within}
+use Rattle.board.proofs.EditionsLemmas.{same_within, seen_as}
 use Rattle.board.proofs.SeatLemmas.{history_goes_on, next_is_last}
 use Rattle.cells.specs.RowsFit.{rows_same}
 use Rattle.board.proofs.keeper.Keeper.publish.Goals as goal
@@ -28,3 +28,18 @@ invariant_of-self g c =
       },
       c.publish.ensures.schema ∙ c.self.invariant.1 ∙ sym table,
     )
+
+pub returns-clause-published : goal.returns-clause-published
+returns-clause-published g c =
+    let old = c.self.inside in
+    let next = c.in_ok-next.next in
+    let rows : next.rows ≡ old.draft = ap (λ (e : Edition). e.rows) c.in_ok-next.ensures ∙ c.in_ok-share.ensures in
+    seen_as _ _ _ _ c.self.view_is c.tell.ensures.same (record {
+      edition = ap (λ (e : Edition). e.number) (c.publish.ensures.result ∙ c.in_ok-next.ensures);
+      published = ap (λ (e : Edition). e.rows) c.publish.ensures.result ∙ rows;
+      history = c.publish.ensures.seen ∙ ap (λ r. old.writer.seat.me.0.seen ++ r ∷ []) rows;
+      draft = refl;
+      limit = refl;
+      schema = ap (λ (e : Edition). e.schema) (c.publish.ensures.result ∙ c.in_ok-next.ensures);
+      board = c.publish.ensures.board;
+    })

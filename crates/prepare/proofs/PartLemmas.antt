@@ -1,0 +1,159 @@
+-- The records of a part, one after another.
+use Rattle.std.proofs.Common.{◌≡◌, ◌≢◌, ◌⊎◌, ◌==◌, ◌≤◌, ℕ, zero, suc, ◌+◌, Bool, true, false, List, [], ◌∷◌, ◌++◌, length, map, inl, inr, refl, ap, sym, ◌∙◌, arith, append_assoc, eq-eqb}
+use Rattle.std.proofs.lemmas.Bool.Decides.{eqb_tells}
+use Rattle.std.proofs.lemmas.List.{append-nil, length-append, length-map}
+use Rattle.std.proofs.lemmas.List.Concat.{flat_map-cons}
+use Rattle.std.proofs.lemmas.Grind.{flat_map-append}
+use Rattle.std.proofs.Math.Dec.{eqb}
+use Rattle.std.specs.Prelude.{Option, Some, None, Ok, Err, if◌then◌else◌}
+use Rattle.csv.specs.Machine.{Read, next_record}
+use Rattle.csv.specs.Reading.{is_bom, records_from as csv_records_from, records_next, strip_bom}
+use Rattle.csv.specs.Records.{trimmed}
+use Rattle.csv.specs.Writing.{default_writer, row_text}
+use Rattle.csv.specs.declared.parser.State.{State}
+use Rattle.csv.specs.declared.parser.State.TheVariants as st
+use Rattle.prepare.specs.Files.{Fields, config_of, records_of}
+use Rattle.prepare.specs.Parts.{IsFault, IsPart, IsTextAfter, Made, and_first, as_read, headed, part_of, places_of, record_of, records_from, text_of, under_header, words_of}
+use Rattle.prepare.specs.declared.choice.Choice.{Choice}
+use Rattle.prepare.specs.declared.fault.PrepareFault.{PrepareFault}
+use Rattle.prepare.specs.declared.part.MadePart.{MadePart}
+use Rattle.prepare.specs.declared.fault.PrepareFault.TheVariants.{NoHeader, NoColumn, Uneven, OutOfMemory}
+
+not_equal : (a b : ℕ) → ((eqb a b ≡ true) × (a ≡ b)) ⊎ ((eqb a b ≡ false) × (a ≢ b)) → a ≢ b → (a == b) ≡ false
+not_equal a b (inl same) differ = absurd (differ same.1)
+not_equal a b (inr other) differ = other.0
+
+-- records that were made, before those of the records that are left
+abbrev pub before : {A : Type 0} → List A → Made A → Made A
+before xs (Ok ys) = Ok (xs ++ ys)
+before xs (Err fault) = Err fault
+
+-- what is said of all records is said of those left, after the records that were written after a text
+pub record Reached (choice : Choice) (places : List ℕ) (width : ℕ) (start : List ℕ) (said : Made Fields) (number : ℕ) (left : List Fields) (text : List ℕ) : Type 0 where
+  pub rows : List Fields
+  pub written : text ≡ start ++ text_of rows
+  pub is : said ≡ before rows (records_from choice places width number left)
+  pub counted : length rows + 1 ≡ number
+
+before_none : {A : Type 0} (said : Made A) → said ≡ before [] said
+before_none (Ok xs) = refl
+before_none (Err fault) = refl
+
+before_more : {A : Type 0} (xs : List A) (x : A) (later : Made A) → before xs (and_first x later) ≡ before (xs ++ x ∷ []) later
+before_more xs x (Ok ys) = ap Ok (sym (append_assoc xs (x ∷ []) ys))
+before_more xs x (Err fault) = refl
+
+-- ---- the text
+
+text_more : (rows : List Fields) (row : Fields) → text_of (rows ++ row ∷ []) ≡ text_of rows ++ row_text default_writer row
+text_more rows row =
+    flat_map-append (row_text default_writer) rows (row ∷ [])
+    ∙ ap (λ last. text_of rows ++ last) (flat_map-cons (row_text default_writer) row [] ∙ append-nil (row_text default_writer row))
+
+-- a header was written, and no record
+pub reached_first : (choice : Choice) (places : List ℕ) (width : ℕ) (start : List ℕ) (left : List Fields)
+    → Reached choice places width start (records_from choice places width 1 left) 1 left start
+reached_first choice places width start left =
+    record { rows = []; written = sym (append-nil start); is = before_none (records_from choice places width 1 left); counted = refl }
+
+module _ (choice : Choice) (places : List ℕ) (width : ℕ) (start : List ℕ) (said : Made Fields) (number : ℕ) (old new : List Fields) (text : List ℕ) (fields : Fields)
+    (reached : Reached choice places width start said number old text) (took : old ≡ fields ∷ new) where
+  by_length : (b : Bool) → (length fields == width) ≡ b → said ≡ before reached.rows
+      (if b then and_first (record_of choice places number fields) (records_from choice places width (number + 1) new) else Err (Uneven number (length fields) width))
+  by_length b is = reached.is ∙ ap (λ left. before reached.rows (records_from choice places width number left)) took
+      ∙ ap (λ (test : Bool). before reached.rows (if test then and_first (record_of choice places number fields) (records_from choice places width (number + 1) new)
+      else Err (Uneven number (length fields) width))) is
+
+  -- one record was written
+  pub reached_more : (all : List ℕ) → length fields ≡ width → all ≡ text ++ row_text default_writer (record_of choice places number fields)
+      → Reached choice places width start said (number + 1) new all
+  reached_more all even added = record {
+    rows = reached.rows ++ record_of choice places number fields ∷ [];
+    written = added ∙ ap (λ front. front ++ row_text default_writer (record_of choice places number fields)) reached.written
+        ∙ append_assoc start (text_of reached.rows) (row_text default_writer (record_of choice places number fields))
+        ∙ ap (λ rest. start ++ rest) (sym (text_more reached.rows (record_of choice places number fields)));
+    is = by_length true (eq-eqb (length fields) width even) ∙ before_more reached.rows (record_of choice places number fields) (records_from choice places width (number + 1) new);
+    counted = omega (arith, length-append reached.rows (record_of choice places number fields ∷ []), reached.counted);
+  }
+
+  -- a record has another number of fields
+  pub reached_uneven : length fields ≢ width → said ≡ Err (Uneven number (length fields) width)
+  reached_uneven uneven = by_length false (not_equal (length fields) width (eqb_tells (length fields) width) uneven)
+
+-- all records were written
+pub reached_end : (choice : Choice) (places : List ℕ) (width : ℕ) (start : List ℕ) (said : Made Fields) (number : ℕ) (left : List Fields) (text : List ℕ)
+    → Reached choice places width start said number left text → left ≡ [] → (part : MadePart) → part.text.items ≡ text → part.records + 1 ≡ number → IsTextAfter start said part
+reached_end choice places width start said number left text reached none part same count = record {
+  rows = reached.rows;
+  is = reached.is ∙ ap (λ l. before reached.rows (records_from choice places width number l)) none ∙ ap Ok (append-nil reached.rows);
+  written = same ∙ reached.written;
+  counted = omega (arith, count, reached.counted);
+}
+
+-- ---- how many records
+
+records_next_few : (f : State → List ℕ → List (List (List ℕ))) (most : ℕ) → ((s : State) (bytes : List ℕ) → length (f s bytes) ≤ most) → (o : Option Read) → length (records_next f o) ≤ most + 1
+records_next_few f most few None = omega arith
+records_next_few f most few (Some read) = let some = few read.1 read.2 in omega (arith, some)
+
+records_from_few : (d turns : ℕ) (s : State) (bytes : List ℕ) → length (csv_records_from (config_of d) turns s bytes) ≤ turns
+unfolding csv_records_from
+records_from_few d zero s bytes = omega arith
+records_from_few d (suc turns) s bytes =
+    let some = records_next_few (csv_records_from (config_of d) turns) turns (records_from_few d turns) (next_record (config_of d) s [] [] bytes) in omega (arith, some)
+
+either_short : (marked : Bool) (bytes rest : List ℕ) → length rest ≤ length bytes → length (if marked then rest else bytes) ≤ length bytes
+either_short true bytes rest short = short
+either_short false bytes rest short = omega arith
+
+strip_bom_short : (bytes : List ℕ) → length (strip_bom bytes) ≤ length bytes
+unfolding strip_bom
+strip_bom_short [] = omega arith
+strip_bom_short (a ∷ []) = omega arith
+strip_bom_short (a ∷ b ∷ []) = omega arith
+strip_bom_short (a ∷ b ∷ c ∷ rest) = either_short (is_bom a b c) (a ∷ b ∷ c ∷ rest) rest (omega arith)
+
+-- after its first record a text has no more records than bytes
+pub few_after : (d : ℕ) (bytes : List ℕ) (first : List (List ℕ)) (later : List (List (List ℕ))) → records_of d bytes ≡ first ∷ later → length later ≤ length bytes
+few_after d bytes first later took =
+    let some = records_from_few d (length (strip_bom bytes) + 1) st.StartRecord (strip_bom bytes) in
+    let short = strip_bom_short bytes in
+    omega (arith, some, short, ap length took)
+
+-- ---- the whole file
+
+-- white space is no field
+pub read_length : (choice : Choice) (fields : Fields) → length (as_read choice fields) ≡ length fields
+read_length choice fields = go choice.trims where
+  go : (b : Bool) → length (if b then map trimmed fields else fields) ≡ length fields
+  go true = length-map fields trimmed
+  go false = refl
+
+module _ (choice : Choice) (all later : List Fields) (header : Fields) (took : all ≡ header ∷ later) where
+  -- the header has not a column that is chosen
+  pub part_unplaced : (fault : PrepareFault) → IsFault (places_of choice.columns (as_read choice header)) fault → IsFault (part_of choice all) fault
+  part_unplaced NoHeader told = ap (part_of choice) took ∙ ap (under_header choice header later) told
+  part_unplaced (NoColumn place) told = ap (part_of choice) took ∙ ap (under_header choice header later) told
+  part_unplaced (Uneven number fields width) told = ap (part_of choice) took ∙ ap (under_header choice header later) told
+  part_unplaced OutOfMemory told = tt
+
+  module _ (places : List ℕ) (placed : places_of choice.columns (as_read choice header) ≡ Ok places) where
+    -- its header was written
+    under : part_of choice all ≡ and_first (headed choice.number (words_of choice.columns (as_read choice header))) (records_from choice places (length header) 1 later)
+    under = ap (part_of choice) took ∙ ap (under_header choice header later) placed
+
+    pub part_text : (start : List ℕ) (part : MadePart) → start ≡ row_text default_writer (headed choice.number (words_of choice.columns (as_read choice header)))
+        → IsTextAfter start (records_from choice places (length header) 1 later) part → IsPart (part_of choice all) part
+    part_text start part first read = record {
+      rows = headed choice.number (words_of choice.columns (as_read choice header)) ∷ read.rows;
+      is = under ∙ ap (and_first (headed choice.number (words_of choice.columns (as_read choice header)))) read.is;
+      written = read.written ∙ ap (λ front. front ++ text_of read.rows) first
+          ∙ sym (flat_map-cons (row_text default_writer) (headed choice.number (words_of choice.columns (as_read choice header))) read.rows);
+      counted = omega (arith, read.counted);
+    }
+
+    pub part_fault : (fault : PrepareFault) → IsFault (records_from choice places (length header) 1 later) fault → IsFault (part_of choice all) fault
+    part_fault NoHeader told = under ∙ ap (and_first (headed choice.number (words_of choice.columns (as_read choice header)))) told
+    part_fault (NoColumn place) told = under ∙ ap (and_first (headed choice.number (words_of choice.columns (as_read choice header)))) told
+    part_fault (Uneven number fields width) told = under ∙ ap (and_first (headed choice.number (words_of choice.columns (as_read choice header)))) told
+    part_fault OutOfMemory told = tt

@@ -1,0 +1,4 @@
+pub mod Files
+pub mod Lines
+pub mod Parts
+pub mod Words

@@ -1,0 +1,29 @@
+//! What is chosen of a file.
+
+use cells::Text;
+
+/// A column of a file that is chosen.
+#[derive(Debug, Drop)]
+pub struct Chosen {
+    /// Its name in the file's header, in whatever case.
+    pub name: Text,
+    /// The name that it gets in the table.
+    pub word: Text,
+}
+
+/// How a file's records are read, and what of them a part has.
+#[derive(Debug, Drop)]
+pub struct Choice {
+    /// The columns that the part has, in this order. None: each column of the file, under the word that its name makes.
+    pub columns: Option<Vec<Chosen>>,
+    /// The byte that stands between two fields of the file.
+    pub delimiter: u8,
+    /// The name of a first column that counts the records, where the part has one.
+    pub number: Option<Text>,
+    /// How many records were counted before the first one of this file.
+    pub counted: u64,
+    /// The word that stands for NULL: a field that is this, in quotes or not, is empty in the part.
+    pub null: Option<Text>,
+    /// Whether white space at both ends of a field is left out. It is, before the field is compared with the word for NULL.
+    pub trims: bool,
+}
