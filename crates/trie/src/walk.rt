@@ -1,5 +1,5 @@
 //! Lending the entries of a map one after another, with no list of them.
-ghost use Rattle.std.specs.Prelude.{OnOk};
+ghost use Rattle.std.specs.Prelude.{◌≡◌, OnOk};
 ghost use Rattle.trie.specs.Holding.{pairs_of};
 ghost use Rattle.trie.specs.Nodes.{owned};
 ghost use Rattle.trie.specs.Tree.{entries};
@@ -22,6 +22,13 @@ pub trait Visitor<K, V> {
     fn visit(&mut self, key: &K, value: &V) -> Result<(), AllocError>
         requires { asks self.old key.now value.now }
         ensures { OnOk result (takes self.old key.now value.now self.new) };
+
+    /// Looks at a value that it may be lent soon. A visitor whose visits wait for memory reads here what they read first, so
+    /// that such loads wait side by side. Contracts see no change of it.
+    fn look(&mut self, _value: &V)
+        ensures { self.new ≡ self.old }
+    {
+    }
 }
 
 /// Lends the entries of the node, in digit order.
@@ -43,6 +50,7 @@ pub fn walk_node<K, V, S: Beside<K, V>, W: Visitor<K, V>>(
                 Ok(())
             }
             Inner::Branch { children, .. } => {
+                look_below(children, visitor);
                 for child in children {
                     walk_node(child, visitor)?;
                 }
@@ -64,4 +72,34 @@ fn walk_pairs<K, V, W: Visitor<K, V>>(
         visitor.visit(&pair.0, &pair.1)?;
     }
     Ok(())
+}
+
+/// Lets the visitor look at the leaves of those of these nodes that are branches: some dozens where hashes spread evenly.
+fn look_below<K, V, S: Beside<K, V>, W: Visitor<K, V>>(
+    nodes: &Vec<Node<K, V, S>>,
+    visitor: &mut W,
+)
+    ensures { visitor.new ≡ visitor.old }
+{
+    for node in nodes {
+        if let Node::Inner(inner) = node {
+            if let Inner::Branch { children, .. } = &**inner {
+                look_at_leaves(children, visitor);
+            }
+        }
+    }
+}
+
+/// Lets the visitor look at those of these nodes that are leaves.
+fn look_at_leaves<K, V, S: Beside<K, V>, W: Visitor<K, V>>(
+    nodes: &Vec<Node<K, V, S>>,
+    visitor: &mut W,
+)
+    ensures { visitor.new ≡ visitor.old }
+{
+    for node in nodes {
+        if let Node::Leaf(pair) = node {
+            visitor.look(&pair.1);
+        }
+    }
 }

@@ -7,4 +7,4 @@ use Rattle.trie.proofs.walk.+walk_node.Given as goal
 
 abbrev pub invariant-loop-child : goal.invariant-loop-child
 invariant-loop-child g l =
-    TakesAll g.W.Visitor.takes l.initial.visitor (flat_map entries (take l.child-index (values l.child-items))) l.visitor
+    TakesAll g.W.Visitor.takes l.fn.visitor (flat_map entries (take l.child-index (values l.child-items))) l.visitor
