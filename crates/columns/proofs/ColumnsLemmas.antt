@@ -92,6 +92,17 @@ pub codes_coded : (cells : List Cell) (old mid : ColumnValue) (list grown : List
 codes_coded cells old mid list grown codes added gives one e =
     subst (AreCodes (Some grown)) (sym e) (both_codes grown mid.by_row codes (subst (λ l. AreCodes (Some l) mid.by_row) (sym one.grown) (still_codes list one.more mid.by_row gives.within)) one.within)
 
+-- the code of a cell came behind codes of a list, which has grown or not
+pub codes_grown : (old new : List Cell) (cell : Cell) (codes added : List ℕ) (code : ℕ) → AreCodes (Some old) codes → Recode (cell ∷ []) old new (code ∷ []) → added ≡ codes ++ code ∷ [] → AreCodes (Some new) added
+codes_grown old new cell codes added code within one e =
+    subst (AreCodes (Some new)) (sym e) (both_codes new codes (code ∷ []) (subst (λ l. AreCodes (Some l) codes) (sym one.grown) (still_codes old one.more codes within)) one.within)
+
+pub stand_grown : (old new : List Cell) (cell : Cell) (codes added : List ℕ) (code : ℕ) → AreCodes (Some old) codes → Recode (cell ∷ []) old new (code ∷ []) → added ≡ codes ++ code ∷ [] →
+    decoded (Some new) added ≡ decoded (Some old) codes ++ cell ∷ []
+stand_grown old new cell codes added code within one e =
+    ap (decoded (Some new)) e ∙ decoded_both (Some new) codes (code ∷ []) ∙
+    ap₂ (λ (a b : List Cell). a ++ b) (ap (λ l. decoded (Some l) codes) one.grown ∙ still_stand old one.more codes within) one.stand
+
 -- ---- codes of another column's cells
 -- the code that a code became
 abbrev pub recoded_by : List ℕ → List ℕ → List ℕ

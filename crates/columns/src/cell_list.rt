@@ -1,8 +1,9 @@
 //! A list of different cells, in which each cell finds its code.
-ghost use Rattle.std.specs.Prelude.{◌≡◌, ◌∷◌, ◌<◌, [], length, slice_index_or, IfOk, IfSome, OnOk};
+ghost use Rattle.std.specs.Prelude.{◌≡◌, ◌∷◌, ◌<◌, [], length, slice_index_or, IfOk, IfSome, OnErr};
 ghost use Rattle.cells.specs.declared.cell.Cell.TheVariants.{Null};
 ghost use Rattle.columns.specs.Coding.{Recode};
 
+use crate::quick_hash::quick_hash;
 use cells::{Cell, KeyHash};
 use std::alloc::{AllocError, Global};
 use std::marker::{Model, PhantomData};
@@ -15,9 +16,6 @@ const FEWEST_SLOTS: usize = 256;
 
 /// In how many slots a hint of a cell is looked for.
 const PROBES: usize = 32;
-
-/// An odd number whose digits have no pattern: 2^64 over the golden ratio.
-const MIXER: u64 = 0x9E37_79B9_7F4A_7C15;
 
 /// Different cells of which each has its index as its code, and to which no more come.
 #[derive(Drop)]
@@ -123,7 +121,8 @@ impl<H: KeyHash<Cell>> CellList<H> {
     /// The code of the cell, which is added where it is not found. The only error is that a growth was refused, as that of a
     /// list of 4,294,967,296 different cells is.
     pub fn code_of(&mut self, cell: &Cell) -> Result<u32, AllocError>
-        ensures { IfOk result (λ code. Recode (cell.now ∷ []) self.old self.new (code ∷ [])) }
+        ensures code { IfOk result (λ code. Recode (cell.now ∷ []) self.old self.new (code ∷ [])) }
+        ensures refused { OnErr result (self.new ≡ self.old) }
     {
         self.make_room()?;
         let slot = match self.code_or_slot(cell) {
@@ -173,11 +172,7 @@ impl<H: KeyHash<Cell>> CellList<H> {
 
     /// The slot from which on a hint of the cell is looked for. Nothing rests on it.
     fn first_slot(&self, cell: &Cell) -> usize {
-        let number = match cell {
-            Cell::Int(value) => value.cast_unsigned(),
-            other => H::hash(other),
-        };
-        let hash = number.wrapping_mul(MIXER) as usize >> 32;
+        let hash = quick_hash(cell) as usize >> 32;
         hash.wrapping_mul(self.hints.len().saturating_sub(PROBES)) >> 32
     }
 
@@ -192,7 +187,7 @@ impl<H: KeyHash<Cell>> CellList<H> {
 
     /// Makes more slots, with the hints of all cells, where there may be fewer than two for each cell. Nothing rests on it.
     fn make_room(&mut self) -> Result<(), AllocError>
-        ensures { OnOk result (self.new ≡ self.old) }
+        ensures { self.new ≡ self.old }
     {
         if self.cells.len() < self.hints.len() / 2 {
             return Ok(());
@@ -223,7 +218,8 @@ impl<H: KeyHash<Cell>> CellList<H> {
 
     /// Adds a cell.
     fn add(&mut self, cell: &Cell) -> Result<u32, AllocError>
-        ensures { IfOk result (λ code. Recode (cell.now ∷ []) self.old self.new (code ∷ [])) }
+        ensures code { IfOk result (λ code. Recode (cell.now ∷ []) self.old self.new (code ∷ [])) }
+        ensures refused { OnErr result (self.new ≡ self.old) }
     {
         if self.cells.len() > u32::MAX as usize {
             return Err(AllocError);

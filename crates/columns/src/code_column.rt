@@ -96,10 +96,11 @@ impl<H: KeyHash<Cell>> CodeColumn<H> {
     pub fn push(&mut self, cell: &Cell) -> Result<(), AllocError>
         ensures { OnOk result (Puts (cell.now ∷ []) self.old self.new) }
     {
-        if self.list.is_none() {
-            if let Some(code) = number_code(cell) {
-                return self.push_code(code);
-            }
+        if let Some(list) = &mut self.list {
+            return push_code_of(list, &mut self.by_row, cell);
+        }
+        if let Some(code) = number_code(cell) {
+            return self.push_code(code);
         }
         self.push_listed(cell)
     }
@@ -244,4 +245,19 @@ impl<H: KeyHash<Cell>> CodeColumn<H> {
     {
         let _ = &self.by_row;
     }
+}
+
+/// Puts the code of a cell behind codes of a list, which is grown where the cell is not found.
+fn push_code_of<H: KeyHash<Cell>>(
+    list: &mut CellList<H>,
+    codes: &mut Vec<u32>,
+    cell: &Cell,
+) -> Result<(), AllocError>
+    requires { AreCodes (Some list.old) codes.old.items }
+    ensures within { AreCodes (Some list.new) codes.new.items }
+    ensures puts { OnOk result (decoded (Some list.new) codes.new.items ≡ decoded (Some list.old) codes.old.items ++ cell.now ∷ []) }
+{
+    let code = list.code_of(cell)?;
+    codes.push(code)?;
+    Ok(())
 }

@@ -170,6 +170,14 @@ impl<H: KeyHash<Cell>> Columns<H> {
         self.columns[place].take_kept(rt, alloc, piece, kept, laid)
     }
 
+    /// Looks at the row's cell for the column at the place.
+    fn look_at(&mut self, place: usize, row: &Row)
+        requires { place < length self.old }
+        ensures { self.new ≡ self.old }
+    {
+        self.columns[place].look_at(row);
+    }
+
     /// Puts the row's cell at the end of the column at the place.
     fn take_at(&mut self, place: usize, row: &Row) -> Result<(), AllocError>
         requires { place < length self.old }
@@ -192,5 +200,11 @@ impl<H: KeyHash<Cell>> Visitor<Cell, Row> for Columns<H> {
             self.take_at(place, row)?;
         }
         Ok(())
+    }
+
+    fn look(&mut self, row: &Row) {
+        for place in 0..self.column_count() {
+            self.look_at(place, row);
+        }
     }
 }

@@ -9,6 +9,7 @@ mod kept_column;
 mod named_column;
 mod number_code;
 mod piece_columns;
+mod quick_hash;
 mod span;
 
 pub use code_column::CodeColumn;

@@ -19,6 +19,8 @@ use trie::{Beside, Piece, Visitor};
 pub(crate) struct NamedColumn<H: KeyHash<Cell>> {
     pub index: usize,
     pub column: CodeColumn<H>,
+    // what was seen of cells that were looked at; nothing rests on it
+    seen: usize,
 }
 
 impl<H: KeyHash<Cell>> Model for NamedColumn<H> {
@@ -42,6 +44,7 @@ impl<H: KeyHash<Cell>> NamedColumn<H> {
         NamedColumn {
             index,
             column: CodeColumn::new(alloc),
+            seen: 0,
         }
     }
 
@@ -52,6 +55,15 @@ impl<H: KeyHash<Cell>> NamedColumn<H> {
         let cell = row.cells().get(self.index).unwrap_or(&Cell::Null);
         self.column.push(cell)?;
         Ok(())
+    }
+
+    /// Looks at the row's cell, so that it is fetched before it is taken.
+    pub fn look_at(&mut self, row: &Row)
+        ensures { self.new ≡ self.old }
+    {
+        let cell = row.cells().get(self.index).unwrap_or(&Cell::Null);
+        // a load whose outcome nobody keeps would be left out
+        self.seen = self.seen.wrapping_add(usize::from(cell.is_null()));
     }
 
     /// Puts the cells of a piece's rows behind those that are there.
@@ -91,9 +103,9 @@ impl<H: KeyHash<Cell>> NamedColumn<H> {
         ensures index { IfOk result (λ n. n.0 ≡ self.0) }
         ensures puts { (more : List RowValue) → cells_of other.now ≡ cells_at self.0 more → IfOk result (PutsFor (λ index. cells_at index more) self) }
     {
-        let NamedColumn { index, mut column } = self;
+        let NamedColumn { index, mut column, seen } = self;
         column.append(other)?;
-        Ok(NamedColumn { index, column })
+        Ok(NamedColumn { index, column, seen })
     }
 }
 
@@ -108,5 +120,9 @@ impl<H: KeyHash<Cell>> Visitor<Cell, Row> for NamedColumn<H> {
 
     fn visit(&mut self, _key: &Cell, row: &Row) -> Result<(), AllocError> {
         self.take(row)
+    }
+
+    fn look(&mut self, row: &Row) {
+        self.look_at(row);
     }
 }
