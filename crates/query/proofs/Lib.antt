@@ -2,6 +2,7 @@ pub mod CountsLemmas
 pub mod MarksLemmas
 pub mod GroupedLemmas
 pub mod FallsLemmas
+pub mod ChainsLemmas
 pub mod HeadingsLemmas
 pub mod ResolvingLemmas
 pub mod TruthLemmas

@@ -1,5 +1,5 @@
 -- Grouping sets as marks, column by column.
-use Rattle.std.proofs.Common.{◌≡◌, ℕ, ◌+◌, ◌-◌, ◌<◌, ◌≤◌, Bool, ◌||◌, append-nil, append_assoc, drop, get_or, length, take, List, [], ◌∷◌, ◌++◌, map, ◌⊎◌, if◌then◌else◌, inl, inr, refl, sym, ap, ap₂, ◌∙◌}
+use Rattle.std.proofs.Common.{◌≡◌, ℕ, ◌+◌, ◌-◌, ◌<◌, ◌≤◌, Bool, true, false, ◌||◌, append-nil, append_assoc, drop, get_or, length, take, List, [], ◌∷◌, ◌++◌, map, ◌⊎◌, if◌then◌else◌, inl, inr, refl, sym, ap, ap₂, ◌∙◌}
 use Rattle.std.proofs.lemmas.List.{at_drop_more, map-append, take_all, take_more}
 use Rattle.std.proofs.lemmas.Grind.{flat_map-append}
 use Rattle.std.proofs.lemmas.List.Folds.{list_any-append}
@@ -99,3 +99,16 @@ grouping_step cs es left e some within is sets new firsts lf ls made f a b n =
 pub indexes_all : (cs : List Column) (gs : List Names) (made lent : List (List Bool)) (i : ℕ) (found : List (List ℕ)) → made ≡ map (marks cs) gs → lent ≡ made → length lent ≤ i
     → found ≡ map (marked_from 0) (take i lent) → found ≡ map (indexes cs) gs
 indexes_all cs gs made lent i found m l all e = e ∙ ap (map (marked_from 0)) (take_all i lent all ∙ l ∙ m) ∙ indexes_of_marks cs gs
+
+-- one index more
+module _ (bs : List Bool) (k : ℕ) (found : List ℕ) (kept : marked_from 0 bs ≡ found ++ marked_from k (drop k bs)) (within : k < length bs) where
+  pub index_marked : get_or bs k false ≡ true → (new : List ℕ) → new ≡ found ++ k ∷ [] → marked_from 0 bs ≡ new ++ marked_from (k + 1) (drop (k + 1) bs)
+  index_marked e new n =
+      let rest = marked_from (k + 1) (drop (k + 1) bs) in
+      kept ∙ ap (λ l. found ++ l) (at_drop_more (marked_from k) bs k false within ∙ ap (λ b. if b then k ∷ rest else rest) e)
+      ∙ sym (append_assoc found (k ∷ []) rest) ∙ ap (λ l. l ++ rest) (sym n)
+
+  pub index_passed : get_or bs k false ≡ false → marked_from 0 bs ≡ found ++ marked_from (k + 1) (drop (k + 1) bs)
+  index_passed e =
+      let rest = marked_from (k + 1) (drop (k + 1) bs) in
+      kept ∙ ap (λ l. found ++ l) (at_drop_more (marked_from k) bs k false within ∙ ap (λ b. if b then k ∷ rest else rest) e)

@@ -1,7 +1,14 @@
 -- What follows a phrase is shorter than the tokens that begin with it.
-use Rattle.std.proofs.Common.{◌<◌, ◌≤◌, List, ◌∷◌, length, arith}
+use Rattle.std.proofs.Common.{◌≡◌, ◌<◌, ◌≤◌, List, ◌∷◌, length, ap, arith, Result, Ok, Err}
+use Rattle.std.specs.Prelude.{IfOk, MatchResult}
 use Rattle.cells.specs.declared.token.Token.{Token}
 use Rattle.query.specs.Grammar.{Separated, last, next, SpellsComparison, equal, not_equal, less, less_or_equal, greater, greater_or_equal, SpellsElement, empty, unit, rollup, cube, sets, SpellsElements, last_element, next_element, SpellsFactor, plain, not, SpellsFactors, last_factor, next_factor, SpellsItem, column, grouping, count_rows, count, count_distinct, sum, min, max, SpellsLiteral, number, text, SpellsName, name, SpellsNot, without, with, SpellsOperand, leaf_operand, literal_operand, SpellsPredicate, one_term, or, SpellsPrimary, parens, tested, SpellsTerm, one_factor, and, SpellsTerms, last_term, next_term, SpellsTest, compare, is_null, between, among, SpellsUnit, one, several}
+
+-- what follows the token behind a phrase
+pub shorter_closed : {A Y E : Type 0} (t : Token) (ts : List Token) (view : Y → List Token) (value : A) (behind : List Token) (Fault : E → Type 0) (r : Result (A × Y) E)
+    → length behind < length ts → MatchResult r (λ x. (x.0 ≡ value) × (behind ≡ t ∷ view x.1)) Fault → IfOk r (λ x. length (view x.1) < length ts)
+shorter_closed t ts view value behind Fault (Ok x) fewer h = omega (arith, fewer, ap length h.1)
+shorter_closed t ts view value behind Fault (Err e) fewer h = tt
 
 -- a list of phrases, each of which is shorter
 pub shorter_list : {X : Type 0} {sep : Token} {Sp : List Token → X → List Token → Type 0} → ((ts : List Token) (x : X) (rest : List Token) → Sp ts x rest → length rest < length ts)

@@ -1,9 +1,10 @@
 use Rattle.std.proofs.Common.{ap, arith, length}
-use Rattle.std.proofs.lemmas.Result.{err_from_is_err_and}
+use Rattle.std.proofs.lemmas.Result.{IfOk-weaker, err_from_is_err_and}
 use Rattle.query.specs.Grammar.{AND, OR, SpellsTerm, SpellsFactor, rparen}
 use Rattle.query.specs.Reading.{AfterAnd, Any}
 use Rattle.query.proofs.Lists.{err_closed, kept_end, kept_first, kept_next, kept_none, part_err, reads_closed, turn_err, turn_found, turn_reads}
 use Rattle.query.proofs.Predicates.{term_factors, factor_not, factor_plain, or_ends_and, paren_ends, predicate_terms, primary_parens, primary_test}
+use Rattle.query.proofs.Shorter.{shorter_closed}
 use Rattle.query.proofs.conditions.+reader.Goals as goal
 
 pub primary-returns-in-Some-clause-reads : goal.primary-returns-in-Some-clause-reads
@@ -110,3 +111,32 @@ pub predicate_in-returns-in_err-predicate-clause-reads : goal.predicate_in-retur
 predicate_in-returns-in_err-predicate-clause-reads g t c =
     let p = err_from_is_err_and c.from_residual.result c.from_residual.ensures.1 in
     rw (p.1, p.2) (err_closed rparen c.args.tokens.now paren_ends c.in_err-predicate.ensures.reads)
+
+pub factor-primary-requires : goal.factor-primary-requires
+factor-primary-requires g t c κs outlives = (omega (arith, ap length c.in-Some.ensures), outlives)
+
+pub factor-primary-requires-2 : goal.factor-primary-requires-2
+factor-primary-requires-2 g t c κs outlives = (omega arith, outlives)
+
+pub factor-returns-in-Some-clause-shorter : goal.factor-returns-in-Some-clause-shorter
+factor-returns-in-Some-clause-shorter g t c = omega (arith, ap length c.in-Some.ensures, c.in_ok-inner.ensures.shorter)
+
+pub factor-returns-clause-shorter : goal.factor-returns-clause-shorter
+factor-returns-clause-shorter g t c = c.primary-2.ensures.shorter
+
+pub primary-returns-in-Some-clause-shorter : goal.primary-returns-in-Some-clause-shorter
+primary-returns-in-Some-clause-shorter g t c =
+    IfOk-weaker c.predicate_in.result _ _ (λ x less. omega (arith, less, ap length c.in-Some.ensures)) c.predicate_in.ensures.shorter
+
+pub primary-returns-clause-shorter : goal.primary-returns-clause-shorter
+primary-returns-clause-shorter g t c = c.in_ok-test.ensures.shorter
+
+pub predicate_in-returns-clause-shorter : goal.predicate_in-returns-clause-shorter
+predicate_in-returns-clause-shorter g t c =
+    shorter_closed rparen c.args.tokens.now (λ s. s.now) c.in_ok-predicate.predicate c.in_ok-predicate.rest.now _ c.closed.result c.in_ok-predicate.ensures.shorter c.closed.ensures
+
+pub predicate-loop-terms-smaller : goal.predicate-loop-terms-smaller
+predicate-loop-terms-smaller g t c = omega (arith, ap length c.in-Some.ensures, c.in_ok-term.ensures.shorter)
+
+pub term-loop-factors-smaller : goal.term-loop-factors-smaller
+term-loop-factors-smaller g t c = omega (arith, ap length c.in-Some.ensures, c.in_ok-factor.ensures.shorter)

@@ -1,4 +1,4 @@
-use Rattle.std.proofs.Common.{◌∷◌, inr, refl}
+use Rattle.std.proofs.Common.{◌∷◌, ap, arith, inr, length, refl}
 use Rattle.std.proofs.lemmas.Result.{err_from_is_err_and}
 use Rattle.query.specs.Grammar.{AND, BETWEEN}
 use Rattle.query.proofs.Lists.{closed, none_closed, not_closed, part_err, split_found, split_nothing, turn_err, turn_found}
@@ -24,3 +24,6 @@ pub returns-clause-reads : goal.returns-clause-reads
 returns-clause-reads g c =
     let low = closed AND c.args.tokens.now (λ r. tt) c.in_ok-low.ensures.reads c.in-Some.more.now c.in-Some.ensures in
     turn_found (split_found (range_split c.args.left (BETWEEN ∷ c.args.tokens.now) c.args.negated c.args.tokens.now refl) low) c.in_ok-high.ensures.reads
+
+pub returns-clause-shorter : goal.returns-clause-shorter
+returns-clause-shorter g c = omega (arith, c.in_ok-low.ensures.shorter, ap length c.in-Some.ensures, c.in_ok-high.ensures.shorter)

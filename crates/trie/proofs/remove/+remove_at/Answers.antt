@@ -1,4 +1,4 @@
-use Rattle.std.proofs.Common.{◌≡◌, ◌<◌, ◌^◌, true, [], ◌∷◌, length, ap, ◌∙◌, arith, rules}
+use Rattle.std.proofs.Common.{◌≡◌, ◌<◌, ◌^◌, true, [], ◌∷◌, length, ap, refl, ◌∙◌, arith, rules}
 use Rattle.std.proofs.lemmas.Result.{IfOk-weaker, err_from_is_err_and}
 use Rattle.std.specs.Ordering.{is_eq}
 use Rattle.trie.specs.Holding.{seen_in}
@@ -7,7 +7,7 @@ use Rattle.trie.proofs.CountLemmas.{counts_above, counts_below}
 use Rattle.trie.proofs.OrderLemmas.{same_hash, value_at-order, without_key-order}
 use Rattle.trie.proofs.SlotsLemmas.{value_at-below, without_key-below, without_key-bounds, without_key-missing}
 use Rattle.trie.proofs.RemoveLemmas.{left_without, value_alone}
-use Rattle.trie.proofs.VariantsLemmas.{branch_in, leaf_in}
+use Rattle.trie.proofs.VariantsLemmas.{branch_in, bucket_in, leaf_in}
 use Rattle.trie.proofs.remove.+remove_at.Goals as goal
 
 pub step-requires-clause-dense : goal.step-requires-clause-dense
@@ -107,3 +107,58 @@ returns-in_default-clause-counted g t c = counts_below _ _ _ _ c.step.ensures.de
 pub returns-in-Left-clause-counted : goal.returns-in-Left-clause-counted
 returns-in-Left-clause-counted g t c =
     counts_above _ _ _ _ _ c.step.ensures.depth c.remove_at.ensures.counted c.left_with.ensures.counted
+
+pub remove_from_bucket-requires-clause-hashed : goal.remove_from_bucket-requires-clause-hashed
+remove_from_bucket-requires-clause-hashed g t c = c.requires.hashed
+
+pub remove_from_bucket-requires-clause-placed : goal.remove_from_bucket-requires-clause-placed
+remove_from_bucket-requires-clause-placed g t c = rw c.in-Bucket.ensures at c.requires.placed
+
+pub returns-in_err-rest-in-Branch-clause-grows : goal.returns-in_err-rest-in-Branch-clause-grows
+returns-in_err-rest-in-Branch-clause-grows g t c = c.remove_at.ensures.grows
+
+pub returns-in_default-clause-grows : goal.returns-in_default-clause-grows
+returns-in_default-clause-grows g t c = c.remove_at.ensures.grows
+
+pub returns-in-Empty-clause-map : goal.returns-in-Empty-clause-map
+returns-in-Empty-clause-map g t c = rw c.in-Empty.ensures refl
+
+pub returns-in-Empty-clause-missed : goal.returns-in-Empty-clause-missed
+returns-in-Empty-clause-missed g t c = λ none. refl
+
+pub returns-in-Empty-clause-counted : goal.returns-in-Empty-clause-counted
+returns-in-Empty-clause-counted g t c = omega (arith, c.args.at.within)
+
+pub returns-then-is_eq-clause-counted : goal.returns-then-is_eq-clause-counted
+returns-then-is_eq-clause-counted g t c = omega (arith, c.args.at.within)
+
+pub returns-else-is_eq-clause-map : goal.returns-else-is_eq-clause-map
+returns-else-is_eq-clause-map g t c =
+    let leaf = leaf_in g.H.KeyHash.hash_of g.K.Ord.cmp _ _ _ c.in-Leaf.ensures c.requires.placed in
+    let same = same_hash g.H.KeyHash.hash_of g.K.Ord.cmp g.K.PartialEq.eq g.met.K.Ord.matches_eq g.met.H.KeyHash.respects_eq in
+    rw (leaf.entries_are, without_key-order g.H.KeyHash.hash_of g.K.Ord.cmp same c.args.key.now (c.in-Leaf.pair.now.value ∷ [])) (search rules)
+
+pub returns-else-is_eq-clause-missed : goal.returns-else-is_eq-clause-missed
+returns-else-is_eq-clause-missed g t c = λ none. refl
+
+pub returns-else-is_eq-clause-counted : goal.returns-else-is_eq-clause-counted
+returns-else-is_eq-clause-counted g t c = omega (arith, c.args.at.within)
+
+pub returns-in-Bucket-clause-map : goal.returns-in-Bucket-clause-map
+returns-in-Bucket-clause-map g t c =
+    let bucket = bucket_in g.H.KeyHash.hash_of g.K.Ord.cmp _ _ _ c.in-Bucket.ensures c.requires.placed in
+    rw bucket.entries_are c.remove_from_bucket.ensures.map
+
+pub returns-in-Bucket-clause-missed : goal.returns-in-Bucket-clause-missed
+returns-in-Bucket-clause-missed g t c =
+    let bucket = bucket_in g.H.KeyHash.hash_of g.K.Ord.cmp _ _ _ c.in-Bucket.ensures c.requires.placed in
+    rw bucket.entries_are c.remove_from_bucket.ensures.missed
+
+pub returns-in-Bucket-clause-counted : goal.returns-in-Bucket-clause-counted
+returns-in-Bucket-clause-counted g t c = omega (arith, c.remove_from_bucket.ensures.counted, c.args.at.within)
+
+pub returns-in-Bucket-clause-grows : goal.returns-in-Bucket-clause-grows
+returns-in-Bucket-clause-grows g t c = c.remove_from_bucket.ensures.grows
+
+pub returns-in-Left-clause-grows : goal.returns-in-Left-clause-grows
+returns-in-Left-clause-grows g t c = omega (arith, c.remove_at.ensures.grows, c.left_with.ensures.grows)

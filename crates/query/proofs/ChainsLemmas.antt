@@ -1,0 +1,106 @@
+-- A chain of OR or of AND, predicate by predicate.
+use Rattle.std.proofs.Common.{◌≡◌, ℕ, ◌+◌, ◌<◌, ◌≤◌, Bool, true, false, ◌||◌, List, ◌∷◌, drop, get_or, length, ◌⊎◌, inl, inr, Vec, Box, Global, refl, sym, ap, ◌∙◌}
+use Rattle.std.proofs.lemmas.List.{at_drop_all, at_drop_more}
+use Rattle.std.proofs.lemmas.List.Folds.{list_any-append}
+use Rattle.std.specs.List.{list_any}
+use Rattle.cells.specs.declared.total.Total.{Total}
+use Rattle.query.specs.Names.{tests_of, tests_of_each}
+use Rattle.query.specs.PredicateViews.{predicate_tree}
+use Rattle.query.specs.Trees.{PredicateTree, predicates_of}
+use Rattle.query.specs.Truth.{all_truth, and_truth, any_truth, or_truth, truth, value_at}
+use Rattle.query.specs.declared.predicate.Predicate.{Predicate}
+use Rattle.query.specs.declared.predicate.PredicateForm.{PredicateForm}
+use Rattle.query.specs.declared.predicate.PredicateForm.TheVariants as form
+use Rattle.query.specs.declared.test.Test.{Test}
+use Rattle.query.specs.declared.truth.Truth.{Truth}
+use Rattle.query.specs.declared.truth.Truth.TheVariants.{True, False, Unknown}
+
+-- ---- whether some test is as is asked
+module _ {C : Type 0} (asked : Test C → Bool) where
+  abbrev any_in : List (PredicateTree (Test C)) → Bool
+  any_in ps = list_any asked (tests_of_each (predicates_of ps))
+
+  pub chain_starts : (whole : PredicateTree (Test C)) (x : PredicateForm C) (inners : Vec (Predicate C) Global) (items : List (PredicateTree (Test C)))
+      → predicate_tree x ≡ whole → items ≡ inners.items → (x ≡ form.Or inners) ⊎ (x ≡ form.And inners)
+      → list_any asked (tests_of whole) ≡ list_any asked (tests_of_each (predicates_of items))
+  chain_starts whole x inners items view all (inl e) = ap (λ p. list_any asked (tests_of p)) (sym view ∙ ap predicate_tree e) ∙ ap any_in (sym all)
+  chain_starts whole x inners items view all (inr e) = ap (λ p. list_any asked (tests_of p)) (sym view ∙ ap predicate_tree e) ∙ ap any_in (sym all)
+
+  module _ (some : Bool) (items : List (PredicateTree (Test C))) (k : ℕ) (kept : some ≡ list_any asked (tests_of_each (predicates_of (drop k items)))) where
+    module _ (p : PredicateTree (Test C)) (within : k < length items) (is : p ≡ get_or items k p) where
+      parts : some ≡ (list_any asked (tests_of p) || any_in (drop (k + 1) items))
+      parts =
+          kept ∙ at_drop_more any_in items k p within ∙ ap (λ q. any_in (q ∷ drop (k + 1) items)) (sym is)
+          ∙ list_any-append asked (tests_of p) (tests_of_each (predicates_of (drop (k + 1) items)))
+
+      pub chain_passed : list_any asked (tests_of p) ≡ false → some ≡ list_any asked (tests_of_each (predicates_of (drop (k + 1) items)))
+      chain_passed none = parts ∙ ap (λ b. b || any_in (drop (k + 1) items)) none
+
+      pub chain_holds : list_any asked (tests_of p) ≡ true → true ≡ some
+      chain_holds found = sym (parts ∙ ap (λ b. b || any_in (drop (k + 1) items)) found)
+
+    pub chain_ends : length items ≤ k → false ≡ some
+    chain_ends all = sym (kept ∙ at_drop_all any_in items k all)
+
+  pub chain_not : (whole : PredicateTree (Test C)) (x : PredicateForm C) (inner : Box (Predicate C) Global) (p : PredicateTree (Test C))
+      → predicate_tree x ≡ whole → x ≡ form.Not inner → p ≡ inner.value → list_any asked (tests_of p) ≡ list_any asked (tests_of whole)
+  chain_not whole x inner p view e is = ap (λ q. list_any asked (tests_of q)) is ∙ ap (λ q. list_any asked (tests_of q)) (sym (ap predicate_tree e) ∙ view)
+
+-- ---- its truth
+or_false : (t : Truth) → or_truth t False ≡ t
+or_false True = refl
+or_false False = refl
+or_false Unknown = refl
+
+or_assoc : (a b c : Truth) → or_truth a (or_truth b c) ≡ or_truth (or_truth a b) c
+or_assoc True b c = refl
+or_assoc False b c = refl
+or_assoc Unknown True c = refl
+or_assoc Unknown False c = refl
+or_assoc Unknown Unknown True = refl
+or_assoc Unknown Unknown False = refl
+or_assoc Unknown Unknown Unknown = refl
+
+and_true : (t : Truth) → and_truth t True ≡ t
+and_true True = refl
+and_true False = refl
+and_true Unknown = refl
+
+and_assoc : (a b c : Truth) → and_truth a (and_truth b c) ≡ and_truth (and_truth a b) c
+and_assoc True b c = refl
+and_assoc False b c = refl
+and_assoc Unknown True c = refl
+and_assoc Unknown False c = refl
+and_assoc Unknown Unknown True = refl
+and_assoc Unknown Unknown False = refl
+and_assoc Unknown Unknown Unknown = refl
+
+module _ (values : List Total) (whole : PredicateTree (Test ℕ)) where
+  pub or_starts : (x : PredicateForm ℕ) (inners : Vec (Predicate ℕ) Global) (items : List (PredicateTree (Test ℕ))) → predicate_tree x ≡ whole → items ≡ inners.items → x ≡ form.Or inners
+      → truth whole values ≡ or_truth False (any_truth (value_at values) (predicates_of items))
+  or_starts x inners items view all e = ap (λ p. truth p values) (sym view ∙ ap predicate_tree e) ∙ ap (λ ps. any_truth (value_at values) (predicates_of ps)) (sym all)
+
+  pub and_starts : (x : PredicateForm ℕ) (inners : Vec (Predicate ℕ) Global) (items : List (PredicateTree (Test ℕ))) → predicate_tree x ≡ whole → items ≡ inners.items → x ≡ form.And inners
+      → truth whole values ≡ and_truth True (all_truth (value_at values) (predicates_of items))
+  and_starts x inners items view all e = ap (λ p. truth p values) (sym view ∙ ap predicate_tree e) ∙ ap (λ ps. all_truth (value_at values) (predicates_of ps)) (sym all)
+
+  module _ (items : List (PredicateTree (Test ℕ))) (k : ℕ) (found : Truth) where
+    pub or_more : truth whole values ≡ or_truth found (any_truth (value_at values) (predicates_of (drop k items))) → k < length items → (p : PredicateTree (Test ℕ)) → p ≡ get_or items k p
+        → (one new : Truth) → one ≡ truth p values → new ≡ or_truth found one → truth whole values ≡ or_truth new (any_truth (value_at values) (predicates_of (drop (k + 1) items)))
+    or_more kept within p is one new here both =
+        let rest = any_truth (value_at values) (predicates_of (drop (k + 1) items)) in
+        kept ∙ ap (or_truth found) (at_drop_more (λ ps. any_truth (value_at values) (predicates_of ps)) items k p within ∙ ap (λ q. or_truth (truth q values) rest) (sym is) ∙ ap (λ q. or_truth q rest) (sym here))
+        ∙ or_assoc found one rest ∙ ap (λ q. or_truth q rest) (sym both)
+
+    pub or_ends : truth whole values ≡ or_truth found (any_truth (value_at values) (predicates_of (drop k items))) → length items ≤ k → found ≡ truth whole values
+    or_ends kept all = sym (kept ∙ ap (or_truth found) (at_drop_all (λ ps. any_truth (value_at values) (predicates_of ps)) items k all) ∙ or_false found)
+
+    pub and_more : truth whole values ≡ and_truth found (all_truth (value_at values) (predicates_of (drop k items))) → k < length items → (p : PredicateTree (Test ℕ)) → p ≡ get_or items k p
+        → (one new : Truth) → one ≡ truth p values → new ≡ and_truth found one → truth whole values ≡ and_truth new (all_truth (value_at values) (predicates_of (drop (k + 1) items)))
+    and_more kept within p is one new here both =
+        let rest = all_truth (value_at values) (predicates_of (drop (k + 1) items)) in
+        kept ∙ ap (and_truth found) (at_drop_more (λ ps. all_truth (value_at values) (predicates_of ps)) items k p within ∙ ap (λ q. and_truth (truth q values) rest) (sym is) ∙ ap (λ q. and_truth q rest) (sym here))
+        ∙ and_assoc found one rest ∙ ap (λ q. and_truth q rest) (sym both)
+
+    pub and_ends : truth whole values ≡ and_truth found (all_truth (value_at values) (predicates_of (drop k items))) → length items ≤ k → found ≡ truth whole values
+    and_ends kept all = sym (kept ∙ ap (and_truth found) (at_drop_all (λ ps. all_truth (value_at values) (predicates_of ps)) items k all) ∙ and_true found)
