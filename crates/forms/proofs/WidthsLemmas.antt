@@ -38,13 +38,14 @@ widths_more headings rows totals widths is =
     ap (λ l. map (λ at. max at.1 (width_of (slice_get totals at.0))) (enumerate_from 0 l)) is ∙ more_from 0 headings rows totals
 
 -- the step of a loop over widths
-pub wider_more : (totals : List Total) (widths : List ℕ) (i d : ℕ) → i < length widths →
-    map (λ at. max at.1 (width_of (slice_get totals at.0))) (enumerate_from 0 (take (i + 1) widths))
-    ≡ map (λ at. max at.1 (width_of (slice_get totals at.0))) (enumerate_from 0 (take i widths)) ++ max (get_or widths i d) (width_of (slice_get totals i)) ∷ []
-wider_more totals widths i d small =
+pub wider_more : (totals : List Total) (widths : List ℕ) (i wide : ℕ) (made : List ℕ) → i < length widths → wide ≡ get_or widths i wide →
+    made ≡ map (λ at. max at.1 (width_of (slice_get totals at.0))) (enumerate_from 0 (take i widths)) →
+    made ++ max wide (width_of (slice_get totals i)) ∷ [] ≡ map (λ at. max at.1 (width_of (slice_get totals at.0))) (enumerate_from 0 (take (i + 1) widths))
+wider_more totals widths i wide made small is before =
     let wider = λ (at : ℕ × ℕ). max at.1 (width_of (slice_get totals at.0)) in
     let numbered : length (take i widths) ≡ i = grind (arith, length-take) in
-    ap (λ l. map wider (enumerate_from 0 l)) (take_more widths i d small)
-    ∙ ap (map wider) (enumerate_more 0 (take i widths) (get_or widths i d))
-    ∙ map-append wider (enumerate_from 0 (take i widths)) ((length (take i widths), get_or widths i d) ∷ [])
-    ∙ ap (λ (k : ℕ). map wider (enumerate_from 0 (take i widths)) ++ max (get_or widths i d) (width_of (slice_get totals k)) ∷ []) numbered
+    ap (λ l. l ++ max wide (width_of (slice_get totals i)) ∷ []) before
+    ∙ sym (ap (λ l. map wider (enumerate_from 0 l)) (take_more widths i wide small ∙ ap (λ (y : ℕ). take i widths ++ y ∷ []) (sym is))
+    ∙ ap (map wider) (enumerate_more 0 (take i widths) wide ∙ ap (λ (k : ℕ). enumerate_from 0 (take i widths) ++ (k, wide) ∷ []) (omega arith))
+    ∙ map-append wider (enumerate_from 0 (take i widths)) ((length (take i widths), wide) ∷ [])
+    ∙ ap (λ (k : ℕ). map wider (enumerate_from 0 (take i widths)) ++ max wide (width_of (slice_get totals k)) ∷ []) numbered)
