@@ -1,7 +1,6 @@
 -- What is read back of a report that was written as CSV.
-use Rattle.std.specs.Prelude.{◌≡◌, ◌≢◌, ℕ, List, [], ◌∷◌, map}
+use Rattle.std.specs.Prelude.{ℕ, List, []}
 use Rattle.std.specs.Fmt.{signed_decimal}
-use Rattle.std.specs.List.{All}
 use Rattle.csv.specs.Reading.{AreRecords, default_config, strip_bom}
 use Rattle.csv.specs.declared.parser.State.TheVariants as state
 use Rattle.cells.specs.declared.total.Total.{Total}

@@ -1,4 +1,4 @@
-use Rattle.std.proofs.Common.{◌≡◌, ◌∷◌, [], ◌++◌, ◌==◌, ◌∙◌, ap, sym, false, arith, rules}
+use Rattle.std.proofs.Common.{◌≡◌, ◌∷◌, [], ◌++◌, ◌==◌, ◌∙◌, ap, sym, false, rules}
 use Rattle.std.proofs.lemmas.Bool.Decides.{nat_tests}
 use Rattle.forms.specs.Tables.{without_end_blanks}
 use Rattle.forms.proofs.LinesLemmas.{blank_end, other_end}
