@@ -1,6 +1,6 @@
 //! JSON (RFC 8259): an array of the headings, and one of the values of each row, with no space and no line break.
-ghost use Rattle.std.specs.Prelude.{◌≡◌, ◌∷◌, [], ◌++◌, OnOk};
-ghost use Rattle.std.specs.List.{flat_map, join_by};
+ghost use Rattle.std.specs.Prelude.{◌≡◌, ◌∷◌, ◌++◌, OnOk};
+ghost use Rattle.std.specs.List.{flat_map};
 ghost use Rattle.forms.specs.Json.{json_byte, json_columns, json_row, json_string, json_value};
 
 use crate::escapes::push_shown_byte;

@@ -1,7 +1,7 @@
 //! A table for people: columns as wide as what stands in them, two blanks apart. A width counts characters.
 ghost use Rattle.std.specs.Prelude.{◌≡◌, ◌∷◌, [], ◌++◌, IfOk, OnOk, map, replicate};
 ghost use Rattle.std.specs.List.{flat_map};
-ghost use Rattle.forms.specs.Tables.{at_left, cell_of, cells_of, gapped, line, shown_text, table_header, table_row, without_end_blanks};
+ghost use Rattle.forms.specs.Tables.{at_left, cell_of, cells_of, gapped, shown_text, table_header, table_row, without_end_blanks};
 
 mod cell;
 mod widths;
