@@ -11,4 +11,4 @@ mod laws;
 pub mod table;
 
 pub use form::Form;
-pub use laws::{a_report_is_read_back, a_width_counts_characters};
+pub use laws::a_width_counts_characters;

@@ -15,7 +15,7 @@ use Rattle.cells.specs.declared.total.Total.{Total}
 use Rattle.cells.specs.declared.total.Total.TheVariants.{Null, Int, Text}
 use Rattle.forms.specs.Csv.{begins_with_bom, csv_field, csv_header, csv_row, doubled_byte, has_blank_end, in_quotes, is_lone_null, is_mark, needs_quotes, text_field}
 use Rattle.forms.specs.Forms.{report_in}
-use Rattle.forms.specs.Reading.{Reads, field_of}
+use Rattle.read_back.specs.CsvReading.{Reads, field_of}
 use Rattle.forms.specs.declared.form.Form.TheVariants.{Csv}
 
 or_right : (a b : Bool) → (a || b) ≡ false → b ≡ false
