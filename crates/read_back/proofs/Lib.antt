@@ -1,0 +1,3 @@
+mod CsvLemmas
+mod JsonLemmas
+mod JsonStringsLemmas

@@ -1,0 +1,2 @@
+pub mod CsvReading
+pub mod JsonReading
