@@ -1,8 +1,8 @@
 //! Lists of parts, which workers read side by side.
-ghost use Rattle.std.specs.Prelude.{◌≡◌, ◌<◌, ◌≤◌, ℕ, IfOk, List, length, map, slice_index_or, sum_by};
-ghost use Rattle.std.specs.Borrow.{Bor};
+ghost use Rattle.std.specs.Prelude.{◌≡◌, ◌<◌, ◌≤◌, ◌+◌, ◌⊎◌, IfErr, IfOk, length, map, slice_index_or, sum_by};
 ghost use Rattle.std.specs.List.{AllZip};
 ghost use Rattle.cells.specs.CellOrder.{cell_cmp};
+ghost use Rattle.cells.specs.declared.refused.Refused.TheVariants as Refused;
 ghost use Rattle.crew.specs.Limits.{piece_limit};
 ghost use Rattle.crew.specs.Shares.{AreShared};
 ghost use Rattle.trie.specs.Maps.{map_of};
@@ -10,13 +10,16 @@ ghost use Rattle.loader.specs.Limits.{listed_limit};
 ghost use Rattle.loader.specs.Listed.{AreRead, IsFound, Lists};
 ghost use Rattle.loader.specs.Loads.{Loads};
 ghost use Rattle.loader.specs.Parts.{part_len, part_of, rows_of_parts};
+ghost use Rattle.loader.specs.Pieces.{records_before, rows_of_pieces};
+ghost use Rattle.loader.specs.declared.pieces.Piece.{Piece};
 ghost use Rattle.cells.specs.Tables.{AreRowsOf};
 
 use crate::fault::PartFault;
-use crate::part::{Content, read_part};
+use crate::part::{Content, Counted, read_piece};
+use crate::pieces::{Piece, piece_size, pieces_of};
 use crate::shares::Shares;
-use crate::tries::trie_of_shares;
-use cells::{Cell, KeyHash, Schema};
+use crate::tries::{Sources, trie_of_shares};
+use cells::{Cell, KeyHash, Refused, Schema};
 use columns::RowTrie;
 use crew::{Gate, Task, share_out};
 use std::alloc::{AllocError, Global};
@@ -57,39 +60,61 @@ pub fn load<H: KeyHash<Cell> + Send + Sync, G: Gate, R: Threads + Wait>(
     ensures fits { IfOk result (λ trie. AreRowsOf schema.now (map_of cell_cmp trie)) }
 {
     gate.loading(parts.len() as u64);
+    let pieces = pieces_of(alloc, parts, piece_size(parts, workers))?;
+    let given = read_all::<H, G, R>(rt, alloc, pieces.as_slice(), schema, workers, gate)?;
+    let found = in_order::<H>(alloc, pieces.as_slice(), schema, given)?;
+    let shares = rows_of::<H>(alloc, pieces.as_slice(), schema, found)?;
+    let sources = Sources {
+        parts: parts.len(),
+        pieces: pieces.len(),
+    };
+    trie_of_shares(rt, alloc, shares, sources, workers, gate)
+}
+
+/// What the workers found in all pieces, worker by worker.
+///
+/// [`Refused::NoWorker`] where a thread could not be started, otherwise [`Refused::OutOfMemory`] where there was no memory.
+fn read_all<'a, H: KeyHash<Cell> + Send + Sync, G: Gate, R: Threads + Wait>(
+    rt: &R,
+    alloc: Global,
+    pieces: &'a [Piece<'a>],
+    schema: &'a Schema,
+    workers: u64,
+    gate: &'a G,
+) -> Result<Vec<Vec<Found>>, Refused>
+    requires { length pieces.now ≤ piece_limit }
+    ensures shared { IfOk result (λ given. AreShared (λ places found. AllZip (IsFound H.hash_of schema.now pieces.now) places found.items) (length pieces.now) given.items) }
+    ensures refused { IfErr result (λ e. (e ≡ Refused.NoWorker) ⊎ (e ≡ Refused.OutOfMemory)) }
+{
     let reading = Reading {
-        parts,
+        pieces,
         schema,
         gate,
         hash: PhantomData::<H>,
     };
-    let given = share_out(rt, alloc, parts.len() as u64, workers, &reading)?;
-    let found = in_order::<H>(alloc, parts, schema, given)?;
-    let shares = rows_of::<H>(alloc, parts, schema, found)?;
-    trie_of_shares(rt, alloc, shares, parts.len(), workers, gate)
+    share_out(rt, alloc, pieces.len() as u64, workers, &reading)
 }
 
-/// The work on a list of parts: each worker reads those whose places it draws.
+/// The work on pieces of parts: each worker reads those whose places it draws.
 #[derive(Drop)]
 struct Reading<'a, G, H> {
-    parts: &'a [(u64, &'a [u8])],
+    pieces: &'a [Piece<'a>],
     schema: &'a Schema,
     gate: &'a G,
     hash: PhantomData<H>,
 }
 
 impl<'a, G, H> Reading<'a, G, H> {
-    /// The bytes of the part at the place.
-    fn bytes(&self, place: u64) -> &'a [u8]
-        requires { place < length self.now.parts.now }
-        ensures { (other : ℕ × Bor (List ℕ)) → result.now ≡ (slice_index_or self.now.parts.now place other).1.now }
+    /// The piece at the place.
+    fn piece(&self, place: u64) -> &'a Piece<'a>
+        requires { place < length self.now.pieces.now }
+        ensures { (other : Piece) → result.now ≡ slice_index_or self.now.pieces.now place other }
     {
-        let (_, bytes) = self.parts[place as usize];
-        bytes
+        &self.pieces[place as usize]
     }
 }
 
-/// What was found at a place of the list.
+/// What was found at a place of the pieces.
 #[derive(Drop)]
 struct Found {
     place: u64,
@@ -97,34 +122,34 @@ struct Found {
 }
 
 impl<'a, G: Gate, H: KeyHash<Cell> + Send + Sync> Task for Reading<'a, G, H> {
-    ghost use Rattle.std.specs.Prelude.{length, map};
+    ghost use Rattle.std.specs.Prelude.{length};
     ghost use Rattle.std.specs.List.{AllZip};
     ghost use Rattle.loader.specs.Listed.{IsFound};
-    ghost use Rattle.loader.specs.Parts.{part_of};
 
     type Made = Vec<Found>;
 
-    ghost count = { λ task. length task.parts.now };
+    ghost count = { λ task. length task.pieces.now };
 
-    ghost makes = { λ task places made. AllZip (IsFound H.hash_of task.schema.now (map part_of task.parts.now)) places made.items };
+    ghost makes = { λ task places made. AllZip (IsFound H.hash_of task.schema.now task.pieces.now) places made.items };
 
     fn begin(&self, alloc: Global) -> Result<Vec<Found>, AllocError> {
         Ok(Vec::new(alloc))
     }
 
     fn take(&self, alloc: Global, made: &mut Vec<Found>, place: u64) -> Result<(), AllocError> {
-        self.gate.reading(place);
-        // A faulty record is a result as any other, so that the parts of all places are read.
-        let content = read_part::<H>(alloc, self.bytes(place), self.schema)?;
-        self.gate.read(place, records_in(&content));
+        let piece = self.piece(place);
+        self.gate.reading(piece.place);
+        // A faulty record is a result as any other, so that the pieces at all places are read.
+        let content = read_piece::<H>(alloc, piece, self.schema)?;
+        self.gate.read(piece.place, records_in(&content));
         Ok(made.push(Found { place, content })?)
     }
 }
 
-/// How many records of a part were read that are not faulty.
+/// How many records of a piece were read that are not faulty.
 fn records_in(content: &Content) -> u64 {
     match content {
-        Ok(rows) => rows.count(),
+        Ok(rows) => rows.count,
         Err(number) => number.saturating_sub(1),
     }
 }
@@ -132,12 +157,12 @@ fn records_in(content: &Content) -> u64 {
 /// What all workers found, in the order of the places.
 fn in_order<H: KeyHash<Cell>>(
     alloc: Global,
-    parts: &[(u64, &[u8])],
+    pieces: &[Piece<'_>],
     schema: &Schema,
     given: Vec<Vec<Found>>,
 ) -> Result<Vec<Found>, AllocError>
-    requires { AreShared (λ places found. AllZip (IsFound H.hash_of schema.now (map part_of parts.now)) places found.items) (length parts.now) given.items }
-    ensures { IfOk result (λ all. AreRead H.hash_of schema.now (map part_of parts.now) all.items) }
+    requires { AreShared (λ places found. AllZip (IsFound H.hash_of schema.now pieces.now) places found.items) (length pieces.now) given.items }
+    ensures { IfOk result (λ all. AreRead H.hash_of schema.now pieces.now all.items) }
 {
     let mut all = Vec::new(alloc);
     for mut found in given {
@@ -147,28 +172,52 @@ fn in_order<H: KeyHash<Cell>>(
     Ok(all)
 }
 
-/// The rows of all parts, those of one part behind those of another, or the first listed part that has a faulty record.
+/// The rows of all pieces, those of one piece behind those of another, or the first listed part that has a faulty record.
 fn rows_of<H: KeyHash<Cell>>(
     alloc: Global,
-    parts: &[(u64, &[u8])],
+    pieces: &[Piece<'_>],
     schema: &Schema,
     found: Vec<Found>,
 ) -> Result<Shares, PartFault>
-    requires { AreRead H.hash_of schema.now (map part_of parts.now) found.items }
-    ensures { Lists H.hash_of schema.now (rows_of_parts schema.now (map part_of parts.now)) result }
+    requires { AreRead H.hash_of schema.now pieces.now found.items }
+    ensures { Lists H.hash_of schema.now (rows_of_pieces schema.now 0 pieces.now) result }
 {
     let mut rows = Shares::new(alloc)?;
-    for (part, found) in parts.iter().zip(found) {
+    let mut count = 0;
+    for (piece, found) in pieces.iter().zip(found) {
         let Found { content, .. } = found;
+        let before = records_before(piece, count);
         match content {
-            Ok(more) => rows.append(more)?,
+            Ok(more) => {
+                let Counted { rows: more, count: own } = more;
+                count = sum_of(before, own)?;
+                rows.append(more)?;
+            }
             Err(number) => {
                 return Err(PartFault::Bad {
-                    part: part.0,
-                    entry: number,
+                    part: piece.part,
+                    entry: sum_of(before, number)?,
                 });
             }
         }
     }
     Ok(rows)
+}
+
+/// How many records stand behind the header and before this piece of a part, if so many stand there before the end of
+/// the piece that is listed before it.
+fn records_before(piece: &Piece<'_>, count: u64) -> u64
+    ensures { result ≡ records_before piece.now count }
+{
+    if piece.first { 0 } else { count }
+}
+
+/// The sum of two counts of records. No memory holds so many that they have none.
+fn sum_of(before: u64, own: u64) -> Result<u64, AllocError>
+    ensures { IfOk result (λ sum. sum ≡ before + own) }
+{
+    let Some(sum) = before.checked_add(own) else {
+        return Err(AllocError);
+    };
+    Ok(sum)
 }
