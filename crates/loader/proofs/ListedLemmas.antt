@@ -10,7 +10,7 @@ use Rattle.cells.specs.Values.{RowValue, Table}
 use Rattle.cells.specs.declared.cell.Cell.{Cell}
 use Rattle.trie.specs.Maps.{map_of}
 use Rattle.loader.specs.Tries.{HoldsShares}
-use Rattle.loader.specs.Listed.{AreRead, Lists}
+use Rattle.loader.specs.Listed.{AreRead}
 use Rattle.loader.specs.Loads.{Held, IsContent, IsRead, Loads}
 use Rattle.loader.specs.Parts.{FaultyRecord, and_parts}
 use Rattle.loader.specs.Pieces.{counted, numbered, records_before, rows_of_piece, rows_of_pieces}
@@ -19,7 +19,6 @@ use Rattle.loader.specs.declared.fault.PartFault.{PartFault}
 use Rattle.loader.specs.declared.fault.PartFault.TheVariants.{Bad, OutOfMemory, NoWorker}
 use Rattle.loader.specs.declared.loading.Found.{Found}
 use Rattle.loader.specs.declared.pieces.Piece.{Piece}
-use Rattle.loader.specs.declared.shares.Shares.{Shares}
 
 -- rows that were read, before those of the pieces that are left
 abbrev pub before : List RowValue → Result (List RowValue) FaultyRecord → Result (List RowValue) FaultyRecord
@@ -94,16 +93,6 @@ listed_end hash_of t said count left shares all none = record {
   spread = all.spread;
   fit = all.fit;
 }
-
--- what is listed of pieces is listed of their parts
-pub lists_same : (hash_of : Cell → ℕ) (t : Table) (said other : Result (List RowValue) FaultyRecord) (listed : Result Shares PartFault) → said ≡ other → Lists hash_of t said listed → Lists hash_of t other listed
-lists_same hash_of t said other listed same is = subst (λ o. Lists hash_of t o listed) same is
-
--- where the rows are not listed, they are not loaded
-pub not_listed : (hash_of : Cell → ℕ) (t : Table) (said : Result (List RowValue) FaultyRecord) (fault : PartFault) → Lists hash_of t said (Err fault) → Loads said (Err fault)
-not_listed hash_of t said (Bad part entry) is = is
-not_listed hash_of t said OutOfMemory is = tt
-not_listed hash_of t said NoWorker is = absurd is
 
 -- the trie of all rows
 module _ (hash_of : Cell → ℕ) (t : Table) (said : Result (List RowValue) FaultyRecord) (shares : List Pairs) (read : IsRead hash_of t said shares) where

@@ -1,8 +1,7 @@
 //! Lists of parts, which workers read side by side.
-ghost use Rattle.std.specs.Prelude.{◌≡◌, ◌<◌, ◌≤◌, ◌+◌, ◌⊎◌, IfErr, IfOk, length, map, slice_index_or, sum_by};
+ghost use Rattle.std.specs.Prelude.{◌≡◌, ◌<◌, ◌≤◌, ◌+◌, IfOk, length, map, slice_index_or, sum_by};
 ghost use Rattle.std.specs.List.{AllZip};
 ghost use Rattle.cells.specs.CellOrder.{cell_cmp};
-ghost use Rattle.cells.specs.declared.refused.Refused.TheVariants as Refused;
 ghost use Rattle.crew.specs.Limits.{piece_limit};
 ghost use Rattle.crew.specs.Shares.{AreShared};
 ghost use Rattle.trie.specs.Maps.{map_of};
@@ -19,7 +18,7 @@ use crate::part::{Content, Counted, read_piece};
 use crate::pieces::{Piece, piece_size, pieces_of};
 use crate::shares::Shares;
 use crate::tries::{Sources, trie_of_shares};
-use cells::{Cell, KeyHash, Refused, Schema};
+use cells::{Cell, KeyHash, Schema};
 use columns::RowTrie;
 use crew::{Gate, Task, share_out};
 use std::alloc::{AllocError, Global};
@@ -61,30 +60,25 @@ pub fn load<H: KeyHash<Cell> + Send + Sync, G: Gate, R: Threads + Wait>(
 {
     gate.loading(parts.len() as u64);
     let pieces = pieces_of(alloc, parts, piece_size(parts, workers))?;
-    let given = read_all::<H, G, R>(rt, alloc, pieces.as_slice(), schema, workers, gate)?;
-    let found = in_order::<H>(alloc, pieces.as_slice(), schema, given)?;
-    let shares = rows_of::<H>(alloc, pieces.as_slice(), schema, found)?;
-    let sources = Sources {
-        parts: parts.len(),
-        pieces: pieces.len(),
-    };
-    trie_of_shares(rt, alloc, shares, sources, workers, gate)
+    load_pieces(rt, alloc, parts.len(), pieces.as_slice(), schema, workers, gate)
 }
 
-/// What the workers found in all pieces, worker by worker.
+/// Loads the pieces of so many parts.
 ///
-/// [`Refused::NoWorker`] where a thread could not be started, otherwise [`Refused::OutOfMemory`] where there was no memory.
-fn read_all<'a, H: KeyHash<Cell> + Send + Sync, G: Gate, R: Threads + Wait>(
+/// [`PartFault::NoWorker`] where a thread could not be started, otherwise [`PartFault::OutOfMemory`] where there was no memory,
+/// otherwise [`PartFault::Bad`] with the first listed part that has a faulty record.
+fn load_pieces<'a, H: KeyHash<Cell> + Send + Sync, G: Gate, R: Threads + Wait>(
     rt: &R,
     alloc: Global,
+    parts: usize,
     pieces: &'a [Piece<'a>],
     schema: &'a Schema,
     workers: u64,
     gate: &'a G,
-) -> Result<Vec<Vec<Found>>, Refused>
+) -> Result<RowTrie<H>, PartFault>
     requires { length pieces.now ≤ piece_limit }
-    ensures shared { IfOk result (λ given. AreShared (λ places found. AllZip (IsFound H.hash_of schema.now pieces.now) places found.items) (length pieces.now) given.items) }
-    ensures refused { IfErr result (λ e. (e ≡ Refused.NoWorker) ⊎ (e ≡ Refused.OutOfMemory)) }
+    ensures loaded { Loads (rows_of_pieces schema.now 0 pieces.now) result }
+    ensures fits { IfOk result (λ trie. AreRowsOf schema.now (map_of cell_cmp trie)) }
 {
     let reading = Reading {
         pieces,
@@ -92,7 +86,14 @@ fn read_all<'a, H: KeyHash<Cell> + Send + Sync, G: Gate, R: Threads + Wait>(
         gate,
         hash: PhantomData::<H>,
     };
-    share_out(rt, alloc, pieces.len() as u64, workers, &reading)
+    let given = share_out(rt, alloc, pieces.len() as u64, workers, &reading)?;
+    let found = in_order::<H>(alloc, pieces, schema, given)?;
+    let shares = rows_of::<H>(alloc, pieces, schema, found)?;
+    let sources = Sources {
+        parts,
+        pieces: pieces.len(),
+    };
+    trie_of_shares(rt, alloc, shares, sources, workers, gate)
 }
 
 /// The work on pieces of parts: each worker reads those whose places it draws.

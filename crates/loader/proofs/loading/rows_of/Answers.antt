@@ -34,7 +34,7 @@ loop-piece-preserved g c =
     let read = subst (IsContent h t (rows_of_piece t piece)) c.in-Ok.is next.0 in
     record {
       listed = listed_more h t _ c.loop-piece.count _ piece (iter_rest (zip_first old)) (iter_rest (zip_first new)) (in_shares c.loop-piece.rows.shares.items) (lists c.in-Ok.more.rows.shares.items) (in_shares c.append.new.self.shares.items)
-          held.listed steps.0 read.read (omega (arith, c.in_ok-count.ensures, c.records_before-before.ensures, read.count)) (c.in_ok-append-in-Ok.ensures h);
+          held.listed steps.0 read.read (omega (arith, c.in_ok-count-in-Ok.ensures, c.records_before-before.ensures, read.count)) (c.in_ok-append-in-Ok.ensures h);
       read = next.1;
       counted = omega (arith, held.counted, ap length steps.1.0, steps.1.1);
     }

@@ -17,9 +17,9 @@ returns g c = λ places made.
     let place = c.args.place in
     let content = c.in_ok-content.content in
     let read : (other : Piece) → IsContent h t (rows_of_piece t (slice_index_or pieces place other)) content =
-    λ other. subst (λ piece. IsContent h t (rows_of_piece t piece) content) (c.piece.ensures other) c.in_ok-content.ensures in
+    λ other. subst (λ piece. IsContent h t (rows_of_piece t piece) content) (c.piece-piece.ensures other) c.in_ok-content.ensures in
     subst (AllZip (IsFound h t pieces) (places ++ place ∷ [])) (sym c.in_ok-push.ensures.items)
     (zip_more (IsFound h t pieces) places c.args.made.now.items place _ made (record { at = refl; reads = read }))
 
-pub piece-requires : goal.piece-requires
-piece-requires g c = at_last (λ n. n < length c.args.self.now.pieces.now) c.requires.places c.args.place c.requires.share.below
+pub piece-piece-requires : goal.piece-piece-requires
+piece-piece-requires g c = at_last (λ n. n < length c.args.self.now.pieces.now) c.requires.places c.args.place c.requires.share.below
