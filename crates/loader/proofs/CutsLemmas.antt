@@ -163,12 +163,12 @@ records_cut : (n : ℕ) (front : List ℕ) (s : State) (rest : List ℕ) → len
 records_cut zero front s rest short between cut = absurd (omega (arith, short))
 records_cut (suc n) front s rest short between cut = elim (met front s [] [] rest (holds_none s) cut) [
   | inl within ↦
-    (records_at-more s (front ++ rest) (within.read.0, within.read.1, within.read.2 ++ rest) between within.both).0
-    ∙ ap (λ (more : List (List (List ℕ))). within.read.0 ∷ more) (records_cut n within.read.2 within.read.1 rest (omega (arith, short, within.less)) within.between within.left)
-    ∙ ap (λ (records : List (List (List ℕ))). records ++ records_at st.StartRecord rest) (sym (records_at-more s front within.read between within.alone).0)
+      (records_at-more s (front ++ rest) (within.read.0, within.read.1, within.read.2 ++ rest) between within.both).0
+      ∙ ap (λ (more : List (List (List ℕ))). within.read.0 ∷ more) (records_cut n within.read.2 within.read.1 rest (omega (arith, short, within.less)) within.between within.left)
+      ∙ ap (λ (records : List (List (List ℕ))). records ++ records_at st.StartRecord rest) (sym (records_at-more s front within.read between within.alone).0)
   | inr behind ↦
-    same_next s st.StartRecord (front ++ rest) rest between refl (next_record default_config st.StartRecord [] [] rest) behind.both refl
-    ∙ ap (λ (records : List (List (List ℕ))). records ++ records_at st.StartRecord rest) (sym (records_at-end s front behind.alone))
+      same_next s st.StartRecord (front ++ rest) rest between refl (next_record default_config st.StartRecord [] [] rest) behind.both refl
+      ∙ ap (λ (records : List (List (List ℕ))). records ++ records_at st.StartRecord rest) (sym (records_at-end s front behind.alone))
 ]
 
 -- ---- byte order marks

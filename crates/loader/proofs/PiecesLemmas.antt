@@ -9,7 +9,7 @@ use Rattle.cells.specs.Records.{row_of}
 use Rattle.cells.specs.Values.{RowValue, Table}
 use Rattle.loader.specs.Cuts.{AreCut}
 use Rattle.loader.specs.Parts.{FaultyRecord, Part, and_parts, and_rows, is_header, part_of, rows_behind_header, rows_from, rows_of_part, rows_of_parts}
-use Rattle.loader.specs.Pieces.{ArePieces, IsInPieces, counted, labelled, numbered, rows_of_piece, rows_of_pieces}
+use Rattle.loader.specs.Pieces.{ArePieces, IsInPieces, counted, labelled, numbered, rows_of_pieces}
 use Rattle.loader.specs.Records.{records_of}
 use Rattle.loader.specs.declared.pieces.Piece.{Piece}
 use Rattle.loader.proofs.ListedLemmas.{zip_more}

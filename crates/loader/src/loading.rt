@@ -34,10 +34,12 @@ use std::thread::Threads;
 /// [`MAX_PIECES`](crew::MAX_PIECES) places in the list, with at most [`MAX_LISTED_BYTES`](crate::MAX_LISTED_BYTES) bytes
 /// together.
 ///
-/// As many workers as the smaller of `workers`, taken as 1 at least and [`MAX_SEATS`](crew::MAX_SEATS) at most, and the
-/// number of places read the parts, each worker in a thread of its own; what is read depends neither on their number nor
-/// on which worker reads which part. The gate is told of the list, and of each place before its part is read and after
-/// that. Where no record is faulty, a trie is then made of the rows, in two runs where there are two places or more, or in
+/// Several workers read a part in pieces where it has more than 2 MiB, and more than half of what is each worker's share of
+/// all bytes. Pieces end where records do, wherever quotes stand. Any other part is one piece, as each is for one worker. As
+/// many workers as the smaller of `workers`, taken as 1 at least and [`MAX_SEATS`](crew::MAX_SEATS) at most, and the number of
+/// pieces read these, each worker in a thread of its own; what is read depends neither on their number nor on which worker reads which
+/// piece. The gate is told of the list, and for each piece of the place of its part, before the piece is read and after
+/// that. Where no record is faulty, a trie is then made of the rows, in two runs where there are two pieces or more, or in
 /// as many as there are workers, if these are more. One worker makes one run after another; more of them make a run each,
 /// in threads of their own. The gate is told of the first run before it is made, as of place 0, and of the one in the
 /// middle, as of the middle of the list. This waits for all threads that it starts, however it ends.
@@ -60,7 +62,15 @@ pub fn load<H: KeyHash<Cell> + Send + Sync, G: Gate, R: Threads + Wait>(
 {
     gate.loading(parts.len() as u64);
     let pieces = pieces_of(alloc, parts, piece_size(parts, workers))?;
-    load_pieces(rt, alloc, parts.len(), pieces.as_slice(), schema, workers, gate)
+    load_pieces(
+        rt,
+        alloc,
+        parts.len(),
+        pieces.as_slice(),
+        schema,
+        workers,
+        gate,
+    )
 }
 
 /// Loads the pieces of so many parts.
@@ -189,10 +199,9 @@ fn rows_of<H: KeyHash<Cell>>(
         let Found { content, .. } = found;
         let before = records_before(piece, count);
         match content {
-            Ok(more) => {
-                let Counted { rows: more, count: own } = more;
-                count = sum_of(before, own)?;
-                rows.append(more)?;
+            Ok(own) => {
+                count = sum_of(before, own.count)?;
+                rows.append(own.rows)?;
             }
             Err(number) => {
                 return Err(PartFault::Bad {
@@ -205,8 +214,8 @@ fn rows_of<H: KeyHash<Cell>>(
     Ok(rows)
 }
 
-/// How many records stand behind the header and before this piece of a part, if so many stand there before the end of
-/// the piece that is listed before it.
+/// How many records stand behind the header of its part and before this piece, where so many stand there before the end of
+/// the piece in front of it.
 fn records_before(piece: &Piece<'_>, count: u64) -> u64
     ensures { result ≡ records_before piece.now count }
 {

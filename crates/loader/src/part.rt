@@ -1,4 +1,4 @@
-//! One part: a header, and a row for each record behind it.
+//! One part, or a piece of one: a header, if it is the first piece, and a row for each record behind it.
 ghost use Rattle.std.specs.Prelude.{◌+◌, ◌<◌, ◌^◌, length, IfOk};
 ghost use Rattle.loader.specs.Loads.{IsContent, ReadsPart};
 ghost use Rattle.loader.specs.Parts.{rows_from};
@@ -41,8 +41,8 @@ pub(crate) fn read_piece<H: KeyHash<Cell>>(
     }
 }
 
-/// Reads a part, or the first piece of one. Its first faulty record is record 0 where it has no record at all, or its first one is not the header;
-/// and else the first record behind it that spells no row of the schema.
+/// Reads a part, or the first piece of one. Its first faulty record is record 0 where it has no record at all, or its first
+/// one is not the header; and else the first record behind it that spells no row of the schema.
 ///
 /// The only error is that a growth was refused.
 fn read_part<H: KeyHash<Cell>>(

@@ -71,7 +71,11 @@ fn runs_of(
     ensures all { IfOk result (λ runs. flat_map (λ run. run.shares.items) runs.items ≡ shares.items) }
     ensures even { IfOk result (λ runs. AllByRecursion (λ run. length run.shares.items ≤ run_length sources.pieces workers (length shares.items)) runs.items) }
 {
-    let count = if sources.pieces < 2 { 1 } else { workers.max(2) };
+    let count = if sources.pieces < 2 {
+        1
+    } else {
+        workers.max(2)
+    };
     let most = shares.len().div_ceil(count).max(1);
     let mut runs = Vec::with_capacity(alloc, count)?;
     let mut left = shares;

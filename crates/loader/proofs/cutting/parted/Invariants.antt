@@ -1,4 +1,4 @@
-use Rattle.std.proofs.Common.{◌≡◌, ◌++◌, ◌<◌, ◌≤◌, ◌+◌, length, map}
+use Rattle.std.proofs.Common.{◌≡◌, ◌++◌, ◌≤◌, ◌+◌, length, map}
 use Rattle.std.specs.List.{flat_map}
 use Rattle.loader.specs.Records.{records_of}
 use Rattle.loader.proofs.cutting.parted.Given as goal

@@ -6,7 +6,7 @@ use Rattle.std.specs.Vec.Iter.{into_iter_items}
 use Rattle.loader.specs.Loads.{IsContent}
 use Rattle.loader.specs.Pieces.{rows_of_piece}
 use Rattle.loader.specs.Shares.{in_shares, lists}
-use Rattle.loader.proofs.ListedLemmas.{listed_end, listed_fault, listed_first, listed_more, none_left, read_next}
+use Rattle.loader.proofs.ListedLemmas.{listed_end, listed_first, listed_more, none_left, read_next}
 use Rattle.loader.proofs.loading.rows_of.Goals as goal
 
 pub loop-piece-init : goal.loop-piece-init
@@ -33,7 +33,7 @@ loop-piece-preserved g c =
     piece c.in-Some.found held.read steps.0 steps.1.0 in
     let read = subst (IsContent h t (rows_of_piece t piece)) c.in-Ok.is next.0 in
     record {
-      listed = listed_more h t _ c.loop-piece.count _ piece (iter_rest (zip_first old)) (iter_rest (zip_first new)) (in_shares c.loop-piece.rows.shares.items) (lists c.in-Ok.more.rows.shares.items) (in_shares c.append.new.self.shares.items)
+      listed = listed_more h t _ c.loop-piece.count _ piece (iter_rest (zip_first old)) (iter_rest (zip_first new)) (in_shares c.loop-piece.rows.shares.items) (lists c.in-Ok.own.rows.shares.items) (in_shares c.append.new.self.shares.items)
           held.listed steps.0 read.read (omega (arith, c.in_ok-count-in-Ok.ensures, c.records_before-before.ensures, read.count)) (c.in_ok-append-in-Ok.ensures h);
       read = next.1;
       counted = omega (arith, held.counted, ap length steps.1.0, steps.1.1);
