@@ -4,14 +4,14 @@ use Rattle.std.proofs.lemmas.Grind.{flat_map-append}
 use Rattle.std.proofs.lemmas.List.{append-nil, append_assoc, length-take-le, map-append, take-append-drop}
 use Rattle.std.specs.Borrow.{Bor}
 use Rattle.std.specs.List.{flat_map}
-use Rattle.std.specs.Prelude.{◌≡◌, ◌<◌, ◌≤◌, ◌++◌, ◌==◌, ⊤, ℕ, zero, suc, Bool, true, false, List, [], ◌∷◌, Option, Some, None, drop, get_or, length, map, not, take, if◌then◌else◌}
+use Rattle.std.specs.Prelude.{◌≡◌, ◌<◌, ◌≤◌, ◌++◌, ◌==◌, ⊤, ℕ, zero, suc, Bool, true, false, List, [], ◌∷◌, Option, Some, None, drop, length, map, not, take, if◌then◌else◌}
 use Rattle.csv.specs.Machine.{Read, next_record, step, is_end, ends_at_end, ends_with, after_end, in_field, start_field, start_record, fields_after, field_after}
 use Rattle.csv.specs.Reading.{default_config, is_bom, strip_bom}
 use Rattle.csv.specs.declared.parser.State.{State}
 use Rattle.csv.specs.declared.parser.State.TheVariants as st
 use Rattle.csv.specs.declared.parser.Action.{Action}
 use Rattle.csv.specs.declared.parser.Action.TheVariants as act
-use Rattle.loader.specs.Cuts.{AreCut, IsCut, state_after}
+use Rattle.loader.specs.Cuts.{IsCut, state_after}
 use Rattle.loader.specs.Records.{begins_plainly, records_at, records_of}
 use Rattle.loader.proofs.PlainLemmas.{no_mark}
 use Rattle.loader.proofs.RecordsLemmas.{records_at-end, records_at-more}
@@ -221,13 +221,3 @@ parted_more pieces new piece left rest at all cut pushed front back so_far =
     ∙ append_assoc old (records_of piece.now) (records_of rest)
     ∙ ap (λ (records : List (List (List ℕ))). old ++ records) (ap₂ (λ (a b : List ℕ). records_of a ++ records_of b) front back ∙ sym (cut_records left at cut))
     ∙ so_far
-
--- several pieces of which the first has a record
-pub cut_in_pieces : (bytes : List ℕ) (pieces : List (Bor (List ℕ))) → flat_map records_of (map (λ p. p.now) pieces) ≡ records_of bytes → 1 < length pieces →
-    ((other : Bor (List ℕ)) → records_of (get_or pieces 0 other).now ≡ [] → ⊥) → AreCut bytes (map (λ p. p.now) pieces)
-cut_in_pieces bytes [] records many begun = absurd (omega (arith, many))
-cut_in_pieces bytes (first ∷ later) records many begun = record { records = sym records; header = λ none. absurd (begun first none) }
-
--- the whole text as one piece
-pub cut_whole : (bytes : List ℕ) (pieces : List (List ℕ)) → pieces ≡ bytes ∷ [] → AreCut bytes pieces
-cut_whole bytes pieces is = subst (AreCut bytes) (sym is) (record { records = sym (append-nil (records_of bytes)); header = λ none. refl })

@@ -1,16 +1,19 @@
 -- Where texts end: behind a line feed where no quote is before it, and behind one byte more.
-use Rattle.std.proofs.Common.{refl, ap, sym, arith, ◌∙◌}
+use Rattle.std.proofs.Common.{refl, ap, ap₂, subst, sym, arith, ◌∙◌}
+use Rattle.std.proofs.Math.Seq.{drop-cons}
 use Rattle.std.proofs.lemmas.List.{length-take-le, take_more}
 use Rattle.std.specs.List.{list_any}
-use Rattle.std.specs.Prelude.{◌≡◌, ◌<◌, ◌≤◌, ◌+◌, ◌-◌, ◌++◌, ◌==◌, ◌&&◌, ⊤, ℕ, Bool, true, false, List, [], ◌∷◌, get_or, length, not, take, if◌then◌else◌}
+use Rattle.std.specs.Prelude.{◌≡◌, ◌<◌, ◌≤◌, ◌+◌, ◌-◌, ◌++◌, ◌==◌, ◌&&◌, ⊤, ℕ, Bool, true, false, List, [], ◌∷◌, drop, get_or, length, not, take, if◌then◌else◌}
 use Rattle.csv.specs.Machine.{step, ends_with, after_end, in_field, start_field, start_record}
 use Rattle.csv.specs.Reading.{default_config, is_bom, strip_bom}
 use Rattle.csv.specs.declared.parser.State.{State}
 use Rattle.csv.specs.declared.parser.State.TheVariants as st
 use Rattle.csv.specs.declared.parser.Action.{Action}
 use Rattle.csv.specs.declared.parser.Action.TheVariants as act
-use Rattle.loader.specs.Cuts.{IsCut, IsLineEnd, is_quote, state_after}
+use Rattle.loader.specs.Cuts.{IsCut, IsLineEnd, is_quote, is_start, state_after}
 use Rattle.loader.specs.Records.{begins_plainly}
+use mathlib.Core.Logic.{dite}
+use native.Mathlib.Decide.{ℕ_discrete}
 use Rattle.loader.proofs.CutsLemmas.{plain_unmarked, strip_bom-append}
 use Rattle.loader.proofs.PlainLemmas.{either_false}
 
@@ -138,3 +141,28 @@ line_cut bytes at line simple =
       between = ap (state_after st.StartRecord) (plain_unmarked (take at bytes) plain ∙ is) ∙ line_ends front st.StartRecord tt (ap (list_any is_quote) (sym is) ∙ none);
       plain = line.plain;
     }
+
+-- ---- the first of some places
+
+-- where a place is not so, the first one is behind it
+pub none_yet : (is : ℕ → Type 0) (from at : ℕ) → ((place : ℕ) → from ≤ place → place < at → is place → ⊥) → (from ≤ at → is at → ⊥) →
+    (place : ℕ) → from ≤ place → place < at + 1 → is place → ⊥
+none_yet is from at before here place above below so =
+    dite (ℕ_discrete place at)
+    (λ same. here (omega (arith, same, above)) (subst is same so))
+    (λ other. before place above (omega (arith, below, other)) so)
+
+start_is : (s : State) → s ≡ st.StartRecord → is_start s ≡ true
+start_is s is = ap is_start is
+
+plain_at : (bytes : List ℕ) (at : ℕ) → at < length bytes → begins_plainly (drop at bytes) ≡ not (get_or bytes at 0 == 239)
+plain_at bytes at within = ap begins_plainly (drop-cons bytes at 0 within)
+
+-- where a text stands that may not be cut before its next byte
+pub no_cut : (bytes : List ℕ) (at : ℕ) (s : State) → at < length bytes → s ≡ state_after st.StartRecord (strip_bom (take at bytes)) →
+    (is_start s && not (get_or bytes at 0 == 239)) ≡ false → IsCut bytes at → ⊥
+no_cut bytes at s within is not_so cut =
+    let between : is_start s ≡ true = start_is s (is ∙ cut.between) in
+    let plain : not (get_or bytes at 0 == 239) ≡ true = sym (plain_at bytes at within) ∙ cut.plain in
+    let never : true ≡ false = sym (ap₂ (λ (a b : Bool). a && b) between plain) ∙ not_so in
+    absurd (cc)

@@ -1,5 +1,5 @@
 -- Where a text of CSV may be cut, and pieces whose records are those of the text.
-use Rattle.std.specs.Prelude.{◌≡◌, ◌<◌, ◌≤◌, ◌-◌, ◌++◌, ◌==◌, Bool, true, ℕ, List, [], ◌∷◌, drop, get_or, length, take}
+use Rattle.std.specs.Prelude.{◌≡◌, ◌<◌, ◌≤◌, ◌-◌, ◌++◌, ◌==◌, Bool, true, false, ℕ, List, [], ◌∷◌, Option, Some, None, drop, get_or, length, take}
 use Rattle.std.specs.List.{flat_map}
 use Rattle.csv.specs.Machine.{step}
 use Rattle.csv.specs.Reading.{default_config, strip_bom}
@@ -26,6 +26,22 @@ pub record IsLineEnd (bytes : List ℕ) (at : ℕ) : Type 0 where
   pub within : at < length bytes
   pub feed : get_or bytes (at - 1) 0 ≡ 10
   pub plain : begins_plainly (drop at bytes) ≡ true
+
+-- the first place from this one on that is so, or that none is
+abbrev pub IsFirst : (ℕ → Type 0) → ℕ → Option ℕ → Type 0
+IsFirst is from None = (place : ℕ) → from ≤ place → is place → ⊥
+IsFirst is from (Some at) = (from ≤ at) × is at × ((place : ℕ) → from ≤ place → place < at → is place → ⊥)
+
+-- a record may begin at once
+abbrev pub is_start : State → Bool
+is_start st.StartRecord = true
+is_start st.StartField = false
+is_start st.InField = false
+is_start st.InQuoted = false
+is_start st.AfterQuote = false
+is_start st.InEscape = false
+is_start st.InComment = false
+is_start st.AfterCr = false
 
 abbrev pub is_quote : ℕ → Bool
 is_quote b = b == 34

@@ -1,12 +1,18 @@
 -- Pieces of parts: what they say of the rows of a part, and how they come of a list of parts.
-use Rattle.std.specs.Prelude.{◌≡◌, ◌+◌, Bool, true, false, ℕ, List, [], ◌∷◌, Result, Ok, Err, if◌then◌else◌, length, map}
+use Rattle.std.specs.Prelude.{◌≡◌, ◌+◌, ◌*◌, ◌/◌, Bool, true, false, ℕ, List, [], ◌∷◌, Result, Ok, Err, if◌then◌else◌, length, map, max, min, nat_lt}
 use Rattle.std.specs.Borrow.{Bor}
 use Rattle.std.specs.List.{AllZip, flat_map}
 use Rattle.cells.specs.Values.{RowValue, Table}
+use Rattle.crew.specs.Limits.{seat_limit}
 use Rattle.loader.specs.Cuts.{AreCut}
 use Rattle.loader.specs.Parts.{FaultyRecord, Part, and_parts, rows_from, rows_of_part}
 use Rattle.loader.specs.Records.{records_of}
 use Rattle.loader.specs.declared.pieces.Piece.{Piece}
+
+-- how many bytes the pieces of a list of so many are to have for so many workers: a quarter of a worker's share and a MiB at least. One
+-- worker alone reads parts as they are
+abbrev pub piece_size : ℕ → ℕ → ℕ
+piece_size bytes workers = if nat_lt workers 2 then 18446744073709551615 else max (bytes / (min workers seat_limit * 4)) 1048576
 
 -- the rows of a piece, or the number of its first faulty record, where a later piece has no header and its records are numbered
 -- from 1 on

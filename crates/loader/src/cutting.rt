@@ -1,9 +1,10 @@
 //! Texts cut at record ends.
-ghost use Rattle.std.specs.Prelude.{◌≡◌, ◌≢◌, ◌==◌, ◌≤◌, ◌&&◌, ◌∷◌, [], false, true, IfOk, IfSome, IsTrue, get_or, length, map, not, take};
+ghost use Rattle.std.specs.Prelude.{◌≡◌, ◌≢◌, ◌==◌, ◌≤◌, ◌&&◌, ◌/◌, ◌∷◌, [], ℕ, IfNone, IfOk, IfSome, get_or, length, map, not, take};
+ghost use Rattle.std.specs.Bool.{MatchBool};
 ghost use Rattle.std.specs.List.{flat_map, list_any};
 ghost use Rattle.csv.specs.Reading.{is_bom, strip_bom};
 ghost use Rattle.csv.specs.declared.parser.State.TheVariants as st;
-ghost use Rattle.loader.specs.Cuts.{AreCut, IsCut, IsLineEnd, is_quote, state_after};
+ghost use Rattle.loader.specs.Cuts.{AreCut, IsCut, IsFirst, IsLineEnd, is_quote, is_start, state_after};
 ghost use Rattle.loader.specs.Records.{begins_plainly, records_of};
 ghost use Rattle.loader.specs.States.{machine_state};
 
@@ -33,11 +34,12 @@ pub(crate) fn cut<'a>(
     ensures many { IfOk result (λ pieces. length pieces.items ≤ most) }
 {
     let pieces = parted(alloc, bytes, size, most)?;
-    if pieces.len() > 1 {
-        // A header is not sought behind a piece of empty lines.
-        if has_record(alloc, pieces[0])? {
-            return Ok(pieces);
-        }
+    if pieces.len() < 2 {
+        return Ok(pieces);
+    }
+    // A header is not sought behind a piece of empty lines.
+    if has_record(alloc, pieces[0])? {
+        return Ok(pieces);
     }
     whole(alloc, bytes)
 }
@@ -53,7 +55,7 @@ fn whole<'a>(alloc: Global, bytes: &'a [u8]) -> Result<Vec<&'a [u8]>, AllocError
 
 /// Whether the bytes have a record. The only error is that a growth was refused.
 fn has_record(alloc: Global, bytes: &[u8]) -> Result<bool, AllocError>
-    ensures { IfOk result (λ has. has ≡ true → records_of bytes.now ≢ []) }
+    ensures { IfOk result (λ has. MatchBool has (records_of bytes.now ≢ []) (records_of bytes.now ≡ [])) }
 {
     let mut records = Records::new(alloc, bytes);
     let mut record = ByteRecord::new(alloc);
@@ -72,6 +74,7 @@ fn parted<'a>(
     requires most { 1 ≤ most }
     ensures records { IfOk result (λ pieces. flat_map records_of (map (λ piece. piece.now) pieces.items) ≡ records_of bytes.entry.now) }
     ensures many { IfOk result (λ pieces. length pieces.items ≤ most) }
+    ensures some { IfOk result (λ pieces. 1 ≤ length pieces.items) }
 {
     let mut pieces = Vec::new(alloc);
     let mut left = bytes;
@@ -87,10 +90,12 @@ fn parted<'a>(
     Ok(pieces)
 }
 
-/// The first place at or behind `size` bytes at which bytes may be cut that are more than two such pieces.
+/// A place at or behind `size` bytes at which the bytes may be cut. None where there is none, or the bytes are no more than two
+/// such pieces.
 fn cut_place(bytes: &[u8], size: usize) -> Option<usize>
     requires { 3 ≤ size }
-    ensures { IfSome result (IsCut bytes.now) }
+    ensures cut { IfSome result (λ at. (size ≤ at) × IsCut bytes.now at) }
+    ensures none { IfNone result ((place : ℕ) → size ≤ place → IsCut bytes.now place → length bytes.now / 2 ≤ size) }
 {
     if bytes.len() / 2 <= size {
         return None;
@@ -107,7 +112,7 @@ fn cut_place(bytes: &[u8], size: usize) -> Option<usize>
 /// The first place at or behind `size` bytes at which a line begins, but not as a byte order mark does.
 fn line_end(bytes: &[u8], size: usize) -> Option<usize>
     requires { 3 ≤ size }
-    ensures { IfSome result (IsLineEnd bytes.now) }
+    ensures { IsFirst (IsLineEnd bytes.now) size result }
 {
     for at in size..bytes.len() {
         if bytes[at - 1] == FEED {
@@ -141,7 +146,7 @@ fn has_quote(bytes: &[u8]) -> bool
 fn record_end(bytes: &[u8], size: usize) -> Option<usize>
     requires size { 3 ≤ size }
     requires long { 3 ≤ length bytes.now }
-    ensures { IfSome result (IsCut bytes.now) }
+    ensures { IsFirst (IsCut bytes.now) size result }
 {
     let mut state = state_behind_mark(bytes);
     for at in MARK_LEN..bytes.len() {
@@ -157,7 +162,7 @@ fn record_end(bytes: &[u8], size: usize) -> Option<usize>
 
 /// Whether a text may be cut that stands so, before this byte.
 fn may_cut(state: State, next: u8) -> bool
-    ensures { result ≡ true → (machine_state state ≡ st.StartRecord) × ((next == 0xEF) ≡ false) }
+    ensures { result ≡ (is_start (machine_state state) && not (next == 0xEF)) }
 {
     match state {
         State::Between => next != MARK,

@@ -34,15 +34,16 @@ use std::thread::Threads;
 /// [`MAX_PIECES`](crew::MAX_PIECES) places in the list, with at most [`MAX_LISTED_BYTES`](crate::MAX_LISTED_BYTES) bytes
 /// together.
 ///
-/// Several workers read a part in pieces where it has more than 2 MiB, and more than half of what is each worker's share of
-/// all bytes. Pieces end where records do, wherever quotes stand. Any other part is one piece, as each is for one worker. As
-/// many workers as the smaller of `workers`, taken as 1 at least and [`MAX_SEATS`](crew::MAX_SEATS) at most, and the number of
-/// pieces read these, each worker in a thread of its own; what is read depends neither on their number nor on which worker reads which
-/// piece. The gate is told of the list, and for each piece of the place of its part, before the piece is read and after
-/// that. Where no record is faulty, a trie is then made of the rows, in two runs where there are two pieces or more, or in
-/// as many as there are workers, if these are more. One worker makes one run after another; more of them make a run each,
-/// in threads of their own. The gate is told of the first run before it is made, as of place 0, and of the one in the
-/// middle, as of the middle of the list. This waits for all threads that it starts, however it ends.
+/// Several workers read a part in pieces where it has more than 2 MiB, and more than half of what is each worker's
+/// share of all bytes. Pieces end where records do, wherever quotes stand. Any other part is one piece, as each is for
+/// one worker. As many workers as the smaller of `workers`, taken as 1 at least and [`MAX_SEATS`](crew::MAX_SEATS) at
+/// most, and the number of pieces read these, each worker in a thread of its own; what is read depends neither on their
+/// number nor on which worker reads which piece. The gate is told of the list, and for each piece of the place of its
+/// part, before the piece is read and after that. Where no record is faulty, a trie is then made of the rows, in two
+/// runs where there are two pieces or more, or in as many as there are workers, if these are more. One worker makes one
+/// run after another; more of them make a run each, in threads of their own. The gate is told of the first run before
+/// it is made, as of place 0, and of the one in the middle, as of the middle of the list. This waits for all threads
+/// that it starts, however it ends.
 ///
 /// [`PartFault::NoWorker`] where a thread could not be started; otherwise [`PartFault::OutOfMemory`] where there was no
 /// memory, here or for a worker; otherwise [`PartFault::Bad`] where a part has a faulty record, with the first listed

@@ -1,8 +1,8 @@
 //! The pieces of a list of parts, which workers draw.
-ghost use Rattle.std.specs.Prelude.{◌≡◌, ◌≤◌, ◌++◌, ◌+◌, true, IfOk, OnOk, length, map};
+ghost use Rattle.std.specs.Prelude.{◌≡◌, ◌≤◌, ◌++◌, ◌-◌, ◌^◌, true, IfOk, OnOk, length, map, min, sum_by};
 ghost use Rattle.crew.specs.Limits.{piece_limit};
 ghost use Rattle.loader.specs.Parts.{part_of};
-ghost use Rattle.loader.specs.Pieces.{ArePieces, labelled};
+ghost use Rattle.loader.specs.Pieces.{ArePieces, labelled, piece_size};
 
 use crate::cutting::cut;
 use crew::{MAX_PIECES, MAX_SEATS};
@@ -74,9 +74,10 @@ fn push_all<'a>(
     Ok(())
 }
 
-/// How large the pieces of a list are to be for so many workers. One worker alone reads parts as they are.
+/// How many bytes the pieces of a list are to have for so many workers. One worker alone reads parts as they are.
 pub(crate) fn piece_size(parts: &[(u64, &[u8])], workers: u64) -> usize
-    ensures { 3 ≤ result }
+    ensures size { result ≡ piece_size (min (sum_by (λ part. length part.1.now) parts.now) (2 ^ 64 - 1)) workers }
+    ensures least { 3 ≤ result }
 {
     if workers < 2 {
         return usize::MAX;
@@ -86,7 +87,9 @@ pub(crate) fn piece_size(parts: &[(u64, &[u8])], workers: u64) -> usize
 }
 
 /// How many bytes the parts have together, up to the greatest number.
-fn listed_bytes(parts: &[(u64, &[u8])]) -> u64 {
+fn listed_bytes(parts: &[(u64, &[u8])]) -> u64
+    ensures { result ≡ min (sum_by (λ part. length part.1.now) parts.now) (2 ^ 64 - 1) }
+{
     let mut bytes = 0u64;
     for part in parts {
         bytes = bytes.saturating_add(part.1.len() as u64);

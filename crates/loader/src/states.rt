@@ -1,5 +1,5 @@
 //! Where a text of CSV stands behind some of its bytes, as the reader of records sees it.
-ghost use Rattle.std.specs.Prelude.{◌≡◌};
+ghost use Rattle.std.specs.Prelude.{◌≡◌, ◌<◌};
 ghost use Rattle.csv.specs.Machine.{in_field, start_field, start_record, step};
 ghost use Rattle.csv.specs.Reading.{default_config};
 ghost use Rattle.csv.specs.declared.parser.State.TheVariants as st;
@@ -7,6 +7,9 @@ ghost use Rattle.loader.specs.States.{machine_state};
 
 /// The byte between two of which a field may stand.
 pub(crate) const QUOTE: u8 = b'"';
+
+/// The byte between two fields. It lies behind all others that end a field or a record.
+const COMMA: u8 = b',';
 
 /// A carriage return, which ends a record as a line feed does.
 const RETURN: u8 = b'\r';
@@ -33,7 +36,35 @@ pub(crate) enum State {
 
 impl State {
     /// Where the text stands behind one byte more.
+    #[inline]
     pub fn after(self, byte: u8) -> State
+        ensures { machine_state result ≡ (step default_config (machine_state self) byte).0 }
+    {
+        // Letters and digits, which most bytes are, lie behind all that end something.
+        if byte > COMMA {
+            return self.after_plain(byte);
+        }
+        self.after_any(byte)
+    }
+
+    /// The same, where the byte lies behind those that end something.
+    #[inline]
+    fn after_plain(self, byte: u8) -> State
+        requires { 44 < byte }
+        ensures { machine_state result ≡ (step default_config (machine_state self) byte).0 }
+    {
+        match self {
+            State::InQuotes => State::InQuotes,
+            State::Between => State::InField,
+            State::FieldStart => State::InField,
+            State::InField => State::InField,
+            State::AfterQuote => State::InField,
+            State::AfterReturn => State::InField,
+        }
+    }
+
+    /// The same for any byte.
+    fn after_any(self, byte: u8) -> State
         ensures { machine_state result ≡ (step default_config (machine_state self) byte).0 }
     {
         match self {
@@ -75,7 +106,7 @@ fn at_field(byte: u8) -> State
 fn in_field(byte: u8) -> State
     ensures { machine_state result ≡ (in_field default_config byte).0 }
 {
-    if byte == b',' {
+    if byte == COMMA {
         State::FieldStart
     } else if byte == RETURN {
         State::AfterReturn
