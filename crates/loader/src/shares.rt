@@ -43,17 +43,6 @@ impl Spread {
         self.shares[share].push((key, row))?;
         Ok(())
     }
-
-    /// How many rows there are, up to the greatest number.
-    pub fn count(&self) -> u64
-        ensures { result ≡ min (sum_by (λ rows. length rows.items) self.now.shares.items) (2 ^ 64 - 1) }
-    {
-        let mut count = 0u64;
-        for rows in self.shares.as_slice() {
-            count = count.saturating_add(rows.len() as u64);
-        }
-        count
-    }
 }
 
 /// The rows of parts, spread over the shares. Those of each part stay in the lists into which they were read.
