@@ -208,12 +208,22 @@ impl<H: KeyHash<Cell>> CellList<H> {
         let Some(cell) = self.cells.get(index) else {
             return;
         };
-        let Err(slot) = self.code_or_slot(cell) else {
-            return;
-        };
+        let slot = self.free_slot(cell);
         if let Ok(code) = u32::try_from(index) {
             self.hint(slot, code);
         }
+    }
+
+    /// The slot for the hint of a cell that has none. Nothing rests on it.
+    fn free_slot(&self, cell: &Cell) -> usize {
+        let mut slot = self.first_slot(cell);
+        for _probe in 0..PROBES {
+            if self.is_free(slot) {
+                return slot;
+            }
+            slot = slot.wrapping_add(1);
+        }
+        slot
     }
 
     /// Adds a cell.

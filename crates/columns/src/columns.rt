@@ -202,6 +202,10 @@ impl<H: KeyHash<Cell>> Visitor<Cell, Row> for Columns<H> {
         Ok(())
     }
 
+    fn looks(&self) -> bool {
+        self.columns.iter().any(|named| named.is_far())
+    }
+
     fn look(&mut self, row: &Row) {
         for place in 0..self.column_count() {
             self.look_at(place, row);

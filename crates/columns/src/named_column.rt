@@ -14,13 +14,17 @@ use std::sync::Wait;
 use std::sync::atomic::AtomicU64;
 use trie::{Beside, Piece, Visitor};
 
+/// Rows of more cells than these have them in a block of their own.
+const NEAR_CELLS: usize = 4;
+
 /// A column, and the index that it has in the rows.
 #[derive(Drop)]
 pub(crate) struct NamedColumn<H: KeyHash<Cell>> {
     pub index: usize,
     pub column: CodeColumn<H>,
-    // what was seen of cells that were looked at; nothing rests on it
-    seen: usize,
+    // how many cells the last row had, and what was seen of cells that were looked at; nothing rests on them
+    width: usize,
+    seen: u64,
 }
 
 impl<H: KeyHash<Cell>> Model for NamedColumn<H> {
@@ -44,6 +48,7 @@ impl<H: KeyHash<Cell>> NamedColumn<H> {
         NamedColumn {
             index,
             column: CodeColumn::new(alloc),
+            width: 0,
             seen: 0,
         }
     }
@@ -53,17 +58,23 @@ impl<H: KeyHash<Cell>> NamedColumn<H> {
         ensures { OnOk result (PutsFor (λ index. cells_at index (row.now ∷ [])) self.old self.new) }
     {
         let cell = row.cells().get(self.index).unwrap_or(&Cell::Null);
+        self.width = row.cells().len();
         self.column.push(cell)?;
         Ok(())
     }
 
-    /// Looks at the row's cell, so that it is fetched before it is taken.
+    /// Whether its cells are far from their rows, so that it pays to look at them before they are taken. Nothing rests on it.
+    pub fn is_far(&self) -> bool {
+        self.width > NEAR_CELLS || self.column.has_long_texts()
+    }
+
+    /// Looks at the row's cell. What is seen is kept, since a load of which nothing is kept would be left out.
     pub fn look_at(&mut self, row: &Row)
         ensures { self.new ≡ self.old }
     {
-        let cell = row.cells().get(self.index).unwrap_or(&Cell::Null);
-        // a load whose outcome nobody keeps would be left out
-        self.seen = self.seen.wrapping_add(usize::from(cell.is_null()));
+        if let Some(cell) = row.cells().get(self.index) {
+            self.seen = self.seen.wrapping_add(seen_of(cell));
+        }
     }
 
     /// Puts the cells of a piece's rows behind those that are there.
@@ -103,9 +114,18 @@ impl<H: KeyHash<Cell>> NamedColumn<H> {
         ensures index { IfOk result (λ n. n.0 ≡ self.0) }
         ensures puts { (more : List RowValue) → cells_of other.now ≡ cells_at self.0 more → IfOk result (PutsFor (λ index. cells_at index more) self) }
     {
-        let NamedColumn { index, mut column, seen } = self;
+        let NamedColumn {
+            index,
+            mut column,
+            ..
+        } = self;
         column.append(other)?;
-        Ok(NamedColumn { index, column, seen })
+        Ok(NamedColumn {
+            index,
+            column,
+            width: 0,
+            seen: 0,
+        })
     }
 }
 
@@ -122,7 +142,19 @@ impl<H: KeyHash<Cell>> Visitor<Cell, Row> for NamedColumn<H> {
         self.take(row)
     }
 
+    fn looks(&self) -> bool {
+        self.is_far()
+    }
+
     fn look(&mut self, row: &Row) {
         self.look_at(row);
+    }
+}
+
+/// Some number that can't be told before the cell was read, and the bytes of a text.
+fn seen_of(cell: &Cell) -> u64 {
+    match cell {
+        Cell::Text(text) => u64::from(text.as_bytes().last().copied().unwrap_or(0)),
+        other => u64::from(other.is_null()),
     }
 }

@@ -34,8 +34,7 @@ fn bytes_hash(bytes: &[u8]) -> u64 {
 /// Fewer than eight bytes as a word.
 fn few_bytes(bytes: &[u8]) -> u64 {
     if let (Some(first), Some(last)) = (bytes.first_chunk::<4>(), bytes.last_chunk::<4>()) {
-        return (u64::from(u32::from_le_bytes(*first)) << 32)
-            | u64::from(u32::from_le_bytes(*last));
+        return (u64::from(u32::from_le_bytes(*first)) << 32) | u64::from(u32::from_le_bytes(*last));
     }
     bytes
         .iter()

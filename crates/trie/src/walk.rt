@@ -23,12 +23,16 @@ pub trait Visitor<K, V> {
         requires { asks self.old key.now value.now }
         ensures { OnOk result (takes self.old key.now value.now self.new) };
 
-    /// Looks at a value that it may be lent soon. A visitor whose visits wait for memory reads here what they read first, so
-    /// that such loads wait side by side. Contracts see no change of it.
+    /// Whether it pays to look at values before they are lent. It is asked at each branch anew. Nothing rests on it.
+    fn looks(&self) -> bool {
+        false
+    }
+
+    /// Looks at a value that it may be lent soon: reads what a visit would wait for, so that the processor fetches it for several
+    /// values side by side. Contracts see no change of the visitor.
     fn look(&mut self, _value: &V)
         ensures { self.new ≡ self.old }
-    {
-    }
+    {}
 }
 
 /// Lends the entries of the node, in digit order.
@@ -74,13 +78,14 @@ fn walk_pairs<K, V, W: Visitor<K, V>>(
     Ok(())
 }
 
-/// Lets the visitor look at the leaves of those of these nodes that are branches: some dozens where hashes spread evenly.
-fn look_below<K, V, S: Beside<K, V>, W: Visitor<K, V>>(
-    nodes: &Vec<Node<K, V, S>>,
-    visitor: &mut W,
-)
+/// Lets the visitor look at the leaves of those of these nodes that are branches, if it looks: some dozens where hashes spread
+/// evenly.
+fn look_below<K, V, S: Beside<K, V>, W: Visitor<K, V>>(nodes: &Vec<Node<K, V, S>>, visitor: &mut W)
     ensures { visitor.new ≡ visitor.old }
 {
+    if !visitor.looks() {
+        return;
+    }
     for node in nodes {
         if let Node::Inner(inner) = node {
             if let Inner::Branch { children, .. } = &**inner {
