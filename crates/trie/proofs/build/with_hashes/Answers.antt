@@ -20,3 +20,9 @@ loop-pair-preserved g c =
           (All-push (λ one. one.hash ≡ g.H.KeyHash.hash_of one.pair.0) _ _ c.loop-pair.invariant.hashed c.hash-hash.ensures);
       small = rw c.in_ok-push.ensures.items (All-push (λ one. one.hash < 2 ^ 64) _ _ c.loop-pair.invariant.small small);
     }
+
+pub returns-clause-hashed : goal.returns-clause-hashed
+returns-clause-hashed g c = c.loop-pair.invariant.hashed
+
+pub returns-clause-small : goal.returns-clause-small
+returns-clause-small g c = c.loop-pair.invariant.small
