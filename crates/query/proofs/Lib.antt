@@ -7,6 +7,7 @@ pub mod HeadingsLemmas
 pub mod ResolvingLemmas
 pub mod TruthLemmas
 pub mod ShortLemmas
+pub mod TakenLemmas
 pub mod Trees
 pub mod Lists
 pub mod PhrasesLemmas
