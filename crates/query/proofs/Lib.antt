@@ -7,6 +7,7 @@ pub mod HeadingsLemmas
 pub mod ResolvingLemmas
 pub mod TruthLemmas
 pub mod ShortLemmas
+pub mod TakenLemmas
 pub mod Trees
 pub mod Lists
 pub mod PhrasesLemmas
@@ -21,5 +22,6 @@ pub mod DepthLemmas
 pub mod Faults
 pub mod Decisions
 pub mod Shorter
+pub mod RestsLemmas
 pub mod Deciding
 pub mod QueriesLaws

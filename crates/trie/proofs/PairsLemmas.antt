@@ -1,5 +1,5 @@
 -- Pairs that are laid over entries one after another.
-use Rattle.std.proofs.Common.{◌≡◌, ℕ, ◌+◌, ◌<◌, ◌≤◌, Bool, true, false, cond, Some, None, List, [], ◌∷◌, length, map, refl, sym, ap, ◌∙◌, arith, inl, inr}
+use Rattle.std.proofs.Common.{◌≡◌, ℕ, ◌+◌, ◌<◌, ◌≤◌, Bool, true, false, cond, Some, None, List, [], ◌∷◌, drop, get_or, length, map, refl, sym, ap, ◌∙◌, arith, inl, inr}
 use Rattle.std.specs.Cmp.{IsTotalOrder}
 use Rattle.std.specs.FinMap.{IsAntisymmetric, insert}
 use Rattle.std.specs.List.{All, AllByRecursion, filter, fold}
@@ -9,7 +9,9 @@ use Rattle.std.specs.declared.cmp.Ordering.{Ordering}
 use Rattle.std.specs.declared.cmp.Ordering.TheVariants.{Less, Equal, Greater}
 use Rattle.std.proofs.lemmas.Bool.{cases_Bool}
 use Rattle.std.proofs.lemmas.Cmp.{alike_right, tied_itself}
+use Rattle.std.proofs.lemmas.List.{at_drop_all, at_drop_more}
 use Rattle.std.proofs.lemmas.List.Elements.{All-head, All-tail}
+use Rattle.trie.specs.Building.{OwnedPair, pair_in, pairs_in}
 use Rattle.trie.specs.Digits.{digit_order}
 use Rattle.trie.specs.Entries.{entry_at, IsRising, with_pair, with_pairs}
 use Rattle.trie.specs.Maps.{map_of}
@@ -171,3 +173,16 @@ module _ {X K V : Type 0} (pair : X → K × V) (R : K → K → Ordering) (tota
     found_kept (x ∷ xs) all es fs same =
         found_more x (filter test xs) xs es fs (test x) (All-head P x xs all) refl same
         (λ es fs alike. found_kept xs (All-tail P x xs all) es fs alike)
+
+-- one pair more of a list is laid over what is held, and none is left
+module _ {K V : Type 0} (cmp : K → K → Ordering) (pairs : List (OwnedPair K V)) (k : ℕ) where
+  pub pair_laid : (one : OwnedPair K V) → k < length pairs → one ≡ get_or pairs k one → (held new : List (K × V)) (pair : K × V) → pair ≡ pair_in one →
+      new ≡ with_pair cmp pair.0 pair.1 held → (all : List (K × V)) → with_pairs cmp (pairs_in (drop k pairs)) held ≡ all →
+      with_pairs cmp (pairs_in (drop (k + 1) pairs)) new ≡ all
+  pair_laid one within is held new pair same laid all kept =
+      ap (λ h. with_pairs cmp (pairs_in (drop (k + 1) pairs)) h) (laid ∙ ap (λ p. with_pair cmp p.0 p.1 held) same)
+      ∙ ap (λ q. with_pairs cmp (pairs_in (q ∷ drop (k + 1) pairs)) held) is
+      ∙ sym (at_drop_more (λ l. with_pairs cmp (pairs_in l) held) pairs k one within) ∙ kept
+
+  pub pairs_laid : length pairs ≤ k → (held all : List (K × V)) → with_pairs cmp (pairs_in (drop k pairs)) held ≡ all → held ≡ all
+  pairs_laid end held all kept = sym (at_drop_all (λ l. with_pairs cmp (pairs_in l) held) pairs k end) ∙ kept

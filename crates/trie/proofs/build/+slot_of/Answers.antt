@@ -1,4 +1,5 @@
-use Rattle.std.proofs.Common.{◌≡◌, ◌+◌, ◌<◌, sym, arith, rules}
+use Rattle.std.proofs.Common.{◌≡◌, ◌+◌, ◌<◌, ap, length, sym, arith, rules}
+use Rattle.std.proofs.lemmas.List.{length-append}
 use Rattle.std.proofs.lemmas.Result.{IfOk-weaker}
 use Rattle.trie.specs.Building.{HaveOnePrefix, pairs_in}
 use Rattle.trie.specs.Dense.{slots_in}
@@ -98,3 +99,24 @@ returns g t c =
     (λ p made. branch_made g.H.KeyHash.hash_of g.K.Ord.cmp laws c.args.depth c.args.pairs.now c.requires.hashed low many
     c.loop-digit.made.bitmap c.loop-digit.made.children held.dense each (node_of p) made)
     c.branch_of.ensures.made
+
+pub digits_of-requires : goal.digits_of-requires
+digits_of-requires g t c = omega (arith, c.requires.low)
+
+pub next_run-requires-clause-depth : goal.next_run-requires-clause-depth
+next_run-requires-clause-depth g t c = omega (arith, c.requires.low)
+
+pub overflow_add-depth : goal.overflow_add-depth
+overflow_add-depth g t c = omega (arith, c.requires.low)
+
+pub grown-requires-clause-digit : goal.grown-requires-clause-digit
+grown-requires-clause-digit g t c = let is = c.in-Some-next_run.ensures in is.low
+
+pub grown-requires-clause-dense : goal.grown-requires-clause-dense
+grown-requires-clause-dense g t c = c.loop-digit.invariant.dense
+
+pub loop-digit-smaller : goal.loop-digit-smaller
+loop-digit-smaller g t c =
+    let run = c.in-Some-next_run.field-0 in
+    let is = c.in-Some-next_run.ensures in
+    omega (arith, ap length is.joined, length-append run.pairs.now run.rest.now, is.some)

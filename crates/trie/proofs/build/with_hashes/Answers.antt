@@ -1,4 +1,6 @@
-use Rattle.std.proofs.Common.{◌≡◌, ◌<◌, ◌^◌, arith}
+use Rattle.std.proofs.Common.{◌≡◌, ◌<◌, ◌^◌, ◌++◌, ◌∙◌, ap, append-nil, arith, sym}
+use Rattle.std.proofs.lemmas.List.{nil_from_length}
+use Rattle.trie.specs.Building.{hashed_pairs}
 use Rattle.std.proofs.lemmas.Grind.{common_steps}
 use Rattle.std.proofs.lemmas.List.Elements.{All-nil, All-push}
 use Rattle.trie.proofs.build.with_hashes.Goals as goal
@@ -20,3 +22,14 @@ loop-pair-preserved g c =
           (All-push (λ one. one.hash ≡ g.H.KeyHash.hash_of one.pair.0) _ _ c.loop-pair.invariant.hashed c.hash-hash.ensures);
       small = rw c.in_ok-push.ensures.items (All-push (λ one. one.hash < 2 ^ 64) _ _ c.loop-pair.invariant.small small);
     }
+
+pub returns-clause-hashed : goal.returns-clause-hashed
+returns-clause-hashed g c = c.loop-pair.invariant.hashed
+
+pub returns-clause-small : goal.returns-clause-small
+returns-clause-small g c = c.loop-pair.invariant.small
+
+pub returns-clause-pairs : goal.returns-clause-pairs
+returns-clause-pairs g c =
+    let none = nil_from_length c.loop-pair.pair-iterator.rest.items (omega (arith, c.in-None.ensures.steps.0, c.loop-pair.pair-iterator.rest.ok.0)) in
+    sym (append-nil (hashed_pairs c.loop-pair.hashed.items)) ∙ ap (λ l. hashed_pairs c.loop-pair.hashed.items ++ l) (sym none) ∙ c.loop-pair.invariant.pairs

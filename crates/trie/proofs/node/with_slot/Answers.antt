@@ -33,3 +33,12 @@ returns-clause-held g c =
     c.requires.some c.total-len.result (c.total-len.ensures ∙ rw c.deref.ensures.value refl)
     (sym c.in_ok-only.ensures ∙ ap node_of c.in_default.is) c.in_ok-beside.beside c.in_ok-beside.ensures in
     IfOk-weaker c.make.result _ _ (λ n e. made (owned n) e) c.make.ensures.made
+
+pub written-requires-clause-digit : goal.written-requires-clause-digit
+written-requires-clause-digit g c = c.next.ensures.bound
+
+pub returns-clause-counted : goal.returns-clause-counted
+returns-clause-counted g c = c.make.ensures.counted
+
+pub returns-clause-grows : goal.returns-clause-grows
+returns-clause-grows g c = c.make.ensures.grows
