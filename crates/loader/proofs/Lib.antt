@@ -1,10 +1,13 @@
 pub mod CrossingLemmas
+pub mod CutsLemmas
+pub mod EndsLemmas
 pub mod FieldsLemmas
 pub mod HeaderLemmas
 pub mod LatestLemmas
 pub mod ListedLemmas
 pub mod OrderLemmas
 pub mod PartLemmas
+pub mod PiecesLemmas
 pub mod PlainLemmas
 pub mod PutsLemmas
 pub mod ReaderLemmas

@@ -1,6 +1,6 @@
 -- The rows of a part, one record after another.
 use Rattle.std.proofs.Common.{◌≡◌, ℕ, zero, suc, ◌+◌, ◌≤◌, Bool, true, false, Option, Some, None, List, [], ◌∷◌, ◌++◌, length, refl, ap, sym, subst, ◌∙◌, arith, append_assoc}
-use Rattle.std.proofs.lemmas.List.{append-nil, map-append}
+use Rattle.std.proofs.lemmas.List.{append-nil, length-append, map-append}
 use Rattle.std.specs.List.{AllByRecursion}
 use Rattle.std.specs.Prelude.{Result, Ok, Err, if◌then◌else◌}
 use Rattle.csv.specs.Machine.{Read, next_record}
@@ -12,10 +12,11 @@ use Rattle.cells.specs.Records.{row_of}
 use Rattle.cells.specs.Tables.{keyed_rows}
 use Rattle.cells.specs.Values.{RowValue, Table}
 use Rattle.cells.specs.declared.cell.Cell.{Cell}
-use Rattle.loader.specs.Loads.{Content, IsRead, IsContent}
+use Rattle.loader.specs.Loads.{AreCounted, Content, IsContent}
 use Rattle.loader.specs.Parts.{and_rows, is_header, rows_behind_header, rows_from}
 use Rattle.loader.specs.Records.{records_of}
-use Rattle.loader.specs.Shares.{AreSpread, Pairs}
+use Rattle.loader.specs.Shares.{AreSpread, Pairs, lists}
+use Rattle.loader.specs.declared.part.Counted.{Counted}
 
 -- rows that were read, before those of the records that are left
 abbrev pub behind : List RowValue → Result (List RowValue) ℕ → Result (List RowValue) ℕ
@@ -25,18 +26,19 @@ behind rs (Err number) = Err number
 -- what is said of all records is said of those left, behind the rows that were read, each beside its key, spread over shares
 pub record Reached (hash_of : Cell → ℕ) (t : Table) (said : Result (List RowValue) ℕ) (number : ℕ) (left : List (List (List ℕ))) (shares : List Pairs) : Type 0 where
   pub rs : List RowValue
+  pub counted : number ≡ length rs + 1
   pub spread : AreSpread hash_of (keyed_rows rs) shares
   pub fit : AllByRecursion (IsRowOf t) rs
   pub is : said ≡ behind rs (rows_from t number left)
 
-behind_none : (o : Result (List RowValue) ℕ) → o ≡ behind [] o
+pub behind_none : (o : Result (List RowValue) ℕ) → o ≡ behind [] o
 behind_none (Ok rs) = refl
 behind_none (Err number) = refl
 
 -- no record was read
 pub reached_first : (hash_of : Cell → ℕ) (t : Table) (records : List (List (List ℕ))) (shares : List Pairs) → AreSpread hash_of [] shares →
     Reached hash_of t (rows_from t 1 records) 1 records shares
-reached_first hash_of t records shares none = record { rs = []; spread = none; fit = tt; is = behind_none (rows_from t 1 records) }
+reached_first hash_of t records shares none = record { rs = []; counted = refl; spread = none; fit = tt; is = behind_none (rows_from t 1 records) }
 
 all_more : (t : Table) (rs : List RowValue) (row : RowValue) → AllByRecursion (IsRowOf t) rs → IsRowOf t row → AllByRecursion (IsRowOf t) (rs ++ row ∷ [])
 all_more t [] row fit more = (more, tt)
@@ -53,6 +55,7 @@ pub reached_more : (hash_of : Cell → ℕ) (t : Table) (said : Result (List Row
     ((pairs : List (Cell × RowValue)) → AreSpread hash_of pairs shares → AreSpread hash_of (pairs ++ (key, row) ∷ []) all) → Reached hash_of t said (number + 1) new all
 reached_more hash_of t said number old new fields row shares all reached took spelt fits key own more = record {
   rs = reached.rs ++ row ∷ [];
+  counted = omega (arith, reached.counted, length-append reached.rs (row ∷ []));
   spread = subst (λ pairs. AreSpread hash_of pairs all)
       (ap (λ k. keyed_rows reached.rs ++ (k, row) ∷ []) own ∙ sym (map-append (λ (r : RowValue). (r.key, r)) reached.rs (row ∷ [])))
       (more (keyed_rows reached.rs) reached.spread);
@@ -63,13 +66,16 @@ reached_more hash_of t said number old new fields row shares all reached took sp
 }
 
 -- all records were read
-pub reached_end : (hash_of : Cell → ℕ) (t : Table) (said : Result (List RowValue) ℕ) (number : ℕ) (left : List (List (List ℕ))) (shares : List Pairs) →
-    Reached hash_of t said number left shares → left ≡ [] → IsRead hash_of t said shares
-reached_end hash_of t said number left shares reached none = record {
-  rs = reached.rs;
-  is = reached.is ∙ ap (λ l. behind reached.rs (rows_from t number l)) none ∙ ap Ok (append-nil reached.rs);
-  spread = reached.spread;
-  fit = reached.fit;
+pub reached_end : (hash_of : Cell → ℕ) (t : Table) (said : Result (List RowValue) ℕ) (number : ℕ) (left : List (List (List ℕ))) (counted : Counted) →
+    Reached hash_of t said number left (lists counted.rows.shares.items) → left ≡ [] → counted.count + 1 ≡ number → AreCounted hash_of t said counted
+reached_end hash_of t said number left counted reached none many = record {
+  read = record {
+    rs = reached.rs;
+    is = reached.is ∙ ap (λ l. behind reached.rs (rows_from t number l)) none ∙ ap Ok (append-nil reached.rs);
+    spread = reached.spread;
+    fit = reached.fit;
+  };
+  count = omega (arith, many, reached.counted);
 }
 
 -- ---- the header
@@ -77,11 +83,14 @@ reached_end hash_of t said number left shares reached none = record {
 -- what is read behind the header is read from the whole part
 pub read_behind : (hash_of : Cell → ℕ) (t : Table) (header : List (List ℕ)) (later all : List (List (List ℕ))) (content : Content) → all ≡ header ∷ later →
     is_header t.columns header ≡ true → IsContent hash_of t (rows_from t 1 later) content → IsContent hash_of t (rows_behind_header t all) content
-read_behind hash_of t header later all (Ok shares) took is read = record {
-  rs = read.rs;
-  is = ap (rows_behind_header t) took ∙ ap (λ b. if b then rows_from t 1 later else Err 0) is ∙ read.is;
-  spread = read.spread;
-  fit = read.fit;
+read_behind hash_of t header later all (Ok counted) took is rows = record {
+  read = record {
+    rs = rows.read.rs;
+    is = ap (rows_behind_header t) took ∙ ap (λ b. if b then rows_from t 1 later else Err 0) is ∙ rows.read.is;
+    spread = rows.read.spread;
+    fit = rows.read.fit;
+  };
+  count = rows.count;
 }
 read_behind hash_of t header later all (Err number) took is read =
     ap (rows_behind_header t) took ∙ ap (λ b. if b then rows_from t 1 later else Err 0) is ∙ read
@@ -109,9 +118,13 @@ strip_bom_short (a ∷ []) = omega arith
 strip_bom_short (a ∷ b ∷ []) = omega arith
 strip_bom_short (a ∷ b ∷ c ∷ rest) = either_short (is_bom a b c) (a ∷ b ∷ c ∷ rest) rest (omega arith)
 
--- behind its first record a text has no more records than bytes
-pub few_behind : (bytes : List ℕ) (first : List (List ℕ)) (later : List (List (List ℕ))) → records_of bytes ≡ first ∷ later → length later ≤ length bytes
-few_behind bytes first later took =
+-- a text has no more records than bytes, and one
+pub few_records : (bytes : List ℕ) → length (records_of bytes) ≤ length bytes + 1
+few_records bytes =
     let some = records_from_few (length (strip_bom bytes) + 1) st.StartRecord (strip_bom bytes) in
     let short = strip_bom_short bytes in
-    omega (arith, some, short, ap length took)
+    omega (arith, some, short)
+
+-- behind its first record a text has no more records than bytes
+pub few_behind : (bytes : List ℕ) (first : List (List ℕ)) (later : List (List (List ℕ))) → records_of bytes ≡ first ∷ later → length later ≤ length bytes
+few_behind bytes first later took = let few = few_records bytes in omega (arith, few, ap length took)

@@ -85,7 +85,7 @@ behind p fields field c rest =
 abbrev whole : List (List ℕ) → Option Read
 whole fields = Some (fields, st.StartRecord, [])
 
-either_false : (b c : Bool) → b || c ≡ false → (b ≡ false) × (c ≡ false)
+pub either_false : (b c : Bool) → b || c ≡ false → (b ≡ false) × (c ≡ false)
 either_false true c e = cc
 either_false false c e = (refl, e)
 
@@ -120,7 +120,7 @@ first_plain c rest none =
     ∙ ap whole (led_by_none (c ∷ rest))
 
 -- a text that begins with another byte than a byte order mark has none
-no_mark : (b : ℕ) (bs : List ℕ) → (b == 0xEF) ≡ false → strip_bom (b ∷ bs) ≡ b ∷ bs
+pub no_mark : (b : ℕ) (bs : List ℕ) → (b == 0xEF) ≡ false → strip_bom (b ∷ bs) ≡ b ∷ bs
 unfolding strip_bom
 no_mark b [] e = refl
 no_mark b (c ∷ []) e = refl

@@ -1,7 +1,10 @@
+pub mod Cuts
 pub mod Limits
 pub mod Listed
 pub mod Loads
 pub mod Parts
+pub mod Pieces
 pub mod Records
 pub mod Shares
+pub mod States
 pub mod Tries

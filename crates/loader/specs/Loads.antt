@@ -1,5 +1,5 @@
 -- What is read from a part, what a trie holds, and what is loaded from a list of parts.
-use Rattle.std.specs.Prelude.{◌≡◌, ⊤, ℕ, List, Result, Ok, Err}
+use Rattle.std.specs.Prelude.{◌≡◌, ⊤, ℕ, List, Result, Ok, Err, length}
 use Rattle.std.specs.List.{AllByRecursion}
 use Rattle.cells.specs.CellOrder.{cell_cmp}
 use Rattle.cells.specs.Fitting.{IsRowOf}
@@ -14,7 +14,7 @@ use Rattle.loader.specs.Parts.{FaultyRecord, rows_of_part}
 use Rattle.loader.specs.Shares.{AreSpread, Pairs, lists}
 use Rattle.loader.specs.declared.fault.PartFault.{PartFault}
 use Rattle.loader.specs.declared.fault.PartFault.TheVariants.{Bad, OutOfMemory, NoWorker}
-use Rattle.loader.specs.declared.shares.Spread.{Spread}
+use Rattle.loader.specs.declared.part.Counted.{Counted}
 
 -- a trie of rows, as contracts see it: each row beside its key
 abbrev pub Held : Type 0
@@ -32,13 +32,18 @@ pub record IsRead {E : Type 0} (hash_of : Cell → ℕ) (t : Table) (said : Resu
   pub spread : AreSpread hash_of (keyed_rows rs) shares
   pub fit : AllByRecursion (IsRowOf t) rs
 
--- the rows of a part, spread over shares, or the number of its first faulty record
+-- these are the rows that are said, and so many
+pub record AreCounted (hash_of : Cell → ℕ) (t : Table) (said : Result (List RowValue) ℕ) (counted : Counted) : Type 0 where
+  pub read : IsRead hash_of t said (lists counted.rows.shares.items)
+  pub count : counted.count ≡ length read.rs
+
+-- the rows of a piece of a part, spread over shares, or the number of its first faulty record
 abbrev pub Content : Type 0
-Content = Result Spread ℕ
+Content = Result Counted ℕ
 
 -- the rows that are said, or the number of the faulty record that is said
 abbrev pub IsContent : (Cell → ℕ) → Table → Result (List RowValue) ℕ → Content → Type 0
-IsContent hash_of t said (Ok part) = IsRead hash_of t said (lists part.shares.items)
+IsContent hash_of t said (Ok counted) = AreCounted hash_of t said counted
 IsContent hash_of t said (Err number) = said ≡ Err number
 
 -- a part's rows, or the number of its first faulty record

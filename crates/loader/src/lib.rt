@@ -1,14 +1,17 @@
 //! CSV texts as rows of a table: the record of a `put` line, and whole parts, which workers read side by side.
 #![tactic(auto)]
 
+mod cutting;
 mod fault;
 mod header;
 mod limits;
 mod loading;
 mod part;
+mod pieces;
 mod plain;
 mod records;
 mod shares;
+mod states;
 mod tries;
 
 pub use fault::PartFault;

@@ -1,24 +1,51 @@
-//! One part: a header, and a row for each record behind it.
+//! One part, or a piece of one: a header, if it is the first piece, and a row for each record behind it.
 ghost use Rattle.std.specs.Prelude.{◌+◌, ◌<◌, ◌^◌, length, IfOk};
 ghost use Rattle.loader.specs.Loads.{IsContent, ReadsPart};
 ghost use Rattle.loader.specs.Parts.{rows_from};
+ghost use Rattle.loader.specs.Pieces.{rows_of_piece};
+ghost use Rattle.loader.specs.Records.{records_of};
 
 use crate::header::is_header;
+use crate::pieces::Piece;
 use crate::records::{Records, fields, read_row};
 use crate::shares::Spread;
 use cells::{Cell, KeyHash, Refused, Schema};
 use csv::ByteRecord;
 use std::alloc::{AllocError, Global};
 
-/// What a part holds: the rows of its records, each beside its key, spread over shares; or the number of its first faulty
-/// record, where the header is record 0.
-pub(crate) type Content = Result<Spread, u64>;
+/// Rows, each beside its key, spread over shares, and how many they are.
+#[derive(Drop)]
+pub(crate) struct Counted {
+    pub rows: Spread,
+    pub count: u64,
+}
 
-/// Reads a part. Its first faulty record is record 0 where it has no record at all, or its first one is not the header;
-/// and else the first record behind it that spells no row of the schema.
+/// What a piece of a part holds: the rows of its records, or the number of its first faulty record. Records are numbered
+/// from 1 on, and the header, which stands in the first piece alone, is record 0.
+pub(crate) type Content = Result<Counted, u64>;
+
+/// Reads a piece of a part: the first one as a part, and a later one as records with no header before them.
 ///
 /// The only error is that a growth was refused.
-pub(crate) fn read_part<H: KeyHash<Cell>>(
+pub(crate) fn read_piece<H: KeyHash<Cell>>(
+    alloc: Global,
+    piece: &Piece<'_>,
+    schema: &Schema,
+) -> Result<Content, AllocError>
+    ensures { IfOk result (IsContent H.hash_of schema.now (rows_of_piece schema.now piece.now)) }
+{
+    if piece.first {
+        read_part::<H>(alloc, piece.bytes, schema)
+    } else {
+        read_later::<H>(alloc, piece.bytes, schema)
+    }
+}
+
+/// Reads a part, or the first piece of one. Its first faulty record is record 0 where it has no record at all, or its first
+/// one is not the header; and else the first record behind it that spells no row of the schema.
+///
+/// The only error is that a growth was refused.
+fn read_part<H: KeyHash<Cell>>(
     alloc: Global,
     bytes: &[u8],
     schema: &Schema,
@@ -35,6 +62,17 @@ pub(crate) fn read_part<H: KeyHash<Cell>>(
         return Ok(Err(0));
     }
     read_rows::<H>(alloc, records, schema)
+}
+
+/// Reads records that stand behind others of their part, from 1 on.
+fn read_later<H: KeyHash<Cell>>(
+    alloc: Global,
+    bytes: &[u8],
+    schema: &Schema,
+) -> Result<Content, AllocError>
+    ensures { IfOk result (IsContent H.hash_of schema.now (rows_from schema.now 1 (records_of bytes.now))) }
+{
+    read_rows::<H>(alloc, Records::new(alloc, bytes), schema)
 }
 
 /// The rows of the records that are left, which are numbered from 1 on, or the number of the first faulty one.
@@ -59,5 +97,8 @@ fn read_rows<H: KeyHash<Cell>>(
         rows.push::<H>(key, row)?;
         number += 1;
     }
-    Ok(Ok(rows))
+    Ok(Ok(Counted {
+        rows,
+        count: number - 1,
+    }))
 }

@@ -11,7 +11,7 @@ use cells::{Refused, Row, RowReader, Schema};
 use std::alloc::Global;
 
 /// The first byte of a byte order mark.
-const MARK: u8 = 0xEF;
+pub(crate) const MARK: u8 = 0xEF;
 
 /// Whether the text is one record as it stands. It has bytes, no quote and no line end among them, and begins as no byte
 /// order mark does.

@@ -24,9 +24,16 @@ struct Run {
     place: Option<u64>,
 }
 
-/// The trie of the rows of so many parts, in which of the rows of a key the last one stands.
+/// Where rows come from: so many parts, which were read in so many pieces.
+#[derive(Clone, Copy)]
+pub(crate) struct Sources {
+    pub parts: usize,
+    pub pieces: usize,
+}
+
+/// The trie of the rows of parts, in which of the rows of a key the last one stands.
 ///
-/// The shares are cut into runs. Where there are two parts or more, there are as many runs as workers, and two at least:
+/// The shares are cut into runs. Where there are two pieces or more, there are as many runs as workers, and two at least:
 /// of the first the gate is told as of the place at which the list of parts begins, and of the one in the middle as of the
 /// list's middle. One worker makes one run after another, and more of them make a run each, at the same time.
 ///
@@ -36,7 +43,7 @@ pub(crate) fn trie_of_shares<H: KeyHash<Cell> + Send + Sync, G: Gate, R: Threads
     rt: &R,
     alloc: Global,
     shares: Shares,
-    parts: usize,
+    sources: Sources,
     workers: u64,
     gate: &G,
 ) -> Result<RowTrie<H>, PartFault>
@@ -44,8 +51,8 @@ pub(crate) fn trie_of_shares<H: KeyHash<Cell> + Send + Sync, G: Gate, R: Threads
     ensures refused { IfErr result (λ e. (e ≡ NoWorker) ⊎ (e ≡ OutOfMemory)) }
 {
     updates_make_a_map();
-    let workers = workers.min(parts as u64).min(SHARES as u64) as usize;
-    let runs = runs_of(alloc, shares.shares, parts, workers)?;
+    let workers = workers.min(sources.pieces as u64).min(SHARES as u64) as usize;
+    let runs = runs_of(alloc, shares.shares, sources, workers)?;
     if workers > 1 {
         side_by_side(rt, alloc, runs, gate)
     } else {
@@ -53,31 +60,35 @@ pub(crate) fn trie_of_shares<H: KeyHash<Cell> + Send + Sync, G: Gate, R: Threads
     }
 }
 
-/// The shares of so many parts, in their order, in runs for so many workers. Each run has as many shares as the first one,
-/// but for the last, which has what is left.
+/// The shares of rows from these sources, in their order, in runs for so many workers. Each run has as many shares as the
+/// first one, but for the last, which has what is left.
 fn runs_of(
     alloc: Global,
     shares: Vec<Share>,
-    parts: usize,
+    sources: Sources,
     workers: usize,
 ) -> Result<Vec<Run>, AllocError>
     ensures all { IfOk result (λ runs. flat_map (λ run. run.shares.items) runs.items ≡ shares.items) }
-    ensures even { IfOk result (λ runs. AllByRecursion (λ run. length run.shares.items ≤ run_length parts workers (length shares.items)) runs.items) }
+    ensures even { IfOk result (λ runs. AllByRecursion (λ run. length run.shares.items ≤ run_length sources.pieces workers (length shares.items)) runs.items) }
 {
-    let count = if parts < 2 { 1 } else { workers.max(2) };
+    let count = if sources.pieces < 2 {
+        1
+    } else {
+        workers.max(2)
+    };
     let most = shares.len().div_ceil(count).max(1);
     let mut runs = Vec::with_capacity(alloc, count)?;
     let mut left = shares;
     while left.len() > most {
         let rest = left.split_off(most)?;
-        let place = told_place(runs.len(), count, parts);
+        let place = told_place(runs.len(), count, sources.parts);
         runs.push(Run {
             shares: left,
             place,
         })?;
         left = rest;
     }
-    let place = told_place(runs.len(), count, parts);
+    let place = told_place(runs.len(), count, sources.parts);
     runs.push(Run {
         shares: left,
         place,
@@ -237,7 +248,7 @@ fn trie_of_run<H: KeyHash<Cell>, G: Gate>(
     Ok(all)
 }
 
-/// The rows of a share in one list, those of one part behind those of another.
+/// The rows of a share in one list, those of one piece behind those of another.
 fn rows_of(alloc: Global, share: Share) -> Result<KeyedRows, AllocError>
     ensures { IfOk result (λ rows. rows.items ≡ pairs_in share.items) }
 {

@@ -1,9 +1,8 @@
-use Rattle.std.proofs.Common.{◌≡◌, ◌++◌, ◌∙◌, [], ap, arith, map, rules, sym}
-use Rattle.std.proofs.lemmas.List.{append-nil, length-map, nil_from_length}
+use Rattle.std.proofs.Common.{◌≡◌, ◌++◌, ◌∙◌, [], ap, arith, refl, rules, sym}
+use Rattle.std.proofs.lemmas.List.{append-nil, nil_from_length}
 use Rattle.std.proofs.lemmas.List.Sorted.{IsNonDecreasingBy-from_sort_by_key}
 use Rattle.std.specs.List.{flat_map}
 use Rattle.std.specs.Vec.Iter.{into_iter_items}
-use Rattle.loader.specs.Parts.{part_of}
 use Rattle.loader.proofs.OrderLemmas.{place_of, read_in_order}
 use Rattle.loader.proofs.loading.in_order.Goals as goal
 
@@ -15,6 +14,6 @@ returns g c =
     let none : into_iter_items iterator ≡ [] = nil_from_length (into_iter_items iterator) (omega (arith, iterator.rest.ok, c.in-None.ensures.steps.0)) in
     let gathered : all ≡ flat_map (λ found. found.items) c.args.given.items =
     sym (ap (λ left. all ++ flat_map (λ found. found.items) left) none ∙ append-nil all) ∙ c.loop-found.invariant in
-    read_in_order g.H.KeyHash.hash_of c.args.schema.now (map part_of c.args.parts.now) _ c.args.given.items all c.sort_by_key.new.self.items c.requires
-    (sym (length-map c.args.parts.now part_of)) gathered made.permutation
+    read_in_order g.H.KeyHash.hash_of c.args.schema.now c.args.pieces.now _ c.args.given.items all c.sort_by_key.new.self.items c.requires
+    refl gathered made.permutation
     (IsNonDecreasingBy-from_sort_by_key place_of _ made.sorted (λ a r q k. search rules))

@@ -1,18 +1,13 @@
-use Rattle.std.proofs.Common.{map}
-use Rattle.std.proofs.lemmas.Result.{IfOk-weaker}
-use Rattle.loader.specs.Parts.{part_of, rows_of_parts}
-use Rattle.loader.specs.Shares.{in_shares}
-use Rattle.loader.proofs.ListedLemmas.{all_fit, all_loaded}
+use Rattle.std.proofs.Common.{ap, map, subst, ◌∙◌}
+use Rattle.loader.specs.Loads.{Loads}
+use Rattle.loader.specs.Parts.{part_of}
+use Rattle.loader.specs.Pieces.{rows_of_pieces}
+use Rattle.loader.proofs.PiecesLemmas.{pieces_say}
 use Rattle.loader.proofs.loading.load.Goals as goal
 
 pub returns-clause-loaded : goal.returns-clause-loaded
 returns-clause-loaded g c =
     let t = c.args.schema.now in
-    all_loaded g.H.KeyHash.hash_of t (rows_of_parts t (map part_of c.args.parts.now)) (in_shares c.in_ok-shares.shares.shares.items) c.in_ok-shares.ensures c.trie_of_shares.result
-    c.trie_of_shares.ensures.held c.trie_of_shares.ensures.refused
-
-pub returns-clause-fits : goal.returns-clause-fits
-returns-clause-fits g c =
-    let t = c.args.schema.now in
-    IfOk-weaker c.trie_of_shares.result _ _ (all_fit g.H.KeyHash.hash_of t (rows_of_parts t (map part_of c.args.parts.now)) (in_shares c.in_ok-shares.shares.shares.items) c.in_ok-shares.ensures)
-    c.trie_of_shares.ensures.held
+    subst (λ said. Loads said c.load_pieces.result)
+    (ap (rows_of_pieces t 0) c.as_slice.ensures.value ∙ pieces_say t (map part_of c.args.parts.now) c.in_ok-pieces.pieces.items c.in_ok-pieces.ensures.cut)
+    c.load_pieces.ensures.loaded

@@ -29,7 +29,7 @@ pub returns : goal.returns
 returns g c =
     let left : c.loop-record.records ≡ [] = search rules in
     reached_end g.H.KeyHash.hash_of c.args.schema.now (rows_from c.args.schema.now 1 c.args.records) c.loop-record.number c.loop-record.records
-    (lists c.loop-record.rows.shares.items) c.loop-record.invariant.reached left
+    _ c.loop-record.invariant.reached left (omega (arith, c.loop-record.invariant.reached.counted))
 
 pub push-requires : goal.push-requires
 push-requires g c = sym (length-map c.loop-record.rows.shares.items (λ list. list.items)) ∙ c.loop-record.invariant.reached.spread.many
