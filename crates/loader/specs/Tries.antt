@@ -28,10 +28,10 @@ HoldsShares hash_of shares held = (t : Table) (rs : List RowValue) → AreSpread
 abbrev pub IsLaidOver : Held → Held → Held → Type 0
 IsLaidOver first second both = map_of cell_cmp both ≡ laid_over (map_of cell_cmp second) (map_of cell_cmp first)
 
--- into how many runs shares may be cut: one of a single part, and else one for each worker, and two at least
+-- into how many runs shares may be cut: one of a single piece, and else one for each worker, and two at least
 abbrev pub run_limit : ℕ → ℕ → ℕ
-run_limit parts workers = if nat_lt parts 2 then 1 else max workers 2
+run_limit pieces workers = if nat_lt pieces 2 then 1 else max workers 2
 
 -- the most shares that a run has, so that no worker is left with much more than its part of them
 abbrev pub run_length : ℕ → ℕ → ℕ → ℕ
-run_length parts workers shares = max (div_ceil shares (run_limit parts workers)) 1
+run_length pieces workers shares = max (div_ceil shares (run_limit pieces workers)) 1

@@ -17,9 +17,9 @@ use std::alloc::{AllocError, Global};
 /// How many bytes a byte order mark has.
 const MARK_LEN: usize = 3;
 
-/// Cuts the bytes of a part into pieces of `size` bytes or somewhat more, and into `most` pieces at most. The records of the
-/// pieces, those of one behind those of another, are those of the part. Where there are several pieces, the first one has a
-/// record.
+/// Cuts the bytes of a part into pieces of `size` bytes or somewhat more, and into `most` pieces at most. The records
+/// of the pieces, those of one behind those of another, are those of the part. Where there are several pieces, the
+/// first one has a record.
 ///
 /// The only error is that a growth was refused.
 pub(crate) fn cut<'a>(
@@ -90,8 +90,8 @@ fn parted<'a>(
     Ok(pieces)
 }
 
-/// A place at or behind `size` bytes at which the bytes may be cut. None where there is none, or the bytes are no more than two
-/// such pieces.
+/// A place at or behind `size` bytes at which the bytes may be cut. None where there is none, or the bytes are no more
+/// than two such pieces.
 fn cut_place(bytes: &[u8], size: usize) -> Option<usize>
     requires { 3 ≤ size }
     ensures cut { IfSome result (λ at. (size ≤ at) × IsCut bytes.now at) }

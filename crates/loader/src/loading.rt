@@ -30,9 +30,9 @@ use std::thread::Threads;
 /// listed order, so that of a key's rows the last one stands.
 ///
 /// A part is a CSV text, with its number. Its first record is the header, the names of the schema's columns in their
-/// order and in whatever case; each record behind it spells a row. A part may be listed more than once. There are at most
-/// [`MAX_PIECES`](crew::MAX_PIECES) places in the list, with at most [`MAX_LISTED_BYTES`](crate::MAX_LISTED_BYTES) bytes
-/// together.
+/// order and in whatever case; each record behind it spells a row. A part may be listed more than once. There are at
+/// most [`MAX_PIECES`](crew::MAX_PIECES) places in the list, with at most [`MAX_LISTED_BYTES`](crate::MAX_LISTED_BYTES)
+/// bytes together.
 ///
 /// Several workers read a part in pieces where it has more than 2 MiB, and more than half of what is each worker's
 /// share of all bytes. Pieces end where records do, wherever quotes stand. Any other part is one piece, as each is for
@@ -76,8 +76,8 @@ pub fn load<H: KeyHash<Cell> + Send + Sync, G: Gate, R: Threads + Wait>(
 
 /// Loads the pieces of so many parts.
 ///
-/// [`PartFault::NoWorker`] where a thread could not be started, otherwise [`PartFault::OutOfMemory`] where there was no memory,
-/// otherwise [`PartFault::Bad`] with the first listed part that has a faulty record.
+/// [`PartFault::NoWorker`] where a thread could not be started, otherwise [`PartFault::OutOfMemory`] where there was no
+/// memory, otherwise [`PartFault::Bad`] with the first listed part that has a faulty record.
 fn load_pieces<'a, H: KeyHash<Cell> + Send + Sync, G: Gate, R: Threads + Wait>(
     rt: &R,
     alloc: Global,
@@ -184,7 +184,8 @@ fn in_order<H: KeyHash<Cell>>(
     Ok(all)
 }
 
-/// The rows of all pieces, those of one piece behind those of another, or the first listed part that has a faulty record.
+/// The rows of all pieces, those of one piece behind those of another, or the first listed part that has a faulty
+/// record.
 fn rows_of<H: KeyHash<Cell>>(
     alloc: Global,
     pieces: &[Piece<'_>],
@@ -215,8 +216,8 @@ fn rows_of<H: KeyHash<Cell>>(
     Ok(rows)
 }
 
-/// How many records stand behind the header of its part and before this piece, where so many stand there before the end of
-/// the piece in front of it.
+/// How many records stand behind the header of its part and before this piece, where so many stand there before the end
+/// of the piece in front of it.
 fn records_before(piece: &Piece<'_>, count: u64) -> u64
     ensures { result ≡ records_before piece.now count }
 {

@@ -11,8 +11,8 @@ use std::alloc::{AllocError, Global};
 /// The fewest bytes of a piece that is cut off. It takes longer to read so many than to draw a place.
 const LEAST_PIECE: u64 = 1_048_576;
 
-/// Into how many pieces for each worker a list is cut, if it is one large part. Workers that draw several small pieces are
-/// done at about the same time.
+/// Into how many pieces for each worker a list is cut, if it is one large part. Workers that draw several small pieces
+/// are done at about the same time.
 const PIECES_PER_WORKER: u64 = 4;
 
 /// A part, or a piece of one that is cut at record ends.
@@ -27,8 +27,8 @@ pub(crate) struct Piece<'a> {
     pub bytes: &'a [u8],
 }
 
-/// The pieces of the parts of a list, in their order, no more than workers may share out. A part is cut where it is larger than
-/// two pieces of this size.
+/// The pieces of the parts of a list, in their order, no more than workers may share out. A part is cut where it is
+/// larger than two pieces of this size.
 ///
 /// The only error is that a growth was refused.
 pub(crate) fn pieces_of<'a>(

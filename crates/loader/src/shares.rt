@@ -13,10 +13,10 @@ pub(crate) const SHARES: usize = 32;
 /// Rows, each beside its key.
 pub(crate) type KeyedRows = Vec<(Cell, Row)>;
 
-/// The rows of a share, in a list for each part that has been read.
+/// The rows of a share, in a list for each piece of a part that has been read.
 pub(crate) type Share = Vec<KeyedRows>;
 
-/// The rows of a part, spread over the shares. The hash of its key alone says in which share a row is, so all rows of a key
+/// The rows of a piece, spread over the shares. The hash of its key alone says in which share a row is, so all rows of a key
 /// are in one of them, in the order in which they were put.
 #[derive(Drop)]
 pub(crate) struct Spread {
@@ -45,7 +45,7 @@ impl Spread {
     }
 }
 
-/// The rows of parts, spread over the shares. Those of each part stay in the lists into which they were read.
+/// The rows of pieces, spread over the shares. Those of each piece stay in the lists into which they were read.
 #[derive(Drop)]
 pub(crate) struct Shares {
     pub shares: Vec<Share>,
@@ -61,7 +61,7 @@ impl Shares {
         })
     }
 
-    /// Puts the rows of a part behind those that are there.
+    /// Puts the rows of a piece behind those that are there.
     pub fn append(&mut self, part: Spread) -> Result<(), AllocError>
         requires old { length self.old.shares.items ≡ share_count }
         requires part { length part.shares.items ≡ share_count }

@@ -60,8 +60,8 @@ pub(crate) fn trie_of_shares<H: KeyHash<Cell> + Send + Sync, G: Gate, R: Threads
     }
 }
 
-/// The shares of rows from these sources, in their order, in runs for so many workers. Each run has as many shares as the first one,
-/// but for the last, which has what is left.
+/// The shares of rows from these sources, in their order, in runs for so many workers. Each run has as many shares as the
+/// first one, but for the last, which has what is left.
 fn runs_of(
     alloc: Global,
     shares: Vec<Share>,
@@ -248,7 +248,7 @@ fn trie_of_run<H: KeyHash<Cell>, G: Gate>(
     Ok(all)
 }
 
-/// The rows of a share in one list, those of one part behind those of another.
+/// The rows of a share in one list, those of one piece behind those of another.
 fn rows_of(alloc: Global, share: Share) -> Result<KeyedRows, AllocError>
     ensures { IfOk result (λ rows. rows.items ≡ pairs_in share.items) }
 {
