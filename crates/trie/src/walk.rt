@@ -83,7 +83,8 @@ fn walk_pairs<K, V, W: Visitor<K, V>>(
 fn look_below<K, V, S: Beside<K, V>, W: Visitor<K, V>>(nodes: &Vec<Node<K, V, S>>, visitor: &mut W)
     ensures { visitor.new ≡ visitor.old }
 {
-    if !visitor.looks() {
+    // Counting reads all of them side by side. The loop below can't: how it goes on depends on what it has read of each.
+    if !visitor.looks() || nodes.iter().filter(|node| begins_with_leaf(node)).count() == 0 {
         return;
     }
     for node in nodes {
@@ -106,5 +107,16 @@ fn look_at_leaves<K, V, S: Beside<K, V>, W: Visitor<K, V>>(
         if let Node::Leaf(pair) = node {
             visitor.look(&pair.1);
         }
+    }
+}
+
+/// Whether the node is a branch whose first child is a leaf.
+fn begins_with_leaf<K, V, S: Beside<K, V>>(node: &Node<K, V, S>) -> bool {
+    let Node::Inner(inner) = node else {
+        return false;
+    };
+    match &**inner {
+        Inner::Bucket(_) => false,
+        Inner::Branch { children, .. } => matches!(children.first(), Some(Node::Leaf(_))),
     }
 }
