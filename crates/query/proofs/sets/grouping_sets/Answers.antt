@@ -1,7 +1,5 @@
 use Rattle.query.specs.Sets.{grouping_sets}
-use Rattle.query.specs.Marks.{marked_from}
 use Rattle.query.proofs.MarksLemmas.{indexes_all}
-use Rattle.query.proofs.TakenLemmas.{map_taken}
 use Rattle.query.proofs.sets.grouping_sets.Goals as goal
 
 pub returns : goal.returns
