@@ -9,10 +9,12 @@ use Rattle.prepare.specs.Files.{Fields, records_of}
 use Rattle.prepare.specs.Parts.{IsPart, part_of}
 use Rattle.prepare.specs.Proposals.{AreTypes, HasNoKey, IsFirstKey, rows_of}
 use Rattle.prepare.specs.declared.choice.Choice.{Choice}
+use Rattle.prepare.specs.declared.choice.Chosen.{Chosen}
 use Rattle.prepare.specs.declared.part.MadePart.{MadePart}
-use Rattle.olap.specs.Proposals.{AreParts, AreTyped, IsCounted, IsOf, IsPartOf, IsProposed, IsTable, IsTyped, MadeOf, asked, counting_from, found, names_of, needed}
+use Rattle.olap.specs.Proposals.{AreOfFile, AreParts, AreTyped, AreWanted, IsCounted, IsOf, IsPartOf, IsProposed, IsTable, IsTyped, MadeOf, asked, counting_from, found, names_of, needed}
 use Rattle.olap.specs.declared.proposal.Proposal.{Proposal}
 use Rattle.olap.specs.declared.proposal.Typed.{Typed}
+use Rattle.olap.specs.declared.question.Wanted.{Wanted}
 
 abbrev Bytes : Type 0
 Bytes = Vec ℕ Global
@@ -116,3 +118,13 @@ counts choice files number with_number t p same is made = record {
   table = subst (λ (ch : Choice). IsTable ch files p) same (table_of with_number files t 0 p is made);
   key = made.key;
 }
+
+-- ---- what was asked for
+
+module _ (files : List (List ℕ)) (w : Wanted) (query : Option (List ℕ)) (columns : Vec Chosen Global) where
+  pub wanted_listed : (listed : Vec Chosen Global) → w.columns ≡ Some listed → columns ≡ listed → AreWanted files w query w.columns columns
+  wanted_listed listed given same = subst (λ (o : Option (Vec Chosen Global)). AreWanted files w query o columns) (sym given) same
+
+  pub wanted_of_file : (read : Vec Chosen Global) → w.columns ≡ None → columns ≡ read → AreOfFile files w.delimiter w.trims query read.items → AreWanted files w query w.columns columns
+  wanted_of_file read none same are = subst (λ (o : Option (Vec Chosen Global)). AreWanted files w query o columns) (sym none)
+      (subst (λ (cs : Vec Chosen Global). AreOfFile files w.delimiter w.trims query cs.items) (sym same) are)
