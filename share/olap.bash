@@ -5,7 +5,7 @@ _olap() {
     local options="--workers --depth --small --hash --rows --strict --explain --progress --help"
     COMPREPLY=()
     if ((COMP_CWORD == 1)); then
-        mapfile -t COMPREPLY < <(compgen -W "run live check help --help --version" -- "$word")
+        mapfile -t COMPREPLY < <(compgen -W "run live query schema check help --help --version" -- "$word")
         return
     fi
     # (the `=` of an option is a word of its own)
@@ -19,16 +19,18 @@ _olap() {
             mapfile -t COMPREPLY < <(compgen -W "fnv plain" -- "$word")
             return
             ;;
-        --workers | --depth | --small | --rows | --query | --viewers | --shots)
+        --workers | --depth | --small | --rows | --query | --viewers | --shots | --columns | --delimiter | --number | --null)
             return
             ;;
     esac
     case ${COMP_WORDS[1]} in
         help)
-            mapfile -t COMPREPLY < <(compgen -W "run live check language $(echo {1..15})" -- "$word")
+            mapfile -t COMPREPLY < <(compgen -W "run live query schema check language $(echo {1..15})" -- "$word")
             return
             ;;
         live) options+=" --query --viewers --shots" ;;
+        query) options="--columns --delimiter --number --null --trim --workers --rows --help" ;;
+        schema) options="--columns --delimiter --number --null --trim --help" ;;
         check) options="--help" ;;
         run) ;;
         *) return ;;

@@ -68,7 +68,7 @@ def page(word, begins, has=""):
 
 def none(word):
     """A word of which the manual has no page."""
-    there = "There is help of run, live, check and language, and of the numbers 1 to 15 and 90 to 93.\n"
+    there = "There is help of run, live, check, query, schema and language, and of the numbers 1 to 15 and 90 to 93.\n"
     return Case(f"help of {word!r}", ["help", word], errors=f"error: no help of '{word}'\n\n{there}", status=2)
 
 

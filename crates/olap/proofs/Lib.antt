@@ -1,3 +1,5 @@
 pub mod CommandLineLemmas
 pub mod FoldersLemmas
 pub mod ProgramLemmas
+pub mod ProposalsLemmas
+pub mod QuestionsLemmas

@@ -1,6 +1,7 @@
-//! What the first words of the command line ask for: a page of the manual, a check, or what `clap` reads.
+//! What the first words of the command line ask for: a page of the manual, a check, a query of files, or what `clap` reads.
 ghost use Rattle.std.specs.Prelude.{◌≡◌, ◌⊎◌};
 
+use crate::ask::{ask, show_schema};
 use crate::check::check_files;
 use crate::input::Folder;
 use crate::manual::{Topic, refuse_page, show, topic_of};
@@ -21,12 +22,16 @@ enum Asked<'w> {
     NoPage(&'w str),
     /// A look for faults in the files that these words name.
     Check(&'w [String]),
+    /// A query of files, of these words.
+    Query(&'w [String]),
+    /// The table that is proposed for a file, of these words.
+    Schema(&'w [String]),
     /// What `clap` reads: a run, or help of the commands.
     Command,
 }
 
 /// Does what the words after the program's name ask for, of which there is one at least, and gives the program's status: that
-/// of [`run_words`] for a command and of [`check_files`] for a check, and for the manual 0 where its page was written, 2 where it
+/// of [`run_words`] for a command, of [`check_files`] for a check and of [`ask`] for a query, and for the manual 0 where its page was written, 2 where it
 /// has no such page, and 3 where the page could not be written.
 pub fn answer<
     F: Folder,
@@ -40,6 +45,8 @@ pub fn answer<
         Asked::Page(topic) => show(topic.page(), out, err),
         Asked::NoPage(word) => refuse_page(word, err),
         Asked::Check(names) => check_files(rt, alloc, names, folder, err),
+        Asked::Query(words) => ask(rt, alloc, words, folder, out, err),
+        Asked::Schema(words) => show_schema(alloc, words, folder, out, err),
         Asked::Command => run_words(rt, alloc, words, folder, out, err).0,
     }
 }
@@ -52,6 +59,8 @@ fn asked_by(words: &[String]) -> Asked<'_> {
     match first.as_str() {
         "help" => asked_of_help(rest),
         "check" => asked_of_check(rest),
+        "query" => Asked::Query(rest),
+        "schema" => Asked::Schema(rest),
         _ => Asked::Command,
     }
 }

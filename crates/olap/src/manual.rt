@@ -16,17 +16,23 @@ pub enum Topic {
     Language,
     /// The command `check`.
     Check,
+    /// The command `query`.
+    Query,
+    /// The command `schema`.
+    Schema,
     /// A refusal.
     Refusal(Refused),
 }
 
-/// What the word after `help` names: `language`, `check`, or a refusal by its number. None where there is no such page.
+/// What the word after `help` names: `language`, `check`, `query`, `schema`, or a refusal by its number. None where there is no such page.
 pub fn topic_of(word: &str) -> Option<Topic>
     ensures { IfSome result (IsNamed word.now) }
 {
     match word {
         "language" => Some(Topic::Language),
         "check" => Some(Topic::Check),
+        "query" => Some(Topic::Query),
+        "schema" => Some(Topic::Schema),
         _ => {
             let refusal = refusal_of(whole_number_of(word)?)?;
             Some(Topic::Refusal(refusal))
@@ -68,6 +74,8 @@ impl Topic {
         match self {
             Topic::Language => pages::LANGUAGE,
             Topic::Check => pages::CHECK,
+            Topic::Query => pages::QUERY,
+            Topic::Schema => pages::SCHEMA,
             Topic::Refusal(refusal) => page_of(refusal),
         }
     }
@@ -115,7 +123,7 @@ pub fn refuse_page<E: Write>(word: &str, err: &mut E) -> u8
 {
     let _ = writeln!(
         err,
-        "error: no help of '{word}'\n\nThere is help of run, live, check and language, and of the numbers 1 to 15 and 90 to 93."
+        "error: no help of '{word}'\n\nThere is help of run, live, check, query, schema and language, and of the numbers 1 to 15 and 90 to 93."
     );
     NOTHING_RUN
 }

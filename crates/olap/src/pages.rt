@@ -206,3 +206,59 @@ pub const NOT_SHOWN: &str = "93
 
 The place of a viewer was refused, and the run ended early, with the status 3.
 ";
+
+pub const QUERY: &str = "Answers one query over CSV files
+
+Usage: olap query [OPTIONS] 'SELECT ..' FILE...
+
+The files are read as parts of one table. It has the name of the first file, in upper case and without its
+ending, where that is a name, else T; and the columns of the first header, in upper case and with _ for signs
+and blanks, so that `Order Date` is ORDER_DATE. A column is INT where each of its fields is empty or an integer
+of 64 bits, else TEXT. The key is the first column without an empty field in which no value comes twice; where
+there is none, a first column N counts the records. Of a file of more than 16 columns only those are read that
+the query names. `olap schema FILE` shows the table; `olap help language` tells of queries.
+
+Options:
+      --columns LIST   Columns by their names in the header, as A,B=Other Name, which the query calls A and B
+      --delimiter C    Character between two fields, or the word tab [default: ,]
+      --number N       Name of a first column that counts records, as the key
+      --null WORD      Word that stands for NULL, beside an empty field
+      --trim           Leave out white space at both ends of fields
+      --workers N      Workers, 1 to 64 [default: as many as processors]
+      --rows M         Most rows of the table, 1 to 4294967296 [default: 4294967296]
+  -h, --help           Print help
+
+Options may come before, between and after the names, and after the word -- all words are names.
+
+Example:
+  olap query 'SELECT REGION, COUNT(*), SUM(UNITS) FROM SALES GROUP BY REGION' sales.csv
+
+The answer is that of a report in a script. Standard error says why a query is refused, as `query:8: ..` by its
+columns, or a file, as `sales.csv:5: ..` by its lines.
+
+The status is 0 where the answer was written, 1 where the query or a file is refused, 2 where the words are
+refused or a file cannot be read, and 3 where the run ended early.
+";
+
+pub const SCHEMA: &str =
+    "Shows the table that `olap query` proposes for a CSV file, as a line for a script of one's own
+
+Usage: olap schema [OPTIONS] FILE
+
+A script can load the file as it is where its fields are separated by commas, and where the header has the
+names of the table; else the line tells how the file would be named and read.
+
+Options:
+      --columns LIST   Columns by their names in the header, as A,B=Other Name
+      --delimiter C    Character between two fields, or the word tab [default: ,]
+      --number N       Name of a first column that counts records, as the key
+      --null WORD      Word that stands for NULL, beside an empty field
+      --trim           Leave out white space at both ends of fields
+  -h, --help           Print help
+
+Example:
+  olap schema examples/loads.1.csv
+
+The status is 0 where the line was written, 1 where the file is refused, 2 where the words are refused or the
+file cannot be read, and 3 where memory was refused or the line could not be written.
+";

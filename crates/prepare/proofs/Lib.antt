@@ -1,8 +1,13 @@
 mod FieldsLemmas
 mod HeaderLemmas
+mod IntegersLemmas
+mod KeysLemmas
 mod LawsLemmas
+mod ListedLemmas
 mod PartLemmas
 mod ReaderLemmas
 mod RecordsLemmas
+mod RowsLemmas
 mod StatesLemmas
+mod TypesLemmas
 mod WordsLemmas

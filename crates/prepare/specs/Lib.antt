@@ -1,4 +1,6 @@
 pub mod Files
 pub mod Lines
+pub mod Listed
 pub mod Parts
+pub mod Proposals
 pub mod Words

@@ -1,5 +1,5 @@
 -- Names of a header as words of a table (ISO/IEC 9075-2:1999, 5.2: a name is a letter and then letters, digits and `_`).
-use Rattle.std.specs.Prelude.{Bool, ℕ, List, [], ◌∷◌, ◌++◌, ◌&&◌, bytes_eq, codes, false, map, if◌then◌else◌}
+use Rattle.std.specs.Prelude.{Bool, ℕ, List, [], ◌∷◌, ◌++◌, ◌&&◌, Option, Some, None, bytes_eq, codes, false, map, if◌then◌else◌}
 use Rattle.std.specs.Char.{to_ascii_uppercase}
 use Rattle.std.specs.Str.{is_utf8}
 use Rattle.cells.specs.Schemas.{is_reserved}
@@ -31,3 +31,7 @@ word_of name = apart (begun (map word_byte name))
 -- two names are one, in whatever case
 abbrev pub is_same_name : List ℕ → List ℕ → Bool
 is_same_name first second = bytes_eq (map to_ascii_uppercase first) (map to_ascii_uppercase second)
+
+-- a name is the word that it makes, in whatever case
+abbrev pub name_of : List ℕ → Option (List ℕ)
+name_of text = if is_same_name (word_of text) text then Some (word_of text) else None

@@ -4,16 +4,26 @@
 mod choice;
 mod fault;
 mod header;
+mod integers;
+mod keys;
+mod kinds;
 mod laws;
 mod lines;
+mod listed;
 mod part;
+mod place;
 mod record;
 mod records;
+mod rows;
 mod words;
 
 pub use choice::{Choice, Chosen};
 pub use fault::PrepareFault;
+pub use keys::key_of;
+pub use kinds::types_of;
 pub use laws::a_part_is_read_back;
+pub use listed::{ListFault, columns_of, first_again, header_of, listed_columns, named_columns};
 pub use part::{MadePart, prepared};
+pub use place::line_of;
 pub use records::Records;
-pub use words::word;
+pub use words::{name_of, word};

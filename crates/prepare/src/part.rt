@@ -49,7 +49,7 @@ pub fn prepared(alloc: Global, bytes: &[u8], choice: &Choice) -> Result<MadePart
 }
 
 /// The fields of a record.
-fn fields<'r>(alloc: Global, row: &'r ByteRecord) -> Result<Vec<&'r [u8]>, AllocError>
+pub(crate) fn fields<'r>(alloc: Global, row: &'r ByteRecord) -> Result<Vec<&'r [u8]>, AllocError>
     ensures { IfOk result (λ v. map (λ f. f.now) v.items ≡ fields_of row.entry.now) }
 {
     let mut fields = Vec::new(alloc);
@@ -71,7 +71,7 @@ fn first_line(alloc: Global, choice: &Choice, header: &[&[u8]]) -> Result<Lines,
 }
 
 /// The bytes that the lists lend.
-fn lent(alloc: Global, words: &[Vec<u8>]) -> Result<Vec<&[u8]>, AllocError>
+pub(crate) fn lent(alloc: Global, words: &[Vec<u8>]) -> Result<Vec<&[u8]>, AllocError>
     ensures { IfOk result (λ fields. map (λ f. f.now) fields.items ≡ map (λ w. w.items) words.entry.now) }
 {
     let mut fields = Vec::new(alloc);

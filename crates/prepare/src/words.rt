@@ -1,7 +1,7 @@
 //! Names of a header, and the words that they make.
 ghost use Rattle.std.specs.Prelude.{◌≡◌, IfOk, map};
 ghost use Rattle.cells.specs.Spelling.{is_in_word, is_letter};
-ghost use Rattle.prepare.specs.Words.{apart, begins_word, begun, is_same_name, is_taken, word_byte, word_of};
+ghost use Rattle.prepare.specs.Words.{apart, begins_word, begun, is_same_name, is_taken, name_of, word_byte, word_of};
 
 use cells::{Text, is_reserved};
 use std::alloc::{AllocError, Global};
@@ -104,10 +104,29 @@ pub(crate) fn is_same_name(first: &[u8], second: &[u8]) -> bool
 pub fn word(alloc: Global, name: &str) -> Result<Text, AllocError>
     ensures { IfOk result (λ text. text ≡ word_of name.now) }
 {
-    let word = word_of(alloc, name.as_bytes())?;
+    word_text(alloc, name.as_bytes())
+}
+
+/// The word that the bytes of a name make, as a text.
+pub(crate) fn word_text(alloc: Global, name: &[u8]) -> Result<Text, AllocError>
+    ensures { IfOk result (λ text. text ≡ word_of name.now) }
+{
+    let word = word_of(alloc, name)?;
     match str::from_utf8(word.as_slice()) {
         Ok(text) => Text::copied(alloc, text),
         // A word is ASCII, so this is never reached.
         Err(_) => Text::copied(alloc, "_"),
     }
+}
+
+/// The text in upper case, where it is a name: a letter or `_`, and then letters, digits and `_`, and no word of the language's own.
+/// Else None. The only error is that a growth was refused.
+pub fn name_of(alloc: Global, text: &str) -> Result<Option<Text>, AllocError>
+    ensures { IfOk result (λ name. name ≡ name_of text.now) }
+{
+    let word = word(alloc, text)?;
+    if is_same_name(word.as_bytes(), text.as_bytes()) {
+        return Ok(Some(word));
+    }
+    Ok(None)
 }

@@ -1,7 +1,7 @@
 use Rattle.std.proofs.Common.{◌≡◌, rules}
 use Rattle.prepare.specs.Words.{word_of}
 use Rattle.prepare.proofs.WordsLemmas.{word_other}
-use Rattle.prepare.proofs.words.word.Goals as goal
+use Rattle.prepare.proofs.words.word_text.Goals as goal
 
 pub returns : goal.returns
 returns c =

@@ -1,0 +1,130 @@
+-- Parts that are made of files, one after another, and the table of them.
+use Rattle.std.proofs.Common.{refl, ap, sym, subst, ◌∙◌, ◌≡◌, ◌≤◌, ◌<◌, ◌+◌, ◌++◌, ℕ, Bool, true, false, List, [], ◌∷◌, length, map, take, get_or, arith}
+use Rattle.std.proofs.lemmas.List.{map-append, take_all, take_more}
+use Rattle.std.specs.Prelude.{Option, Some, None, Vec, is_some}
+use Rattle.std.specs.declared.alloc.Global.{Global}
+use Rattle.cells.specs.declared.schema.Column.{Column}
+use Rattle.cells.specs.declared.schema.ColumnType.{ColumnType}
+use Rattle.prepare.specs.Files.{Fields, records_of}
+use Rattle.prepare.specs.Parts.{IsPart, part_of}
+use Rattle.prepare.specs.Proposals.{AreTypes, HasNoKey, IsFirstKey, rows_of}
+use Rattle.prepare.specs.declared.choice.Choice.{Choice}
+use Rattle.prepare.specs.declared.choice.Chosen.{Chosen}
+use Rattle.prepare.specs.declared.part.MadePart.{MadePart}
+use Rattle.olap.specs.Proposals.{AreOfFile, AreParts, AreTyped, AreWanted, IsCounted, IsOf, IsPartOf, IsProposed, IsTable, IsTyped, MadeOf, asked, counting_from, found, names_of, needed}
+use Rattle.olap.specs.declared.proposal.Proposal.{Proposal}
+use Rattle.olap.specs.declared.proposal.Typed.{Typed}
+use Rattle.olap.specs.declared.question.Wanted.{Wanted}
+
+abbrev Bytes : Type 0
+Bytes = Vec ℕ Global
+
+-- one part more
+parts_snoc : (choice : Choice) (before : ℕ) (files parts : List (List ℕ)) (all : ℕ) (file part : List ℕ) (count : ℕ)
+    → AreParts choice before files parts all → IsPartOf (counting_from choice all) file part count → AreParts choice before (files ++ file ∷ []) (parts ++ part ∷ []) (all + count)
+parts_snoc choice before [] [] all file part count same is =
+    (count, subst (λ n. IsPartOf (counting_from choice n) file part count) (sym same) is, ap (λ n. n + count) same)
+parts_snoc choice before [] (p ∷ ps) all file part count bad is = absurd bad
+parts_snoc choice before (f ∷ fs) [] all file part count bad is = absurd bad
+parts_snoc choice before (f ∷ fs) (p ∷ ps) all file part count so_far is = (so_far.0, so_far.1, parts_snoc choice (before + so_far.0) fs ps all file part count so_far.2 is)
+
+pub made_none : (choice : Choice) (files parts : List Bytes) (now : Choice) → now ≡ counting_from choice 0 → parts ≡ [] → MadeOf choice files 0 parts now
+made_none choice files parts now is none = record {
+  made = subst (λ (ps : List Bytes). AreParts choice 0 (map (λ f. f.items) (take 0 files)) (map (λ p. p.items) ps) now.counted) (sym none) (sym (ap (λ (ch : Choice). ch.counted) is));
+  same = is ∙ ap (counting_from choice) (sym (ap (λ (ch : Choice). ch.counted) is));
+}
+
+pub made_more : (choice : Choice) (files : List Bytes) (at : ℕ) (file : Bytes) (parts : List Bytes) (now : Choice) (part : MadePart) (counted : ℕ)
+    → MadeOf choice files at parts now → at < length files → file ≡ get_or files at file
+    → IsPart (part_of now (records_of now.delimiter file.items)) part → counted ≡ now.counted + part.records
+    → MadeOf choice files (at + 1) (parts ++ part.text ∷ []) (counting_from now counted)
+made_more choice files at file parts now part counted so_far within is made sum =
+    let here : IsPartOf (counting_from choice now.counted) file.items part.text.items part.records =
+    subst (λ (ch : Choice). IsPartOf ch file.items part.text.items part.records) so_far.same (record { rows = made.rows; is = made.is; written = made.written; counted = made.counted }) in
+    let longer : map (λ f. f.items) (take (at + 1) files) ≡ map (λ f. f.items) (take at files) ++ file.items ∷ [] =
+    ap (map (λ f. f.items)) (take_more files at file within) ∙ map-append (λ f. f.items) (take at files) (get_or files at file ∷ [])
+    ∙ ap (λ (f : Bytes). map (λ b. b.items) (take at files) ++ f.items ∷ []) (sym is) in
+    let added = parts_snoc choice 0 (map (λ f. f.items) (take at files)) (map (λ p. p.items) parts) now.counted file.items part.text.items part.records so_far.made here in
+    record {
+      made = subst (λ (n : ℕ). AreParts choice 0 (map (λ f. f.items) (take (at + 1) files)) (map (λ p. p.items) (parts ++ part.text ∷ [])) n) (sym sum)
+          (subst (λ (fs : List (List ℕ)). AreParts choice 0 fs (map (λ p. p.items) (parts ++ part.text ∷ [])) (now.counted + part.records)) (sym longer)
+          (subst (λ (ps : List (List ℕ)). AreParts choice 0 (map (λ f. f.items) (take at files) ++ file.items ∷ []) ps (now.counted + part.records))
+          (sym (map-append (λ p. p.items) parts (part.text ∷ []))) added));
+      same = ap (λ (ch : Choice). counting_from ch counted) so_far.same;
+    }
+
+pub made_end : (choice : Choice) (files : List Bytes) (at : ℕ) (parts : List Bytes) (now : Choice) → length files ≤ at → MadeOf choice files at parts now → MadeOf choice files (length files) parts now
+made_end choice files at parts now past made = record {
+  made = subst (λ (fs : List Bytes). AreParts choice 0 (map (λ f. f.items) fs) (map (λ p. p.items) parts) now.counted)
+      (take_all at files past ∙ sym (take_all (length files) files (omega arith))) made.made;
+  same = made.same;
+}
+
+-- ---- types and names
+
+pub typed_of : (choice : Choice) (files parts : List Bytes) (now : Choice) (names : Fields) (types : List ColumnType)
+    → MadeOf choice files (length files) parts now → names ≡ names_of choice → AreTypes (rows_of (map (λ p. p.items) parts)) (length names) types
+    → AreTyped choice (map (λ f. f.items) files) (map (λ p. p.items) parts) types
+typed_of choice files parts now names types made same are = record {
+  records = now.counted;
+  made = subst (λ (fs : List Bytes). AreParts choice 0 (map (λ f. f.items) fs) (map (λ p. p.items) parts) now.counted) (take_all (length files) files (omega arith)) made.made;
+  are = subst (λ (ns : Fields). AreTypes (rows_of (map (λ p. p.items) parts)) (length ns) types) same are;
+}
+
+pub typed_fits : (choice : Choice) (files : List (List ℕ)) (t : Typed) → IsTyped choice files t → length t.types.items ≡ length t.names.items
+typed_fits choice files t is = is.typed.are.all ∙ ap length (sym is.names)
+
+pub table_of : (choice : Choice) (files : List (List ℕ)) (t : Typed) (key : ℕ) (p : Proposal) → IsTyped choice files t → IsOf t key p → IsTable choice files p
+table_of choice files t key p is made = record {
+  names = made.names ∙ is.names;
+  typed = subst (λ (ts : List ColumnType). AreTyped choice files (map (λ b. b.items) p.parts.items) ts) (sym made.types)
+      (subst (λ (ps : List Bytes). AreTyped choice files (map (λ b. b.items) ps) t.types.items) (sym made.parts) is.typed);
+}
+
+-- ---- the key
+
+module _ (choice : Choice) (files : List (List ℕ)) (t : Typed) (is : IsTyped choice files t) where
+  pub key_asked : (p : Proposal) → is_some choice.number ≡ true → IsOf t 0 p → IsProposed choice files p
+  key_asked p some made = go choice.number refl some where
+    go : (o : Option (List ℕ)) → choice.number ≡ o → is_some o ≡ true → IsProposed choice files p
+    go None e test = cc
+    go (Some number) e test = asked e (table_of choice files t 0 p is made) made.key
+
+  none_there : is_some choice.number ≡ false → choice.number ≡ None
+  none_there test = go choice.number refl test where
+    go : (o : Option (List ℕ)) → choice.number ≡ o → is_some o ≡ false → choice.number ≡ None
+    go None e test = e
+    go (Some number) e test = cc
+
+  pub key_found : (key : ℕ) (p : Proposal) → is_some choice.number ≡ false → IsFirstKey (rows_of (map (λ b. b.items) t.parts.items)) t.types.items key → IsOf t key p → IsProposed choice files p
+  key_found key p none first made = found (none_there none) (table_of choice files t key p is made)
+      (subst (λ (k : ℕ). IsFirstKey (rows_of (map (λ b. b.items) p.parts.items)) (map (λ c. c.kind) p.columns.items) k) (sym made.key)
+      (subst (λ (ts : List ColumnType). IsFirstKey (rows_of (map (λ b. b.items) p.parts.items)) ts key) (sym made.types)
+      (subst (λ (ps : List Bytes). IsFirstKey (rows_of (map (λ b. b.items) ps)) t.types.items key) (sym made.parts) first)))
+
+  pub key_needed : (now : Choice) (p : Proposal) → now ≡ counting_from choice now.counted → is_some choice.number ≡ false
+      → HasNoKey (rows_of (map (λ b. b.items) t.parts.items)) t.types.items → IsCounted now files p → IsProposed choice files p
+  key_needed now p same none no_key counted =
+      let from : IsCounted (counting_from choice now.counted) files p = subst (λ (ch : Choice). IsCounted ch files p) same counted in
+      needed (none_there none)
+      (record { parts = map (λ b. b.items) t.parts.items; types = t.types.items; typed = is.typed; none = no_key })
+      (record { number = from.number; table = from.table; key = from.key })
+
+-- a table whose key counts
+pub counts : (choice : Choice) (files : List (List ℕ)) (number : List ℕ) (with_number : Choice) (t : Typed) (p : Proposal) → with_number ≡ record choice { counted = 0; number = Some number }
+    → IsTyped with_number files t → IsOf t 0 p → IsCounted choice files p
+counts choice files number with_number t p same is made = record {
+  number = number;
+  table = subst (λ (ch : Choice). IsTable ch files p) same (table_of with_number files t 0 p is made);
+  key = made.key;
+}
+
+-- ---- what was asked for
+
+module _ (files : List (List ℕ)) (w : Wanted) (query : Option (List ℕ)) (columns : Vec Chosen Global) where
+  pub wanted_listed : (listed : Vec Chosen Global) → w.columns ≡ Some listed → columns ≡ listed → AreWanted files w query w.columns columns
+  wanted_listed listed given same = subst (λ (o : Option (Vec Chosen Global)). AreWanted files w query o columns) (sym given) same
+
+  pub wanted_of_file : (read : Vec Chosen Global) → w.columns ≡ None → columns ≡ read → AreOfFile files w.delimiter w.trims query read.items → AreWanted files w query w.columns columns
+  wanted_of_file read none same are = subst (λ (o : Option (Vec Chosen Global)). AreWanted files w query o columns) (sym none)
+      (subst (λ (cs : Vec Chosen Global). AreOfFile files w.delimiter w.trims query cs.items) (sym same) are)

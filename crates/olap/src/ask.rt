@@ -1,0 +1,302 @@
+//! One question of CSV files: `query`, and the table that it proposes: `schema`.
+ghost use Rattle.std.specs.Prelude.{◌≡◌, ◌⊎◌, [], IfOk, length, map, string_bytes};
+ghost use Rattle.std.specs.List.{slice_index_or};
+ghost use Rattle.olap.specs.Folders.{AreTold};
+ghost use Rattle.olap.specs.Proposals.{IsAsked, line_of_proposal};
+ghost use Rattle.olap.specs.Questions.{script_of};
+
+use crate::asking::Asking;
+use crate::close::{NOTHING_RUN, end_early};
+use crate::input::{Folder, Input, Unread, Unreadable, read_parts};
+use crate::manual::{Topic, show};
+use crate::options::{OptionFault, part_words};
+use crate::program::{cannot_read, run_input};
+use crate::proposal::{FileFault, Proposal, Unproposed, proposed};
+use crate::question::{Question, SchemaQuestion, Wanted, question_of, schema_question_of};
+use crate::table_text::{script_of, table_line, table_name};
+use crate::tell::{Errors, Tell};
+use cells::Text;
+use script::{Ended, HashChoice, How, OnRefusal};
+use std::alloc::{AllocError, Global};
+use std::io::{BufWriter, Write};
+use std::sync::Wait;
+use std::thread::Threads;
+
+/// The status where a file makes no part.
+pub const FAULTY: u8 = 1;
+
+/// Answers the query that the words name, over the files that they name, and gives the program's status: 0 where the answer was
+/// written whole, 1 where a file makes no part or the query is refused, which `err` then says, 2 where the words are refused or
+/// a file can't be read, and 3 where the run ended early.
+pub fn ask<F: Folder, W: Write + Drop, E: Write, R: Threads + Wait + Sync + Eprint>(
+    rt: &R,
+    alloc: Global,
+    words: &[String],
+    folder: &F,
+    out: BufWriter<W>,
+    err: &mut E,
+) -> u8
+    ensures { (result ≡ 0) ⊎ ((result ≡ 1) ⊎ ((result ≡ 2) ⊎ (result ≡ 3))) }
+{
+    let parted = match part_words(alloc, words) {
+        Ok(parted) => parted,
+        Err(fault) => return refuse_words("query", fault, err),
+    };
+    if parted.helps {
+        return show(Topic::Query.page(), out, err);
+    }
+    match question_of(rt, alloc, &parted) {
+        Ok((question, wanted)) => ask_question(rt, alloc, &question, wanted, folder, out, err),
+        Err(fault) => refuse_words("query", fault, err),
+    }
+}
+
+/// Shows the line of the table that [`ask`] proposes for a file, and gives the program's status, as it does.
+pub fn show_schema<F: Folder, W: Write + Drop, E: Write>(
+    alloc: Global,
+    words: &[String],
+    folder: &F,
+    out: BufWriter<W>,
+    err: &mut E,
+) -> u8
+    ensures { (result ≡ 0) ⊎ ((result ≡ 1) ⊎ ((result ≡ 2) ⊎ (result ≡ 3))) }
+{
+    let parted = match part_words(alloc, words) {
+        Ok(parted) => parted,
+        Err(fault) => return refuse_words("schema", fault, err),
+    };
+    if parted.helps {
+        return show(Topic::Schema.page(), out, err);
+    }
+    match schema_question_of(alloc, &parted) {
+        Ok(question) => show_table(alloc, question, folder, out, err),
+        Err(fault) => refuse_words("schema", fault, err),
+    }
+}
+
+/// Says why the words of a command are refused.
+fn refuse_words<E: Write>(command: &str, fault: OptionFault<'_>, err: &mut E) -> u8
+    ensures { result ≡ 2 }
+{
+    let _ = writeln!(
+        err,
+        "error: {fault}\n\nFor more information, try 'olap {command} --help'."
+    );
+    NOTHING_RUN
+}
+
+/// Says why a file makes no part, or that memory was refused.
+fn refuse_file<E: Write>(names: &[Text], fault: FileFault, err: &mut E) -> u8
+    ensures { (result ≡ 1) ⊎ (result ≡ 3) }
+{
+    let FileFault { file, line, why } = fault;
+    if let Unproposed::OutOfMemory = why {
+        return end_early(Ended::OutOfMemory, err);
+    }
+    let name = match names.get(file) {
+        Some(name) => name.as_str(),
+        None => "",
+    };
+    let _ = writeln!(err, "{name}:{line}: {why}");
+    FAULTY
+}
+
+/// Reads the files of a question, and answers it.
+fn ask_question<F: Folder, W: Write + Drop, E: Write, R: Threads + Wait + Sync + Eprint>(
+    rt: &R,
+    alloc: Global,
+    question: &Question<'_>,
+    wanted: Wanted,
+    folder: &F,
+    out: BufWriter<W>,
+    err: &mut E,
+) -> u8
+    ensures { (result ≡ 0) ⊎ ((result ≡ 1) ⊎ ((result ≡ 2) ⊎ (result ≡ 3))) }
+{
+    match read_files(alloc, folder, question.names.as_slice()) {
+        Ok(files) => ask_files(rt, alloc, question, files.as_slice(), wanted, out, err),
+        Err(unread) => cannot_read(unread, err),
+    }
+}
+
+/// Answers a question of files that hold these bytes.
+fn ask_files<W: Write + Drop, E: Write, R: Threads + Wait + Sync + Eprint>(
+    rt: &R,
+    alloc: Global,
+    question: &Question<'_>,
+    files: &[Vec<u8>],
+    wanted: Wanted,
+    out: BufWriter<W>,
+    err: &mut E,
+) -> u8
+    ensures { (result ≡ 0) ⊎ ((result ≡ 1) ⊎ (result ≡ 3)) }
+{
+    let delimiter = wanted.delimiter;
+    match input_of_files(alloc, question, files, wanted) {
+        Ok(input) => {
+            let teller = Errors::new(rt, false);
+            let asked = Asked {
+                names: question.names.as_slice(),
+                files,
+                delimiter,
+                how: &question.how,
+                input: &input,
+            };
+            run_asked(rt, alloc, &teller, &asked, out, err)
+        }
+        Err(fault) => refuse_file(question.names.as_slice(), fault, err),
+    }
+}
+
+/// The script that asks a question, and its parts, which are made of these files.
+fn input_of_files(
+    alloc: Global,
+    question: &Question<'_>,
+    files: &[Vec<u8>],
+    wanted: Wanted,
+) -> Result<Input, FileFault>
+    ensures { IfOk result (λ input. IsAsked (map (λ f. f.items) files.now) wanted question.now.query.now question.now.names.items input) }
+{
+    let proposal = proposed(alloc, files, wanted, Some(question.query))?;
+    Ok(input_of(alloc, question.names.as_slice(), question.query, proposal)?)
+}
+
+/// What a run that asks a question is made with.
+#[derive(Drop)]
+struct Asked<'a> {
+    /// The names of the files, what they hold, and the byte between two fields.
+    names: &'a [Text],
+    files: &'a [Vec<u8>],
+    delimiter: u8,
+    how: &'a How,
+    input: &'a Input,
+}
+
+/// Runs the script that asks.
+fn run_asked<'a, T: Tell + Sync, W: Write + Drop, E: Write, R: Threads + Wait + Sync>(
+    rt: &'a R,
+    alloc: Global,
+    teller: &'a T,
+    asked: &'a Asked<'a>,
+    out: BufWriter<W>,
+    err: &mut E,
+) -> u8
+    ensures { (result ≡ 0) ⊎ ((result ≡ 1) ⊎ (result ≡ 3)) }
+{
+    let gate = Asking::new(
+        teller,
+        alloc,
+        asked.names,
+        asked.files,
+        asked.delimiter,
+        asked.input,
+    );
+    run_input(
+        rt,
+        alloc,
+        asked.how,
+        HashChoice::default(),
+        None,
+        OnRefusal::Stops,
+        asked.input,
+        &gate,
+        out,
+        err,
+    )
+    .0
+}
+
+/// The bytes of the files of these names.
+fn read_files<'n, F: Folder>(
+    alloc: Global,
+    folder: &F,
+    names: &'n [Text],
+) -> Result<Vec<Vec<u8>>, Unreadable<'n>>
+    ensures { IfOk result (λ files. AreTold (F.file folder.now) names.now (map (λ f. f.items) files.items)) }
+{
+    let Ok(room) = Vec::with_capacity(alloc, names.len()) else {
+        let name = first_name(names);
+        let why = Unread::Memory;
+        return Err(Unreadable { name, why });
+    };
+    read_parts(folder, names, room)
+}
+
+/// The script that asks a query of a table that is proposed, and its parts.
+fn input_of(
+    alloc: Global,
+    names: &[Text],
+    query: &str,
+    proposal: Proposal,
+) -> Result<Input, AllocError>
+    ensures script { IfOk result (λ input. input.script.items ≡ script_of (line_of_proposal names.now proposal) (length proposal.parts.items) query.now) }
+    ensures parts { IfOk result (λ input. input.parts ≡ proposal.parts) }
+{
+    let line = line_of_proposal(alloc, names, &proposal)?;
+    let Proposal {
+        parts,
+        columns: _,
+        key: _,
+    } = proposal;
+    let script = script_of(alloc, line.as_str(), parts.len(), query)?;
+    Ok(Input { script, parts })
+}
+
+/// The line of a table that is proposed for files of these names.
+fn line_of_proposal(
+    alloc: Global,
+    names: &[Text],
+    proposal: &Proposal,
+) -> Result<String, AllocError>
+    ensures { IfOk result (λ line. string_bytes line ≡ line_of_proposal names.now proposal.now) }
+{
+    let name = table_name(alloc, first_name(names))?;
+    table_line(
+        alloc,
+        name.as_str(),
+        proposal.columns.as_slice(),
+        proposal.key,
+    )
+}
+
+/// The first of the names, of which there is one at least.
+fn first_name(names: &[Text]) -> &str
+    ensures { result.now ≡ slice_index_or names.now 0 [] }
+{
+    match names.first() {
+        Some(name) => name.as_str(),
+        None => "",
+    }
+}
+
+/// Reads the file, and shows the line of the table that is proposed for it.
+fn show_table<F: Folder, W: Write + Drop, E: Write>(
+    alloc: Global,
+    question: SchemaQuestion,
+    folder: &F,
+    out: BufWriter<W>,
+    err: &mut E,
+) -> u8
+    ensures { (result ≡ 0) ⊎ ((result ≡ 1) ⊎ ((result ≡ 2) ⊎ (result ≡ 3))) }
+{
+    let SchemaQuestion { names, wanted } = question;
+    let files = match read_files(alloc, folder, names.as_slice()) {
+        Ok(files) => files,
+        Err(unread) => return cannot_read(unread, err),
+    };
+    let proposal = match proposed(alloc, files.as_slice(), wanted, None) {
+        Ok(proposal) => proposal,
+        Err(fault) => return refuse_file(names.as_slice(), fault, err),
+    };
+    match shown_line(alloc, names.as_slice(), &proposal) {
+        Ok(line) => show(line.as_str(), out, err),
+        Err(_) => end_early(Ended::OutOfMemory, err),
+    }
+}
+
+/// The line, with its end.
+fn shown_line(alloc: Global, names: &[Text], proposal: &Proposal) -> Result<String, AllocError> {
+    let mut line = line_of_proposal(alloc, names, proposal)?;
+    line.push_str("\n")?;
+    Ok(line)
+}

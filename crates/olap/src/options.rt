@@ -1,0 +1,205 @@
+//! The words of `query` and `schema`: options, which may stand anywhere, and names.
+ghost use Rattle.std.specs.Prelude.{◌≡◌, ◌≤◌, IfOk, length};
+ghost use Rattle.olap.specs.declared.options.OptionFault.TheVariants.{OutOfMemory};
+
+use crate::job::Setting;
+use std::alloc::{AllocError, AllocFailed, Global};
+use thiserror::Error;
+
+/// An option that takes a value.
+#[derive(Clone, Copy, Debug, PartialEq, Eq, Drop)]
+pub enum Valued {
+    Columns,
+    Delimiter,
+    Number,
+    Null,
+    Workers,
+    Rows,
+}
+
+impl Valued {
+    /// The option of this name, which stands behind `--`.
+    fn named(name: &str) -> Option<Valued> {
+        match name {
+            "columns" => Some(Valued::Columns),
+            "delimiter" => Some(Valued::Delimiter),
+            "number" => Some(Valued::Number),
+            "null" => Some(Valued::Null),
+            "workers" => Some(Valued::Workers),
+            "rows" => Some(Valued::Rows),
+            _ => None,
+        }
+    }
+}
+
+/// Why words are no question. Its text is what the program writes behind `error: `.
+#[derive(Clone, Copy, Debug, PartialEq, Eq, Drop, Error)]
+pub enum OptionFault<'w> {
+    #[error("there is no option '{0}'")]
+    Unknown(&'w str),
+    #[error("'{0}' takes a value")]
+    NoValue(&'w str),
+    #[error("'{0}' takes no value")]
+    Value(&'w str),
+    #[error("'{0}' is given twice")]
+    Twice(&'w str),
+    #[error("'--delimiter' takes one character of ASCII, but no quote and no line end, or the word tab: {0}")]
+    Delimiter(&'w str),
+    #[error("'--number' takes a name for the column that counts, a letter or _ and then letters, digits and _, but no word of the language: {0}")]
+    Number(&'w str),
+    #[error("{0}")]
+    OutOfRange(Setting),
+    #[error("no QUERY")]
+    NoQuery,
+    #[error("no FILE")]
+    NoFile,
+    #[error("one FILE is wanted, and {0} comes after it")]
+    OneFile(&'w str),
+    #[error("at most 64 files are read, and {0} were given")]
+    TooManyFiles(usize),
+    #[error("a text of the query has a line break, which a script can't have")]
+    LineBreak,
+    #[error("no memory")]
+    OutOfMemory,
+}
+
+impl<'w> From<AllocError> for OptionFault<'w> {
+    ghost from_gives = { λ _ e. e ≡ OutOfMemory };
+
+    fn from(_error: AllocError) -> OptionFault<'w> {
+        OptionFault::OutOfMemory
+    }
+}
+
+impl<'w, T: Drop> From<AllocFailed<T>> for OptionFault<'w> {
+    ghost from_gives = { λ _ e. e ≡ OutOfMemory };
+
+    fn from(_error: AllocFailed<T>) -> OptionFault<'w> {
+        OptionFault::OutOfMemory
+    }
+}
+
+/// The words, parted: what was given for each option, and the words that belong to none.
+#[derive(Debug, Drop)]
+pub struct Parted<'w> {
+    pub columns: Option<&'w str>,
+    pub delimiter: Option<&'w str>,
+    pub number: Option<&'w str>,
+    pub null: Option<&'w str>,
+    pub workers: Option<&'w str>,
+    pub rows: Option<&'w str>,
+    pub trims: bool,
+    /// Whether help is asked for.
+    pub helps: bool,
+    pub names: Vec<&'w str>,
+}
+
+impl<'w> Parted<'w> {
+    /// Nothing was given.
+    fn new(alloc: Global) -> Parted<'w> {
+        Parted {
+            columns: None,
+            delimiter: None,
+            number: None,
+            null: None,
+            workers: None,
+            rows: None,
+            trims: false,
+            helps: false,
+            names: Vec::new(alloc),
+        }
+    }
+
+    /// Takes the value of an option, which stands in this word.
+    fn take(
+        &mut self,
+        option: Valued,
+        word: &'w str,
+        value: &'w str,
+    ) -> Result<(), OptionFault<'w>> {
+        match option {
+            Valued::Columns => put(&mut self.columns, word, value),
+            Valued::Delimiter => put(&mut self.delimiter, word, value),
+            Valued::Number => put(&mut self.number, word, value),
+            Valued::Null => put(&mut self.null, word, value),
+            Valued::Workers => put(&mut self.workers, word, value),
+            Valued::Rows => put(&mut self.rows, word, value),
+        }
+    }
+}
+
+/// Puts the value of an option, which stands in this word, into its place.
+fn put<'w>(
+    place: &mut Option<&'w str>,
+    word: &'w str,
+    value: &'w str,
+) -> Result<(), OptionFault<'w>> {
+    if place.is_some() {
+        return Err(OptionFault::Twice(word));
+    }
+    *place = Some(value);
+    Ok(())
+}
+
+/// Parts the words. After the word `--` all are names.
+pub fn part_words<'w>(alloc: Global, words: &'w [String]) -> Result<Parted<'w>, OptionFault<'w>> {
+    let mut parted = Parted::new(alloc);
+    let mut rest = words;
+    while let Some((word, later)) = rest.split_first() {
+        rest = later;
+        match word.as_str() {
+            "--" => {
+                for name in rest {
+                    parted.names.push(name.as_str())?;
+                }
+                return Ok(parted);
+            }
+            "--help" => parted.helps = true,
+            "-h" => parted.helps = true,
+            "--trim" => parted.trims = true,
+            word => rest = part_word(&mut parted, word, later)?,
+        }
+    }
+    Ok(parted)
+}
+
+/// Takes a word that is no flag, with the next one where that is its value, and gives what follows.
+fn part_word<'w>(
+    parted: &mut Parted<'w>,
+    word: &'w str,
+    later: &'w [String],
+) -> Result<&'w [String], OptionFault<'w>>
+    ensures { IfOk result (λ rest. length rest.now ≤ length later.entry.now) }
+{
+    if word.len() < 2 || !word.starts_with('-') {
+        parted.names.push(word)?;
+        return Ok(later);
+    }
+    let Some(text) = word.strip_prefix("--") else {
+        return Err(OptionFault::Unknown(word));
+    };
+    if let Some((name, value)) = text.split_once('=') {
+        let Some(option) = Valued::named(name) else {
+            return Err(unknown(name, word));
+        };
+        parted.take(option, word, value)?;
+        return Ok(later);
+    }
+    let Some(option) = Valued::named(text) else {
+        return Err(OptionFault::Unknown(word));
+    };
+    let Some((value, rest)) = later.split_first() else {
+        return Err(OptionFault::NoValue(word));
+    };
+    parted.take(option, word, value.as_str())?;
+    Ok(rest)
+}
+
+/// Why a word with a `=` is no option.
+fn unknown<'w>(name: &str, word: &'w str) -> OptionFault<'w> {
+    match name {
+        "trim" => OptionFault::Value(word),
+        "help" => OptionFault::Value(word),
+        _ => OptionFault::Unknown(word),
+    }
+}

@@ -1,0 +1,261 @@
+"""`olap query` and `olap schema`: one question of CSV files as other tools write them, the table that is proposed for them, and
+what is said where a file, a query or a word is refused."""
+
+from cases.manual import NAMES
+from cases.table import Case, Text
+
+MORE = "\n\nFor more information, try 'olap {} --help'.\n"
+STOPPED = "olap: stopped after a refused line\n"
+PART = "(6 BadPart, 7 BadRecord)"
+SALES = "ID,REGION,UNITS\n1,north,10\n2,north,\n3,,5\n4,south,-2\n"
+BY_REGION = "SELECT REGION, COUNT(*), SUM(UNITS) FROM SALES GROUP BY REGION"
+TABLE = "table SALES (ID INT KEY, REGION TEXT, UNITS INT)\n"
+
+
+def answer(*rows):
+    """What a query writes that is answered."""
+    return "\n".join(["line 4 edition 1", *rows, ""])
+
+
+def query(title, files, text, rows, options=()):
+    """A query of files that is answered by these rows."""
+    return Case(f"query: {title}", ["query", *options, text, *files], dict(files), output=answer(*rows))
+
+
+def schema(title, text, line, options=(), name="sales.csv"):
+    """The table that is proposed for a file of this text."""
+    return Case(f"schema: {title}", ["schema", *options, name], {name: text}, output=line + "\n")
+
+
+def both(title, name, text, line, query_text, rows, options=()):
+    """The table of a file, and a query of it that is answered by these rows."""
+    return [schema(title, text, line, options, name), query(title, {name: text}, query_text, rows, options)]
+
+
+def fault(title, files, errors, options=(), text="SELECT COUNT(*) FROM SALES", output="", status=1):
+    """A query of files that is not answered."""
+    return Case(f"query: {title}", ["query", *options, text, *files], dict(files), output=output, errors=errors, status=status)
+
+
+def refused(number, text, place, why):
+    """A query that is refused by the run for this reason; `place` is where the fault is, as a query's text before it, or None."""
+    at = "" if place is None else f":{text.index(place) + 1}"
+    errors = f"query{at}: {why} ({number} {NAMES[number]})\n{STOPPED}"
+    return fault(text, {"sales.csv": SALES}, errors, text=text, output=f"line 4 refused {number}\n")
+
+
+def words(title, command, given, why):
+    """Words that are refused."""
+    return Case(f"{command}: {title}", [command, *given], {"sales.csv": SALES}, errors=f"error: {why}{MORE.format(command)}", status=2)
+
+
+FORTY = ",".join(f"c{number}" for number in range(1, 41)) + "\n" + "".join(
+    ",".join(str(row * number % 7) for number in range(1, 41)) + "\n" for row in range(1, 6)
+)
+
+FILES = [
+    *both("a plain file", "sales.csv", SALES, TABLE[:-1], BY_REGION, ["REGION | COUNT(*) | SUM(UNITS)", "NULL | 1 | 5", "'north' | 2 | 10", "'south' | 1 | -2"]),
+    *both(
+        "a spreadsheet's export, with a byte order mark and CRLF",
+        "Orders 2024.csv",
+        b'\xef\xbb\xbfOrder Id,Customer,Amount\r\n17,"Smith, Jane",100\r\n18,"O""Neil",250\r\n19,"Smith, Jane",50\r\n',
+        "table T (ORDER_ID INT KEY, CUSTOMER TEXT, AMOUNT INT)",
+        "SELECT CUSTOMER, SUM(AMOUNT) FROM T GROUP BY CUSTOMER",
+        ["CUSTOMER | SUM(AMOUNT)", "'O\"Neil' | 250", "'Smith, Jane' | 150"],
+    ),
+    *both(
+        "semicolons and quotes",
+        "umsatz.csv",
+        'Nr;Stadt;Menge\n1;"Köln; West";3\n2;Bonn;4\n3;"Köln; West";5\n',
+        "table UMSATZ (NR INT KEY, STADT TEXT, MENGE INT)",
+        "SELECT STADT, SUM(MENGE) FROM UMSATZ GROUP BY STADT",
+        ["STADT | SUM(MENGE)", "'Bonn' | 4", "'Köln; West' | 8"],
+        ["--delimiter", ";"],
+    ),
+    *both(
+        "tabs",
+        "visits.tsv",
+        "day\tpage\thits\n1\t/a\t5\n1\t/b\t6\n2\t/a\t7\n",
+        "table VISITS (DAY INT, PAGE TEXT, HITS INT KEY)",
+        "SELECT PAGE, SUM(HITS) FROM VISITS GROUP BY PAGE",
+        ["PAGE | SUM(HITS)", "'/a' | 12", "'/b' | 6"],
+        ["--delimiter=tab"],
+    ),
+    *both(
+        "blanks after commas",
+        "blanks.csv",
+        "id, city, units\n1, Oslo, 3\n2, Rome, 4\n3, Oslo, 5\n",
+        "table BLANKS (ID INT KEY, CITY TEXT, UNITS INT)",
+        "SELECT CITY, SUM(UNITS) FROM BLANKS GROUP BY CITY",
+        ["CITY | SUM(UNITS)", "'Oslo' | 8", "'Rome' | 4"],
+        ["--trim"],
+    ),
+    schema("blanks that are not left out", "id, city, units\n1, Oslo, 3\n", "table SALES (ID INT KEY, _CITY TEXT, _UNITS TEXT)"),
+    *both(
+        "a dump with \\N",
+        "dump.csv",
+        "id\tname\tscore\n1\tann\t\\N\n2\t\\N\t7\n3\tbob\t9\n",
+        "table DUMP (ID INT KEY, NAME TEXT, SCORE INT)",
+        "SELECT COUNT(*), COUNT(NAME), SUM(SCORE) FROM DUMP",
+        ["COUNT(*) | COUNT(NAME) | SUM(SCORE)", "3 | 2 | 16"],
+        ["--null", "\\N", "--delimiter", "tab"],
+    ),
+    *both(
+        "a dump with NULL",
+        "dump.csv",
+        'id,name,score\n1,ann,NULL\n2,NULL,7\n3,"NULL",9\n',
+        "table DUMP (ID INT KEY, NAME TEXT, SCORE INT)",
+        "SELECT NAME, COUNT(*) FROM DUMP GROUP BY NAME",
+        ["NAME | COUNT(*)", "NULL | 2", "'ann' | 1"],
+        ["--null=NULL"],
+    ),
+    query(
+        "40 columns, of which the query names two",
+        {"wide.csv": FORTY},
+        "SELECT C2, SUM(C40) FROM WIDE GROUP BY C2",
+        # (a row has at c2 twice its number, and at c40 five times, both modulo 7)
+        ["C2 | SUM(C40)", "1 | 6", "2 | 5", "3 | 4", "4 | 3", "6 | 1"],
+    ),
+    query("40 columns, of which the query names none", {"wide.csv": FORTY}, "SELECT COUNT(*) FROM WIDE", ["COUNT(*)", "5"]),
+    *both(
+        "40 columns, of which some are listed",
+        "wide.csv",
+        FORTY,
+        "table WIDE (C1 INT KEY, LAST INT)",
+        "SELECT MAX(C1), SUM(LAST) FROM WIDE",
+        ["MAX(C1) | SUM(LAST)", "5 | 19"],
+        ["--columns", "c1,LAST=c40"],
+    ),
+    *both(
+        "no key",
+        "log.csv",
+        "level,code\nwarn,1\nwarn,1\ninfo,\n",
+        "table LOG (N INT KEY, LEVEL TEXT, CODE INT)",
+        "SELECT LEVEL, COUNT(*), MAX(N) FROM LOG GROUP BY LEVEL",
+        ["LEVEL | COUNT(*) | MAX(N)", "'info' | 1 | 3", "'warn' | 2 | 2"],
+    ),
+    schema("no key, where N is a column", "n,N_\n1,1\n1,1\n", "table SALES (N__ INT KEY, N INT, N_ INT)"),
+    *both(
+        "a counted column that is asked for",
+        "log.csv",
+        "level,code\nwarn,1\ninfo,2\n",
+        "table LOG (LINE INT KEY, LEVEL TEXT, CODE INT)",
+        "SELECT MAX(LINE) FROM LOG",
+        ["MAX(LINE)", "2"],
+        ["--number", "line"],
+    ),
+    schema(
+        "names that are no words",
+        "Order Date,2nd,sum,Größe,\n1,2,3,4,5\n",
+        "table SALES (ORDER_DATE INT KEY, _2ND INT, SUM_ INT, GR____E INT, _ INT)",
+    ),
+    *both(
+        "Order Date under another name",
+        "sales.csv",
+        "Order Date,Units\n2024-01-02,3\n2024-01-03,4\n",
+        "table SALES (DAY TEXT KEY, UNITS INT)",
+        "SELECT MIN(DAY), SUM(UNITS) FROM SALES",
+        ["MIN(DAY) | SUM(UNITS)", "'2024-01-02' | 7"],
+        ["--columns=Day=order date,units"],
+    ),
+    *both(
+        "quoted line breaks",
+        "notes.csv",
+        'id,note\n1,"two\nlines"\n2,"one"\n',
+        "table NOTES (ID INT KEY, NOTE TEXT)",
+        "SELECT NOTE, COUNT(*) FROM NOTES GROUP BY NOTE",
+        ["NOTE | COUNT(*)", "'one' | 1", "'two\nlines' | 1"],
+    ),
+    *both("one column", "one.csv", "k\n3\n1\n2\n", "table ONE (K INT KEY)", "SELECT COUNT(*), SUM(K) FROM ONE", ["COUNT(*) | SUM(K)", "3 | 6"]),
+    *both("a header alone", "sales.csv", "id,units\n", "table SALES (ID INT KEY, UNITS INT)", "SELECT COUNT(*), SUM(UNITS) FROM SALES", ["COUNT(*) | SUM(UNITS)", "0 | NULL"]),
+    schema("a key that has no value twice", "a,b,c\n1,,1\n1,2,2\n", "table SALES (A INT, B INT, C INT KEY)"),
+    schema("integers that are one by their value", "a,b\n7,x\n07,y\n", "table SALES (A INT, B TEXT KEY)"),
+    schema("texts that differ by their bytes", "a\n7\n07\nx\n", "table SALES (A TEXT KEY)"),
+    schema("integers of 64 bits", "a,b\n9223372036854775807,9223372036854775808\n-9223372036854775808,1\n", "table SALES (A INT KEY, B TEXT)"),
+    schema("a name of the language", "a\n1\n", "table T (A INT KEY)", name="select.csv"),
+    schema("a folder and two endings", "a\n1\n", "table T (A INT KEY)", name="sales.2024.csv"),
+    query(
+        "several files, with columns in another order",
+        {"a.csv": "id,city\n1,Oslo\n2,Rome\n", "b.csv": "city,more,id\nOslo,x,3\n"},
+        "SELECT CITY, COUNT(*) FROM A GROUP BY CITY",
+        ["CITY | COUNT(*)", "'Oslo' | 2", "'Rome' | 1"],
+    ),
+    query(
+        "several files without a key, whose records are counted on",
+        {"a.csv": "city\nOslo\nRome\n", "b.csv": "city\nOslo\n"},
+        "SELECT COUNT(*), MAX(N) FROM A",
+        ["COUNT(*) | MAX(N)", "3 | 3"],
+    ),
+    query(
+        "a column that is a text in the second file alone",
+        {"a.csv": "id,v\n1,1\n", "b.csv": "id,v\n2,x\n"},
+        "SELECT V, COUNT(*) FROM A GROUP BY V",
+        ["V | COUNT(*)", "'1' | 1", "'x' | 1"],
+    ),
+    query("a query on two lines, of one worker", {"sales.csv": SALES}, "SELECT COUNT(*)\r\nFROM\tSALES", ["COUNT(*)", "4"], ["--workers", "1"]),
+    query("names behind --", {"-x.csv": "a\n1\n"}, "SELECT COUNT(*) FROM T", ["COUNT(*)", "1"], ["--workers=2", "--rows=1", "--"]),
+]
+
+LATIN = b"id,city\n1,K\xf6ln\n"
+LONG = "x" * 1025
+
+FAULTS = [
+    fault("a bad number in line 5, which makes a column of texts", {"sales.csv": "id,units\n1,2\n2,3\n3,4\n4,5x\n"}, f"query:12: UNITS: a column of texts has no sum (13 WrongType)\n{STOPPED}", text="SELECT SUM(UNITS) FROM SALES", output="line 4 refused 13\n"),
+    fault("a record with a field less", {"sales.csv": 'id,note\n1,"a\nb"\n\n2\n'}, "sales.csv:5: record 2 has 1 fields, and the header 2\n"),
+    fault("no header", {"sales.csv": ""}, "sales.csv:1: there is no header\n"),
+    fault("no header in the second file", {"a.csv": "id\n1\n", "b.csv": "\n\n"}, "b.csv:1: there is no header\n"),
+    fault("a column that is not there", {"sales.csv": SALES}, "sales.csv:1: the header has no column 'Pris'\n", ["--columns", "ID,Pris"]),
+    fault("a column that is not there in the second file", {"a.csv": "id,v\n1,1\n", "b.csv": "id\n2\n"}, "b.csv:1: the header has no column 'v'\n"),
+    fault("a name in another coding", {"sales.csv": b"id,Gr\xf6\xdfe\n1,2\n"}, "sales.csv:1: the name of column 2 is not UTF-8\n"),
+    fault("two columns of one name", {"sales.csv": "a b,A_B\n1,2\n"}, "sales.csv:1: two columns make the name A_B; --columns chooses columns and names them, as in --columns 'A,B=Other Name'\n"),
+    fault("17 columns that are listed", {"wide.csv": FORTY}, "wide.csv:1: 17 columns are wanted, and a table has 16 at most; --columns chooses some\n", ["--columns", ",".join(f"c{number}" for number in range(1, 18))]),
+    fault("16 columns and one that counts", {"wide.csv": FORTY}, "wide.csv:1: 17 columns are wanted, and a table has 16 at most; --columns chooses some\n", ["--number", "N", "--columns", ",".join(f"c{number}" for number in range(1, 17))]),
+    fault("16 columns without a key", {"wide.csv": ",".join("abcdefghijklmnop") + "\n" + ",".join("1" * 16) + "\n" + ",".join("1" * 16) + "\n"}, "wide.csv:1: no column is a key, and 16 columns leave no room for one that counts records; --columns chooses some\n"),
+    fault("a counted column of the name of another", {"sales.csv": SALES}, "sales.csv:1: a column makes the name ID, and --number needs another one\n", ["--number", "id"]),
+    fault("a text in another coding", {"sales.csv": LATIN}, Text(begins="sales.csv:2: record 1, column CITY: "), output="line 2 refused 6 part 1 record 1\n"),
+    fault("a text that is too long", {"sales.csv": f'\nid;"the\nname"\n1;{LONG}\n'}, Text(begins="sales.csv:4: record 1, column THE_NAME: "), ["--delimiter", ";"], output="line 2 refused 6 part 1 record 1\n"),
+    fault("more rows than are allowed", {"sales.csv": SALES}, f"olap: the draft would have more rows than --rows allows (9 TooManyRows)\n{STOPPED}", ["--rows", "3"], output="line 2 refused 9\n"),
+    Case("query: a file that is not there", ["query", "SELECT COUNT(*) FROM T", "gone.csv"], errors="olap: cannot read gone.csv: no such file\n", status=2),
+    Case("schema: a folder", ["schema", "room"], {"room": None}, errors="olap: cannot read room: it is a folder\n", status=2),
+    refused(10, "SELECT COUNT(*) FROM SALES;", ";", ";: no semicolon stands at the end"),
+    refused(10, "SELECT REGION FROM SALES ORDER BY REGION", "ORDER", "ORDER: the query should end here"),
+    refused(11, "SELECT COUNT(*) FROM SALE", "SALE", "SALE: the table is SALES"),
+    refused(11, "SELECT SUM(UNIT) FROM SALES", "UNIT", "UNIT: no column of the table, in the select list"),
+    refused(12, "SELECT REGION FROM SALES", "REGION", "REGION: in no grouping set, though it stands in the select list"),
+    refused(13, "SELECT SUM(REGION) FROM SALES", "REGION", "REGION: a column of texts has no sum"),
+    Case("schema: 40 columns", ["schema", "wide.csv"], {"wide.csv": FORTY}, errors="wide.csv:1: the header has 40 columns, and a table 16 at most; --columns chooses some\n", status=1),
+]
+
+WORDS = [
+    words("no words", "query", [], "no QUERY"),
+    words("no file", "query", ["SELECT COUNT(*) FROM T"], "no FILE"),
+    words("no file of a schema", "schema", [], "no FILE"),
+    words("two files of a schema", "schema", ["sales.csv", "more.csv"], "one FILE is wanted, and more.csv comes after it"),
+    words("an option that is not there", "query", ["--strict", "Q", "sales.csv"], "there is no option '--strict'"),
+    words("an option of one letter", "query", ["-d", "Q", "sales.csv"], "there is no option '-d'"),
+    words("workers of a schema", "schema", ["--workers", "2", "sales.csv"], "there is no option '--workers'"),
+    words("rows of a schema", "schema", ["--rows=2", "sales.csv"], "there is no option '--rows'"),
+    words("an option without a value", "query", ["Q", "sales.csv", "--null"], "'--null' takes a value"),
+    words("a flag with a value", "query", ["--trim=no", "Q", "sales.csv"], "'--trim=no' takes no value"),
+    words("an option that comes twice", "query", ["--null", "a", "--null", "b", "Q", "sales.csv"], "'--null' is given twice"),
+    *[
+        words(f"the delimiter {text!r}", "query", ["--delimiter", text, "Q", "sales.csv"], f"'--delimiter' takes one character of ASCII, but no quote and no line end, or the word tab: {text}")
+        for text in ("", ";;", "ö", '"', "\n", "TAB")
+    ],
+    *[
+        words(f"the counted column {text!r}", "query", ["--number", text, "Q", "sales.csv"], f"'--number' takes a name for the column that counts, a letter or _ and then letters, digits and _, but no word of the language: {text}")
+        for text in ("", "a b", "1a", "key")
+    ],
+    *[words(f"{text} workers", "query", [f"--workers={text}", "Q", "sales.csv"], "'--workers' takes a number from 1 to 64") for text in ("0", "65", "-1", "x")],
+    words("no rows", "query", ["--rows", "0", "Q", "sales.csv"], "'--rows' takes a number from 1 to 4294967296"),
+    words("65 files", "query", ["Q", *["sales.csv"] * 65], "at most 64 files are read, and 65 were given"),
+    words("a line break in a text", "query", ["SELECT COUNT(*) FROM T WHERE A = 'x\ny'", "sales.csv"], "a text of the query has a line break, which a script can't have"),
+    Case("query --help", ["query", "--help"], output=Text(has="\nUsage: olap query [OPTIONS] 'SELECT ..' FILE...\n")),
+    Case("query -h, behind other words", ["query", "Q", "-h"], output=Text(has="\nUsage: olap query [OPTIONS] 'SELECT ..' FILE...\n")),
+    Case("help query", ["help", "query"], output=Text(begins="Answers one query over CSV files\n\n")),
+    Case("schema --help", ["schema", "--help"], output=Text(has="\nUsage: olap schema [OPTIONS] FILE\n")),
+    Case("help schema", ["help", "schema"], output=Text(begins="Shows the table that `olap query` proposes ")),
+    Case("help tells of query and schema", ["--help"], output=Text(has="\n  olap query 'SELECT ..' FILE...  answers ")),
+]
+
+CASES = [*FILES, *FAULTS, *WORDS]
