@@ -1,0 +1,6 @@
+pub mod Classic
+pub mod Csv
+pub mod Escapes
+pub mod Forms
+pub mod Json
+pub mod Tables

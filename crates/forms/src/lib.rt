@@ -1,0 +1,12 @@
+//! How a report's body is spelled: the lines that people know, CSV, JSON, or a table in columns.
+#![tactic(auto)]
+
+pub mod classic;
+pub mod commas;
+mod escapes;
+mod form;
+mod integers;
+pub mod json;
+pub mod table;
+
+pub use form::Form;

@@ -1,0 +1,97 @@
+//! What stands in a column.
+ghost use Rattle.std.specs.Prelude.{◌≡◌, ◌++◌, ◌-◌, IfOk, OnOk, replicate};
+ghost use Rattle.std.specs.Fmt.{signed_decimal};
+ghost use Rattle.forms.specs.Tables.{at_left, begins_character, blanks, cell_of, shown, shown_text, width};
+
+use crate::escapes::push_shown_byte;
+use crate::integers::push_integer;
+use cells::Total;
+use std::alloc::{AllocError, Global};
+
+/// The text with its control bytes escaped.
+pub(super) fn shown_text(alloc: Global, text: &[u8]) -> Result<Vec<u8>, AllocError>
+    ensures { IfOk result (λ shown. shown.items ≡ shown_text text.now) }
+{
+    let mut shown = Vec::new(alloc);
+    for byte in text {
+        push_shown_byte(&mut shown, *byte)?;
+    }
+    Ok(shown)
+}
+
+/// What is shown of a value.
+pub(super) fn shown(alloc: Global, total: &Total) -> Result<Vec<u8>, AllocError>
+    ensures { IfOk result (λ text. text.items ≡ shown total.now) }
+{
+    match total {
+        Total::Null => Vec::from_slice(alloc, b"NULL"),
+        Total::Int(n) => decimal(alloc, *n),
+        Total::Text(text) => shown_text(alloc, text.as_bytes()),
+    }
+}
+
+/// An integer in decimal.
+fn decimal(alloc: Global, n: i128) -> Result<Vec<u8>, AllocError>
+    ensures { IfOk result (λ text. text.items ≡ signed_decimal n) }
+{
+    let mut text = Vec::new(alloc);
+    push_integer(&mut text, n)?;
+    Ok(text)
+}
+
+/// How many characters the bytes spell.
+pub(super) fn width(text: &[u8]) -> usize
+    ensures { result ≡ width text.now }
+{
+    text.iter().filter(|byte| begins_character(**byte)).count()
+}
+
+/// Whether a byte begins a character of UTF-8.
+fn begins_character(byte: u8) -> bool
+    ensures { result ≡ begins_character byte }
+{
+    byte < 128 || byte >= 192
+}
+
+/// The text with a value behind it, in a column of this width.
+pub(super) fn push_value(
+    alloc: Global,
+    text: &mut Vec<u8>,
+    wide: usize,
+    total: &Total,
+) -> Result<(), AllocError>
+    ensures { OnOk result (text.new.items ≡ text.old.items ++ cell_of wide total.now) }
+{
+    let shown = shown(alloc, total)?;
+    match total {
+        Total::Int(_) => push_right(text, wide, shown.as_slice()),
+        _ => push_left(text, wide, shown.as_slice()),
+    }
+}
+
+/// The text with another behind it, at the right of a column of this width.
+fn push_right(text: &mut Vec<u8>, wide: usize, value: &[u8]) -> Result<(), AllocError>
+    ensures { OnOk result (text.new.items ≡ text.old.items ++ (blanks wide value.now ++ value.now)) }
+{
+    push_many(text, wide.saturating_sub(width(value)), b' ')?;
+    text.extend_from_slice(value)?;
+    Ok(())
+}
+
+/// The text with another behind it, at the left of a column of this width.
+pub(super) fn push_left(text: &mut Vec<u8>, wide: usize, value: &[u8]) -> Result<(), AllocError>
+    ensures { OnOk result (text.new.items ≡ text.old.items ++ at_left wide value.now) }
+{
+    text.extend_from_slice(value)?;
+    push_many(text, wide.saturating_sub(width(value)), b' ')
+}
+
+/// The text with a byte behind it, so many times.
+pub(super) fn push_many(text: &mut Vec<u8>, count: usize, byte: u8) -> Result<(), AllocError>
+    ensures { OnOk result (text.new.items ≡ text.old.items ++ replicate count byte) }
+{
+    for _ in 0..count {
+        text.push(byte)?;
+    }
+    Ok(())
+}
