@@ -26,7 +26,7 @@ pub use failing::Failing;
 pub use limits::{MAX_REPORTS, MAX_WORKERS};
 pub use out::{Out, OutFault, write_whole};
 pub use pour::Pour;
-pub use printing::{text, text_in};
+pub use printing::text;
 pub use question::Question;
 pub use starting::Starter;
 pub use tape::Tape;

@@ -9,5 +9,5 @@ returns g c = record {
       let plan = c.args.plan.now in
       let all = c.in_ok-rows.ensures in
       let moved = listed_as c.a_map_has_its_entries.ensures _ _ rs all.all left same in
-      c.in_ok-text.ensures.text ∙ ap (text_of (asked_in c.args.form plan)) (c.as_slice.ensures.value ∙ all.are ∙ c.any_order.ensures.report plan _ rs moved);
+      c.in_ok-text.ensures ∙ ap (text_of (asked_in c.args.form plan)) (c.as_slice.ensures.value ∙ all.are ∙ c.any_order.ensures.report plan _ rs moved);
 }

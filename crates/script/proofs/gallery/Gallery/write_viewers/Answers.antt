@@ -48,6 +48,11 @@ write_viewer-requires-clause-plan g c κs within =
     let inv = c.loop-watched.invariant in
     rw inv.same (ok_so c.in-Some.watched _ _ (came_back (viewing_of c.args.viewing) c.args.keeper.now c.loop-watched.self.audience.watches c.next.new.self.watches c.in-Some.watched c.in-Some.ensures.some inv.started) (c.branch-watcher.ensures ∙ ap result_from_control_flow c.in_ok-watcher.is)).plan
 
+pub write_viewer-requires-clause-form : goal.write_viewer-requires-clause-form
+write_viewer-requires-clause-form g c κs within =
+    let inv = c.loop-watched.invariant in
+    (ok_so c.in-Some.watched _ _ (came_back (viewing_of c.args.viewing) c.args.keeper.now c.loop-watched.self.audience.watches c.next.new.self.watches c.in-Some.watched c.in-Some.ensures.some inv.started) (c.branch-watcher.ensures ∙ ap result_from_control_flow c.in_ok-watcher.is)).form_is
+
 pub write_viewer-requires-clause-shots : goal.write_viewer-requires-clause-shots
 write_viewer-requires-clause-shots g c κs within =
     let inv = c.loop-watched.invariant in
