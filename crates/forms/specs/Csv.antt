@@ -20,7 +20,7 @@ has_blank_end text = is_blank (slice_index text 0) || is_blank (slice_index text
 
 -- a text that would not be read back if it stood bare
 abbrev pub needs_quotes : List ℕ → Bool
-needs_quotes text = length text == 0 || list_any is_mark text || has_blank_end text || begins_with_bom text
+needs_quotes text = length text == 0 || has_blank_end text || begins_with_bom text || list_any is_mark text
 
 -- a quote twice, and any other byte as it is
 abbrev pub doubled_byte : ℕ → List ℕ
@@ -29,11 +29,15 @@ doubled_byte b = if b == 34 then 34 ∷ 34 ∷ [] else b ∷ []
 abbrev pub in_quotes : List ℕ → List ℕ
 in_quotes text = 34 ∷ (flat_map doubled_byte text ++ 34 ∷ [])
 
--- NULL is empty, an integer stands in decimal, and a text in quotes where it needs them
+-- a text, in quotes where it needs them
+abbrev pub text_field : List ℕ → List ℕ
+text_field text = if needs_quotes text then in_quotes text else text
+
+-- NULL is empty, and an integer stands in decimal
 abbrev pub csv_field : Total → List ℕ
 csv_field Null = []
 csv_field (Int n) = signed_decimal n
-csv_field (Text text) = if needs_quotes text then in_quotes text else text
+csv_field (Text text) = text_field text
 
 -- one NULL alone
 abbrev pub is_lone_null : List Total → Bool

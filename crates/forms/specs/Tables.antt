@@ -48,9 +48,13 @@ abbrev pub without_end_blanks : List ℕ → List ℕ
 without_end_blanks [] = []
 without_end_blanks (b ∷ bs) = if b == 32 && length (without_end_blanks bs) == 0 then [] else b ∷ without_end_blanks bs
 
--- the cells, each with two blanks behind it but for the end of the line
+-- a cell, and two blanks before the next
+abbrev pub gapped : List ℕ → List ℕ
+gapped cell = cell ++ codes "  "
+
+-- the cells, with no blank at the end of the line
 abbrev pub line : List (List ℕ) → List ℕ
-line cells = without_end_blanks (flat_map (λ cell. cell ++ codes "  ") cells) ++ 10 ∷ []
+line cells = without_end_blanks (flat_map gapped cells) ++ 10 ∷ []
 
 -- as many blanks as a column of this width is wider than the text
 abbrev pub blanks : ℕ → List ℕ → List ℕ

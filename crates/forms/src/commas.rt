@@ -1,10 +1,9 @@
 //! CSV (RFC 4180): a record for each row, below one of the headings. Each line ends with a line feed, as all that is
 //! written beside it.
 ghost use Rattle.std.specs.Prelude.{◌≡◌, ◌∷◌, [], ◌++◌, OnOk, slice_index};
-ghost use Rattle.std.specs.List.{flat_map, join_by};
-ghost use Rattle.cells.specs.declared.total.Total.TheVariants.{Text};
+ghost use Rattle.std.specs.List.{flat_map, join_by, list_any};
 ghost use Rattle.cells.specs.Spelling.{is_blank};
-ghost use Rattle.forms.specs.Csv.{begins_with_bom, csv_field, csv_header, csv_row, doubled_byte, has_blank_end, in_quotes, is_lone_null, is_mark, needs_quotes};
+ghost use Rattle.forms.specs.Csv.{begins_with_bom, csv_field, csv_header, csv_row, doubled_byte, has_blank_end, in_quotes, is_lone_null, is_mark, needs_quotes, text_field};
 
 use crate::integers::push_integer;
 use cells::{Text, Total};
@@ -91,7 +90,7 @@ fn push_field(text: &mut Vec<u8>, total: &Total) -> Result<(), AllocError>
 
 /// The text with another behind it, in quotes where it needs them.
 fn push_text(text: &mut Vec<u8>, value: &[u8]) -> Result<(), AllocError>
-    ensures { OnOk result (text.new.items ≡ text.old.items ++ csv_field (Text value.now)) }
+    ensures { OnOk result (text.new.items ≡ text.old.items ++ text_field value.now) }
 {
     if needs_quotes(value) {
         return push_quoted(text, value);
@@ -135,10 +134,23 @@ fn push_byte(text: &mut Vec<u8>, byte: u8) -> Result<(), AllocError>
 fn needs_quotes(value: &[u8]) -> bool
     ensures { result ≡ needs_quotes value.now }
 {
-    value.is_empty()
-        || value.iter().any(|byte| is_mark(*byte))
-        || has_blank_end(value)
-        || begins_with_bom(value)
+    if value.is_empty() {
+        return true;
+    }
+    if has_blank_end(value) {
+        return true;
+    }
+    if begins_with_bom(value) {
+        return true;
+    }
+    holds_mark(value)
+}
+
+/// Whether some byte may stand in quotes alone.
+fn holds_mark(value: &[u8]) -> bool
+    ensures { result ≡ list_any is_mark value.now }
+{
+    value.iter().any(|byte| is_mark(*byte))
 }
 
 /// Whether a byte may stand in quotes alone.

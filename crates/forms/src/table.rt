@@ -1,7 +1,7 @@
 //! A table for people: columns as wide as what stands in them, two blanks apart. A width counts characters.
-ghost use Rattle.std.specs.Prelude.{◌≡◌, ◌∷◌, [], ◌++◌, IfOk, OnOk, codes, map, replicate};
+ghost use Rattle.std.specs.Prelude.{◌≡◌, ◌∷◌, [], ◌++◌, IfOk, OnOk, map, replicate};
 ghost use Rattle.std.specs.List.{flat_map};
-ghost use Rattle.forms.specs.Tables.{at_left, cell_of, cells_of, line, shown_text, table_header, table_row, without_end_blanks};
+ghost use Rattle.forms.specs.Tables.{at_left, cell_of, cells_of, gapped, line, shown_text, table_header, table_row, without_end_blanks};
 
 mod cell;
 mod widths;
@@ -32,7 +32,7 @@ pub fn push_header(
 
 /// The headings in their columns, each with a gap behind it.
 fn headings_of(alloc: Global, widths: &Widths, headings: &[Text]) -> Result<Vec<u8>, AllocError>
-    ensures { IfOk result (λ made. made.items ≡ flat_map (λ cell. cell ++ codes "  ") (cells_of (λ wide heading. at_left wide (shown_text heading)) widths.now headings.now)) }
+    ensures { IfOk result (λ made. made.items ≡ flat_map gapped (cells_of (λ wide heading. at_left wide (shown_text heading)) widths.now headings.now)) }
 {
     let mut made = Vec::new(alloc);
     for (place, heading) in headings.iter().enumerate() {
@@ -45,7 +45,7 @@ fn headings_of(alloc: Global, widths: &Widths, headings: &[Text]) -> Result<Vec<
 
 /// Dashes as wide as each column, with a gap behind them.
 fn dashes_of(alloc: Global, widths: &Widths) -> Result<Vec<u8>, AllocError>
-    ensures { IfOk result (λ made. made.items ≡ flat_map (λ cell. cell ++ codes "  ") (map (λ wide. replicate wide 45) widths.now)) }
+    ensures { IfOk result (λ made. made.items ≡ flat_map gapped (map (λ wide. replicate wide 45) widths.now)) }
 {
     let mut made = Vec::new(alloc);
     for wide in widths.as_slice() {
@@ -71,7 +71,7 @@ pub fn push_row(
 
 /// The values in their columns, each with a gap behind it.
 fn values_of(alloc: Global, widths: &Widths, totals: &[Total]) -> Result<Vec<u8>, AllocError>
-    ensures { IfOk result (λ made. made.items ≡ flat_map (λ cell. cell ++ codes "  ") (cells_of cell_of widths.now totals.now)) }
+    ensures { IfOk result (λ made. made.items ≡ flat_map gapped (cells_of cell_of widths.now totals.now)) }
 {
     let mut made = Vec::new(alloc);
     for (place, total) in totals.iter().enumerate() {
@@ -95,7 +95,10 @@ fn without_end_blanks(line: &[u8]) -> &[u8]
     ensures { result.now ≡ without_end_blanks line.now }
 {
     let mut rest = line;
-    while let Some((b' ', front)) = rest.split_last() {
+    while let Some((last, front)) = rest.split_last() {
+        if *last != b' ' {
+            return rest;
+        }
         rest = front;
     }
     rest

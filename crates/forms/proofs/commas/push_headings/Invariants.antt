@@ -1,0 +1,7 @@
+use Rattle.std.proofs.Common.{◌≡◌, ◌∷◌, ◌++◌, take}
+use Rattle.std.specs.List.{flat_map}
+use Rattle.forms.specs.Csv.{in_quotes}
+use Rattle.forms.proofs.commas.push_headings.Given as goal
+
+abbrev pub invariant-loop-heading : goal.invariant-loop-heading
+invariant-loop-heading l = l.text.items ≡ l.fn.text.items ++ flat_map (λ heading. 44 ∷ in_quotes heading) (take l.heading-index l.headings)

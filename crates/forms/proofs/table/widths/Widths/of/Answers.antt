@@ -1,0 +1,10 @@
+use Rattle.std.proofs.Common.{◌∙◌, ap, arith, map, take_all}
+use Rattle.forms.specs.Tables.{shown_text, width}
+use Rattle.forms.proofs.WidthsLemmas.{widths_of_none}
+use Rattle.forms.proofs.table.widths.Widths.of.Goals as goal
+
+pub returns : goal.returns
+returns c =
+    c.loop-heading.invariant
+    ∙ ap (map (λ heading. width (shown_text heading))) (take_all c.loop-heading.heading-index c.args.headings.now (omega arith))
+    ∙ widths_of_none c.args.headings.now
