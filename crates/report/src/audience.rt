@@ -3,13 +3,13 @@ ghost use Rattle.std.specs.Prelude.{◌≡◌, ◌∷◌, ◌++◌, ◌+◌, ◌
 ghost use Rattle.report.specs.Audiences.{watch_of};
 ghost use Rattle.report.specs.Watching.{ComesBack, HasWatched, unwatched, with_watch, without_watch};
 
+use crate::question::Question;
 use crate::starting::{Starter, in_thread};
 use crate::want::Want;
 use crate::watching::Watcher;
 use board::{Viewer, viewers_cross_threads};
 use cells::{Cell, KeyHash, Tuple};
 use crew::Gate;
-use crate::question::Question;
 use std::alloc::{AllocError, Global};
 use std::collections::VecDeque;
 use std::marker::Model;

@@ -10,13 +10,13 @@ ghost use Rattle.report.specs.declared.want.Want.TheVariants as want;
 
 use crate::limits::MAX_REPORTS;
 use crate::out::{Out, write_whole};
+use crate::question::Question;
 use crate::starting::{Started, Starter};
 use crate::unwritten::Unwritten;
 use crate::want::Want;
 use board::Snapshot;
 use cells::{Cell, KeyHash, Tuple};
 use crew::Gate;
-use crate::question::Question;
 use std::alloc::{AllocError, Global};
 use std::collections::VecDeque;
 use std::marker::Model;
@@ -188,7 +188,12 @@ impl<H: KeyHash<Cell>> Backlog<H> {
         ensures goes_on { WritesOn O.taken O.faults out.old out.new self.new (AwaitsThen self.old (Heads heading.now snapshot question)) result }
         ensures early { length self.old.reports < under_way_limit → (out.new ≡ out.old) × OnOk result (self.new ≡ with_report (with_text self.old heading.now) snapshot question) }
     {
-        let (snapshot, question) = self.make_way(starter.answering.rt, out, heading, (snapshot, question))?;
+        let (snapshot, question) = self.make_way(
+            starter.answering.rt,
+            out,
+            heading,
+            (snapshot, question),
+        )?;
         self.push_report(starter, line, snapshot, question)?;
         Ok(())
     }

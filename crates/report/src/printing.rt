@@ -41,11 +41,7 @@ pub(crate) fn text_in(
 }
 
 /// The headings in one line, and then a line for each row.
-fn classic_text(
-    alloc: Global,
-    headings: &[Text],
-    rows: &[ReportRow],
-) -> Result<Vec<u8>, AllocError>
+fn classic_text(alloc: Global, headings: &[Text], rows: &[ReportRow]) -> Result<Vec<u8>, AllocError>
     ensures { IfOk result (λ text. text.items ≡ report_of Form.Classic headings.now rows.now) }
 {
     let mut text = Vec::new(alloc);
@@ -57,11 +53,7 @@ fn classic_text(
 }
 
 /// The headings as a record, and then a record for each row.
-fn csv_text(
-    alloc: Global,
-    headings: &[Text],
-    rows: &[ReportRow],
-) -> Result<Vec<u8>, AllocError>
+fn csv_text(alloc: Global, headings: &[Text], rows: &[ReportRow]) -> Result<Vec<u8>, AllocError>
     ensures { IfOk result (λ text. text.items ≡ report_of Form.Csv headings.now rows.now) }
 {
     let mut text = Vec::new(alloc);
@@ -73,11 +65,7 @@ fn csv_text(
 }
 
 /// The last members of an object, and its end: the headings, and the rows.
-fn json_text(
-    alloc: Global,
-    headings: &[Text],
-    rows: &[ReportRow],
-) -> Result<Vec<u8>, AllocError>
+fn json_text(alloc: Global, headings: &[Text], rows: &[ReportRow]) -> Result<Vec<u8>, AllocError>
     ensures { IfOk result (λ text. text.items ≡ report_of Form.Json headings.now rows.now) }
 {
     let mut text = Vec::new(alloc);
@@ -112,11 +100,7 @@ fn push_later_rows(text: &mut Vec<u8>, rows: &[ReportRow]) -> Result<(), AllocEr
 }
 
 /// The headings over dashes, and then a line for each row, in columns as wide as what stands in them.
-fn table_text(
-    alloc: Global,
-    headings: &[Text],
-    rows: &[ReportRow],
-) -> Result<Vec<u8>, AllocError>
+fn table_text(alloc: Global, headings: &[Text], rows: &[ReportRow]) -> Result<Vec<u8>, AllocError>
     ensures { IfOk result (λ text. text.items ≡ report_of Form.Table headings.now rows.now) }
 {
     let widths = widths_of(alloc, headings, rows)?;
@@ -129,11 +113,7 @@ fn table_text(
 }
 
 /// The widths of the columns.
-fn widths_of(
-    alloc: Global,
-    headings: &[Text],
-    rows: &[ReportRow],
-) -> Result<Widths, AllocError>
+fn widths_of(alloc: Global, headings: &[Text], rows: &[ReportRow]) -> Result<Widths, AllocError>
     ensures { IfOk result (λ widths. widths ≡ widths_of headings.now rows.now) }
 {
     let mut widths = Widths::of(alloc, headings)?;

@@ -3,11 +3,11 @@ ghost use Rattle.std.specs.Prelude.{◌≡◌, IfOk};
 ghost use Rattle.report.specs.Waiting.{IsReportText};
 
 use crate::answering::Answering;
+use crate::question::Question;
 use crate::want::Want;
 use board::{Snapshot, viewers_cross_threads};
 use cells::{Cell, KeyHash, Tuple};
 use crew::Gate;
-use crate::question::Question;
 use std::alloc::{AllocError, Global};
 use std::snapshot;
 use std::sync::atomic::AtomicBool;

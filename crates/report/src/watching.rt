@@ -7,11 +7,11 @@ ghost use Rattle.report.specs.Watching.{GoUpTo, HasWatched, IsLastEdition, IsLas
 
 use crate::answering::Answering;
 use crate::owned::handed_on;
+use crate::question::Question;
 use crate::want::Want;
 use board::{Keeper, Snapshot, Viewer};
 use cells::{Cell, KeyHash, Tuple};
 use crew::Gate;
-use crate::question::Question;
 use std::alloc::{AllocError, Global};
 use std::marker::Model;
 use std::sync::Wait;

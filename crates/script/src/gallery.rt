@@ -184,7 +184,9 @@ impl<H: KeyHash<Cell> + KeyHash<Tuple> + Send + Sync> Gallery<H> {
         while let Some(watched) = self.audience.next(setup.rt) {
             let watcher = watched?;
             number += 1;
-            write_viewer(&answering, setup.form, viewing, keeper, watcher, number, out)?;
+            write_viewer(
+                &answering, setup.form, viewing, keeper, watcher, number, out,
+            )?;
         }
         Ok(())
     }

@@ -22,7 +22,9 @@ pub fn refusal(alloc: Global, number: u64, fault: Fault) -> Result<String, Alloc
         Fault::Part { part, record } => {
             let code = Refused::BadPart.number();
             let name = name_of(Refused::BadPart);
-            format!(in alloc; "{{\"line\":{number},\"refused\":{code},\"name\":\"{name}\",\"part\":{part},\"record\":{record}}}\n")
+            format!(in alloc;
+                "{{\"line\":{number},\"refused\":{code},\"name\":\"{name}\",\"part\":{part},\"record\":{record}}}\n"
+            )
         }
     }
 }

@@ -237,7 +237,12 @@ fn run_whole<
     O: Out,
     G: Gate,
     R: Threads + Wait + Sync,
->(setup: &SpeltSetup<'_, R, G>, script: &[u8], out: &mut O, closing: Closing) -> Result<Finish, Ended>
+>(
+    setup: &SpeltSetup<'_, R, G>,
+    script: &[u8],
+    out: &mut O,
+    closing: Closing,
+) -> Result<Finish, Ended>
     requires { O.faults out.old + 1 < 2 ^ 64 }
     ensures { EndsBy setup.now.on_refusal H.KeyHash-1.hash_of O.taken O.faults out.old out.new (givens_in setup.now.form setup.now.how.now.rows setup.now.parts.now) (asked_of setup.now.viewing) script.now result }
 {
@@ -254,7 +259,12 @@ fn run_lines<
     O: Out,
     G: Gate,
     R: Threads + Wait + Sync,
->(setup: &SpeltSetup<'_, R, G>, script: &[u8], out: &mut O, closing: Closing) -> Result<Finish, Ended>
+>(
+    setup: &SpeltSetup<'_, R, G>,
+    script: &[u8],
+    out: &mut O,
+    closing: Closing,
+) -> Result<Finish, Ended>
     requires faults { O.faults out.old + 1 < 2 ^ 64 }
     requires short { length script.now ≤ script_limit }
     ensures { EndsLines setup.now.on_refusal H.KeyHash-1.hash_of O.taken O.faults out.old out.new (givens_in setup.now.form setup.now.how.now.rows setup.now.parts.now) (asked_of setup.now.viewing) (lines script.now) result }
@@ -439,7 +449,10 @@ fn add_block<
 }
 
 /// Refuses a script that is too long, or of too many parts. A run that goes on has the tail of its viewers after the refusal.
-fn refuse_whole<O: Out, R, G: Gate>(setup: &SpeltSetup<'_, R, G>, out: &mut O) -> Result<Finish, Ended>
+fn refuse_whole<O: Out, R, G: Gate>(
+    setup: &SpeltSetup<'_, R, G>,
+    out: &mut O,
+) -> Result<Finish, Ended>
     requires { O.faults out.old + 1 < 2 ^ 64 }
     ensures ends { Ends O.taken O.faults out.old out.new (λ bytes. bytes ≡ too_much_by setup.now.form setup.now.on_refusal (asked_of setup.now.viewing)) ⊥ ⊥ result }
     ensures finish { IfOk result (λ finish. finish ≡ finish_of_refused setup.now.on_refusal) }

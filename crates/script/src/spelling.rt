@@ -10,12 +10,7 @@ use std::alloc::{AllocError, Global};
 use trie::Prefix;
 
 /// The block of a refused line.
-pub fn refusal(
-    alloc: Global,
-    form: Form,
-    number: u64,
-    fault: Fault,
-) -> Result<String, AllocError>
+pub fn refusal(alloc: Global, form: Form, number: u64, fault: Fault) -> Result<String, AllocError>
     ensures { IfOk result (λ text. string_bytes text ≡ refusal form number fault) }
 {
     match form {
@@ -27,12 +22,7 @@ pub fn refusal(
 }
 
 /// How the block of a report or a shape begins.
-pub fn heading(
-    alloc: Global,
-    form: Form,
-    number: u64,
-    edition: u64,
-) -> Result<String, AllocError>
+pub fn heading(alloc: Global, form: Form, number: u64, edition: u64) -> Result<String, AllocError>
     ensures { IfOk result (λ text. string_bytes text ≡ heading form number edition) }
 {
     match form {
@@ -44,11 +34,7 @@ pub fn heading(
 }
 
 /// The text with what stands behind a shape's heading behind it.
-pub fn push_shape(
-    form: Form,
-    text: &mut String,
-    shape: &[(Prefix, u64)],
-) -> Result<(), AllocError>
+pub fn push_shape(form: Form, text: &mut String, shape: &[(Prefix, u64)]) -> Result<(), AllocError>
     ensures { OnOk result (string_bytes text.new ≡ string_bytes text.old ++ shape_body form shape.now) }
 {
     match form {
@@ -60,11 +46,7 @@ pub fn push_shape(
 }
 
 /// What stands in place of all blocks of viewers.
-pub fn viewers_refused(
-    alloc: Global,
-    form: Form,
-    fault: Refused,
-) -> Result<String, AllocError>
+pub fn viewers_refused(alloc: Global, form: Form, fault: Refused) -> Result<String, AllocError>
     ensures { IfOk result (λ text. string_bytes text ≡ viewers_refused form fault) }
 {
     match form {
