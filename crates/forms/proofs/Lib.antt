@@ -1,2 +1,3 @@
 mod LinesLemmas
 mod WidthsLemmas
+mod ReadingLemmas

@@ -1,20 +1,12 @@
 -- A report as a table for people: columns as wide as what stands in them, two blanks apart.
-use Rattle.std.specs.Prelude.{ℕ, Bool, ◌||◌, ◌&&◌, ◌==◌, ◌-◌, List, [], ◌∷◌, ◌++◌, Option, None, Some, codes, if◌then◌else◌, length, map, max, nat_le, nat_lt, replicate, slice_get, slice_index}
-use Rattle.std.specs.Fmt.{signed_decimal}
-use Rattle.std.specs.List.{count_by, enumerate_from, flat_map, fold}
+use Rattle.std.specs.Prelude.{ℕ, ◌&&◌, ◌==◌, ◌-◌, List, [], ◌∷◌, ◌++◌, Option, None, Some, codes, if◌then◌else◌, length, map, max, replicate, slice_get, slice_index}
+use Rattle.std.specs.Fmt.{char_count, signed_decimal}
+use Rattle.std.specs.List.{enumerate_from, flat_map, fold}
 use Rattle.cells.specs.declared.total.Total.{Total}
 use Rattle.cells.specs.declared.total.Total.TheVariants.{Null, Int, Text}
 use Rattle.forms.specs.Escapes.{shown_byte}
 
--- ---- widths
-
--- a byte that begins a character of UTF-8 (RFC 3629, section 3: 10xxxxxx goes on with one)
-abbrev pub begins_character : ℕ → Bool
-begins_character b = nat_lt b 128 || nat_le 192 b
-
--- how many characters the bytes spell
-abbrev pub width : List ℕ → ℕ
-width = count_by begins_character
+-- ---- widths, which count characters
 
 -- a text with its control bytes escaped, so that it stays in its line
 abbrev pub shown_text : List ℕ → List ℕ
@@ -28,14 +20,14 @@ shown (Text text) = shown_text text
 -- the width of a value, where there is one
 abbrev pub width_of : Option Total → ℕ
 width_of None = 0
-width_of (Some total) = width (shown total)
+width_of (Some total) = char_count (shown total)
 
 abbrev pub greatest : List ℕ → ℕ
 greatest = fold max 0
 
 -- the greatest width of the heading at a place and of the values at that place in the rows
 abbrev pub column_width : List (List Total) → ℕ × List ℕ → ℕ
-column_width rows (place, heading) = greatest (width (shown_text heading) ∷ map (λ totals. width_of (slice_get totals place)) rows)
+column_width rows (place, heading) = greatest (char_count (shown_text heading) ∷ map (λ totals. width_of (slice_get totals place)) rows)
 
 -- the width of each column
 abbrev pub widths_of : List (List ℕ) → List (List Total) → List ℕ
@@ -58,7 +50,7 @@ line cells = without_end_blanks (flat_map gapped cells) ++ 10 ∷ []
 
 -- as many blanks as a column of this width is wider than the text
 abbrev pub blanks : ℕ → List ℕ → List ℕ
-blanks wide text = replicate (wide - width text) 32
+blanks wide text = replicate (wide - char_count text) 32
 
 -- a text at the left of its column
 abbrev pub at_left : ℕ → List ℕ → List ℕ

@@ -7,6 +7,8 @@ mod escapes;
 mod form;
 mod integers;
 pub mod json;
+mod laws;
 pub mod table;
 
 pub use form::Form;
+pub use laws::{a_report_is_read_back, a_width_counts_characters};

@@ -49,7 +49,7 @@ told_loaded form number limit us (Ok rs) bytes is = told_updated form number (is
 told_loaded form number limit us (Err fault) bytes is = told_refusal form number fault bytes is
 
 told_report : (form : Form) (number edition : ℕ) (said : Result Answer Refused) (bytes : List ℕ) → bytes ≡ report form number edition said → Told number bytes
-told_report form number edition (Ok answer) bytes is = record { refused = false; tells = λ refused. no_refusal_headed form number edition (spelt form answer) (subst (IsRefusal number) is refused) }
+told_report form number edition (Ok told) bytes is = record { refused = false; tells = λ refused. no_refusal_headed form number edition (spelt form told) (subst (IsRefusal number) is refused) }
 told_report form number edition (Err fault) bytes is = told_refusal form number (Line fault) bytes is
 
 told_answer : (hash : Cell → ℕ) (givens : Givens) (before : Lines) (r : Result Deed Fault) (bytes : List ℕ) → IsAnswer hash givens before r bytes → Told (length before + 1) bytes

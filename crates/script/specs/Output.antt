@@ -109,7 +109,7 @@ loaded form number limit us (Err fault) = refusal form number fault
 
 -- the block of a report: its heading and its answer, or its refusal
 abbrev pub report : Form → ℕ → ℕ → Result Answer Refused → List ℕ
-report form number edition (Ok answer) = heading form number edition ++ spelt form answer
+report form number edition (Ok told) = heading form number edition ++ spelt form told
 report form number edition (Err fault) = refusal form number (Line fault)
 
 -- the bytes are the block of a report: what its text says over these rows

@@ -1,4 +1,4 @@
-//! Tests of `cells`, `trie`, `aggs`, `columns`, `groups`, `board` and `prepare` by their public items: what no clause says of
+//! Tests of `cells`, `trie`, `aggs`, `columns`, `groups`, `board`, `forms` and `prepare` by their public items: what no clause says of
 //! them, and no script can show.
 #![tactic(auto)]
 
@@ -10,6 +10,8 @@ mod of_board;
 mod of_cells;
 #[cfg(test)]
 mod of_columns;
+#[cfg(test)]
+mod of_forms;
 #[cfg(test)]
 mod of_groups;
 #[cfg(test)]

@@ -1,7 +1,7 @@
 //! What stands in a column.
 ghost use Rattle.std.specs.Prelude.{◌≡◌, ◌++◌, ◌-◌, IfOk, OnOk, replicate};
-ghost use Rattle.std.specs.Fmt.{signed_decimal};
-ghost use Rattle.forms.specs.Tables.{at_left, begins_character, blanks, cell_of, shown, shown_text, width};
+ghost use Rattle.std.specs.Fmt.{char_count, is_char_start, signed_decimal};
+ghost use Rattle.forms.specs.Tables.{at_left, blanks, cell_of, shown, shown_text};
 
 use crate::escapes::push_shown_byte;
 use crate::integers::push_integer;
@@ -40,15 +40,16 @@ fn decimal(alloc: Global, n: i128) -> Result<Vec<u8>, AllocError>
 }
 
 /// How many characters the bytes spell.
+#[tactic(auto, using(crate::proofs::WidthsLemmas::counted))]
 pub(super) fn width(text: &[u8]) -> usize
-    ensures { result ≡ width text.now }
+    ensures { result ≡ char_count text.now }
 {
-    text.iter().filter(|byte| begins_character(**byte)).count()
+    text.iter().filter(|byte| is_char_start(**byte)).count()
 }
 
-/// Whether a byte begins a character of UTF-8.
-fn begins_character(byte: u8) -> bool
-    ensures { result ≡ begins_character byte }
+/// Whether a byte begins a character of UTF-8. The others, which are `10xxxxxx`, go on with one.
+fn is_char_start(byte: u8) -> bool
+    ensures { result ≡ is_char_start byte }
 {
     byte < 128 || byte >= 192
 }

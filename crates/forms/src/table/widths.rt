@@ -47,7 +47,7 @@ impl Widths {
     }
 
     /// The width of the column at a place, or 0 where there is none.
-    pub fn at(&self, place: usize) -> usize
+    pub(super) fn at(&self, place: usize) -> usize
         ensures { result ≡ slice_index self.now place }
     {
         match self.widths.get(place) {
@@ -57,7 +57,7 @@ impl Widths {
     }
 
     /// The widths, column by column.
-    pub fn as_slice(&self) -> &[usize]
+    pub(super) fn as_slice(&self) -> &[usize]
         ensures { result.now ≡ self.now }
     {
         self.widths.as_slice()

@@ -86,7 +86,7 @@ returns-in-Ok-Shape-clause-step g c =
     ap (λ t. deed (Some t) c.args.line.bytes.now) (sym c.schema.ensures) ∙ c.in-Ok-Shape.ensures.exact
     ∙ ap (λ s. Ok (deed_of_statement c.schema.result.now s)) c.in-Ok-Shape.field-0-is in
     steps_as_text g.H.KeyHash.hash_of given c.args.line.bytes.now c.args.line.number (Some c.args.keeper.now) (Some c.args.keeper.now) c.shape_block.result c.text_block.result _ c.text_block.ensures.found c.text_block.ensures.memory
-    (IfOk-weaker c.shape_block.result _ _ (λ bytes text refused. no_refusal_shape c.args.line.number _ _ (rw text at refused)) c.shape_block.ensures)
+    (IfOk-weaker c.shape_block.result _ _ (λ bytes text refused. no_refusal_shape c.args.setup.now.form c.args.line.number _ _ (rw text at refused)) c.shape_block.ensures)
     (IfOk-weaker c.shape_block.result _ _ (λ bytes text. executes_shape g.H.KeyHash.hash_of given c.args.line.bytes.now c.args.line.number c.args.keeper.now bytes.items does c.rows_have_the_shape_of_their_keys.ensures text) c.shape_block.ensures)
 
 pub returns-in-Err-clause-step : goal.returns-in-Err-clause-step
