@@ -2,7 +2,7 @@
 ghost use Rattle.std.specs.Prelude.{◌≡◌, ◌∷◌, [], ◌++◌, IfErr, IfOk, OnOk};
 ghost use Rattle.std.specs.List.{flat_map, join_by};
 ghost use Rattle.forms.specs.Json.{json_row};
-ghost use Rattle.forms.specs.Tables.{widths_of};
+ghost use Rattle.forms.specs.Tables.{table_row, widths_of};
 ghost use Rattle.report.specs.Reports.{asked_in, report_of, report_text, text_of};
 
 use cells::{Refused, Text};
@@ -106,10 +106,23 @@ fn table_text(alloc: Global, headings: &[Text], rows: &[ReportRow]) -> Result<Ve
     let widths = widths_of(alloc, headings, rows)?;
     let mut text = Vec::new(alloc);
     table::push_header(alloc, &mut text, &widths, headings)?;
-    for row in rows {
-        table::push_row(alloc, &mut text, &widths, row.totals.as_slice())?;
-    }
+    push_table_rows(alloc, &mut text, &widths, rows)?;
     Ok(text)
+}
+
+/// The text with a line for each row behind it, in columns of these widths.
+fn push_table_rows(
+    alloc: Global,
+    text: &mut Vec<u8>,
+    widths: &Widths,
+    rows: &[ReportRow],
+) -> Result<(), AllocError>
+    ensures { OnOk result (text.new.items ≡ text.old.items ++ flat_map (table_row widths.now) rows.now) }
+{
+    for row in rows {
+        table::push_row(alloc, text, widths, row.totals.as_slice())?;
+    }
+    Ok(())
 }
 
 /// The widths of the columns.

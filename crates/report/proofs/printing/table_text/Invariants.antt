@@ -1,7 +1,0 @@
-use Rattle.std.proofs.Common.{◌≡◌, ◌++◌, take}
-use Rattle.std.specs.List.{flat_map}
-use Rattle.forms.specs.Tables.{table_header, table_row}
-use Rattle.report.proofs.printing.table_text.Given as goal
-
-abbrev pub invariant-loop-row : goal.invariant-loop-row
-invariant-loop-row l = l.text.items ≡ table_header l.widths l.headings ++ flat_map (table_row l.widths) (take l.row-index l.rows)
