@@ -1,8 +1,8 @@
-# Completion of the words of olap for bash: commands, options, the values of --hash, and files.
+# Completion of the words of olap for bash: commands, options, the values of --hash and --format, and files.
 
 _olap() {
     local word=${COMP_WORDS[COMP_CWORD]} before=${COMP_WORDS[COMP_CWORD - 1]} place
-    local options="--workers --depth --small --hash --rows --strict --explain --progress --help"
+    local options="--workers --depth --small --hash --rows --format --strict --explain --progress --help"
     COMPREPLY=()
     if ((COMP_CWORD == 1)); then
         mapfile -t COMPREPLY < <(compgen -W "run live query schema check help --help --version" -- "$word")
@@ -17,6 +17,10 @@ _olap() {
     case $before in
         --hash)
             mapfile -t COMPREPLY < <(compgen -W "fnv plain" -- "$word")
+            return
+            ;;
+        --format)
+            mapfile -t COMPREPLY < <(compgen -W "classic csv json table" -- "$word")
             return
             ;;
         --workers | --depth | --small | --rows | --query | --viewers | --shots | --columns | --delimiter | --number | --null)

@@ -9,6 +9,7 @@ RANGES = {
     "small": "a number from 0 to 18446744073709551615",
     "rows": "a number from 1 to 4294967296",
     "hash": "fnv or plain",
+    "format": "classic, csv, json or table",
     "viewers": "a number from 1 to 16",
     "shots": "a number from 1 to 1000",
 }
@@ -66,7 +67,15 @@ OPTIONS = [
     job("run S --hash plain"),
     beyond("run S --hash md5", "hash"),
     beyond("run S --hash FNV", "hash"),
-    # Of two values out of range the first is told, in the order workers, depth, small, rows, hash.
+    job("run S --format classic"),
+    job("run S --format table"),
+    case("run S --format csv", output="line,1,refused,1,NoTable\n"),
+    case("run --format=json S P", output='{"line":1,"refused":1,"name":"NoTable"}\n'),
+    beyond("run S --format xml", "format"),
+    beyond("run S --format JSON", "format"),
+    beyond("run S --format=", "format"),
+    # Of two values out of range the first is told, in the order workers, depth, small, rows, hash, format.
+    beyond("run S --format xml --hash md5", "hash"),
     beyond("run S --hash md5 --rows 0", "rows"),
     beyond("run S --rows 0 --depth 14", "depth"),
     job("run -- --workers"),
@@ -81,6 +90,7 @@ OPTIONS = [
     # The options of viewers are looked at behind those of a run, viewers first.
     beyond("live S --query Q --shots 0 --viewers 0", "viewers"),
     beyond("live S --query Q --viewers 0 --hash md5", "hash"),
+    beyond("live S --query Q --viewers 0 --format xml", "format"),
 ]
 
 REFUSED = [
@@ -88,6 +98,9 @@ REFUSED = [
     refused("run --workers 1"),
     refused("run S --workers"),
     refused("run S --workers 1 --workers 1"),
+    refused("run S --format"),
+    refused("run S --format csv --format csv"),
+    refused("--format csv run S"),
     refused("run S --speed 1"),
     refused("run S -w 1"),
     refused("run S --strict --strict"),
@@ -131,6 +144,9 @@ HELP = [
     help("run --help", ", 0 to 13 [default: 1]\n"),
     help("run --help", ", 1 to 4294967296 [default: 4294967296]\n"),
     help("run --help", " are cut [default: 0]\n"),
+    help("run --help", "--format <FORM> "),
+    help("live --help", "--format <FORM> "),
+    help("run --help", "csv, json or table [default: classic]\n"),
     help("run --help", "--strict "),
     help("live --help", "--strict "),
     help("run --help", "--explain "),

@@ -44,7 +44,7 @@ wrote_finished Is a b c (Err e) finish wrote is k = absurd cc
 -- the output of a job, from what was read
 pub output_of_job : (file : List ℕ → Option (List ℕ)) (job : Job) (script : List ℕ) (parts : List (List ℕ)) →
     Tells (file job.script) script → AreTold file job.parts.items parts → (finish : Finish) (whole : List ℕ) →
-    IsRunBy job.on_refusal (hash_of_choice job.hash) (record { limit = job.how.rows; parts = parts }) job.live script finish whole → IsOutputOfJob file job finish whole
+    IsRunBy job.on_refusal (hash_of_choice job.hash) (record { form = job.form; limit = job.how.rows; parts = parts }) job.live script finish whole → IsOutputOfJob file job finish whole
 output_of_job file job script parts s p finish whole is = record { script = script; script_told = s; parts = parts; parts_told = p; is_output = is }
 
 -- the output that the words ask for, from that of their job

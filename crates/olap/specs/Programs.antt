@@ -2,6 +2,7 @@
 use Rattle.std.specs.Prelude.{◌⊎◌, ℕ, List, [], Option}
 use Rattle.clap.specs.Words.{IsAmong, Text, fault_of}
 use Rattle.clap.specs.declared.error.kind.ErrorKind.TheVariants.{DisplayHelp, DisplayVersion}
+use Rattle.forms.specs.declared.form.Form.TheVariants.{Classic}
 use Rattle.script.specs.Hows.{default_hash, default_settings, hash_of_choice}
 use Rattle.script.specs.Output.{IsOutput}
 use Rattle.script.specs.Viewers.{IsRunBy}
@@ -21,7 +22,7 @@ pub record IsOutputOfJob (file : Text → Option (List ℕ)) (job : Job) (finish
   pub script_told : Tells (file job.script) script
   pub parts : List (List ℕ)
   pub parts_told : AreTold file job.parts.items parts
-  pub is_output : IsRunBy job.on_refusal (hash_of_choice job.hash) (record { limit = job.how.rows; parts = parts }) job.live script finish whole
+  pub is_output : IsRunBy job.on_refusal (hash_of_choice job.hash) (record { form = job.form; limit = job.how.rows; parts = parts }) job.live script finish whole
 
 -- the words ask for a run over these files, and this is its output where it is so finished
 pub record AskToWrite (file : Text → Option (List ℕ)) (words : List Text) (finish : Finish) (whole : List ℕ) : Type 0 where
@@ -33,4 +34,4 @@ pub record AskToWrite (file : Text → Option (List ℕ)) (words : List Text) (f
 pub record IsOutputOf (input : Option (List ℕ)) (whole : List ℕ) : Type 0 where
   pub script : List ℕ
   pub script_told : Tells input script
-  pub is_output : IsOutput (hash_of_choice default_hash) (record { limit = default_settings.rows; parts = [] }) script whole
+  pub is_output : IsOutput (hash_of_choice default_hash) (record { form = Classic; limit = default_settings.rows; parts = [] }) script whole

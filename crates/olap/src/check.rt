@@ -9,6 +9,7 @@ use crate::part_faults::tell_parts;
 use crate::program::{cannot_read, run_input};
 use crate::tell::{Output, Tell};
 use cells::Text;
+use forms::Form;
 use script::{Ended, HashChoice, How, OnRefusal};
 use std::alloc::{AllocError, Global};
 use std::io::{self, BufWriter, Write};
@@ -70,6 +71,7 @@ fn job_of_check(alloc: Global, script: &str, parts: &[String]) -> Result<Job, Al
     Ok(Job {
         how: How::default(),
         hash: HashChoice::default(),
+        form: Form::Classic,
         on_refusal: OnRefusal::GoesOn,
         explains: true,
         tells_progress: false,
@@ -147,6 +149,7 @@ fn look_at_lines<'a, T: Tell + Sync, E: Write, R: Threads + Wait + Sync>(
         alloc,
         &job.how,
         job.hash,
+        job.form,
         None,
         OnRefusal::GoesOn,
         input,

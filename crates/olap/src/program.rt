@@ -3,7 +3,7 @@ ghost use Rattle.std.specs.Prelude.{◌≡◌, ◌⊎◌, [], map, string_bytes}
 ghost use Rattle.std.specs.Io.Buffered.{writer_buffer, writer_contents};
 ghost use Rattle.std.specs.Io.KnownBytes.{Keeps};
 ghost use Rattle.script.specs.Endings.{BeginsToWrite, Writes};
-ghost use Rattle.script.specs.Givens.{givens};
+ghost use Rattle.script.specs.Givens.{givens_in};
 ghost use Rattle.script.specs.Hows.{hash_of_choice};
 ghost use Rattle.script.specs.Stops.{HoweverFinished};
 ghost use Rattle.script.specs.Viewers.{IsRunBy, asked_of};
@@ -19,8 +19,9 @@ use crate::tell::{Errors, Renew, Screen};
 use crate::telling::{Ending, Telling};
 use crate::words::job_of;
 use crew::Open;
+use forms::Form;
 use report::Pour;
-use script::{Finish, HashChoice, How, OnRefusal, Setup, Viewing, run_last};
+use script::{Finish, HashChoice, How, OnRefusal, Setup, Viewing, run_in};
 use std::alloc::Global;
 use std::io::{BufWriter, Read, Write};
 use std::sync::Wait;
@@ -117,12 +118,12 @@ fn run_told<'a, T: Renew + Sync, W: Write + Drop, E: Write, R: Threads + Wait + 
     err: &mut E,
 ) -> (u8, BufWriter<W>)
     ensures status { (result.0 ≡ 0) ⊎ ((result.0 ≡ 1) ⊎ (result.0 ≡ 3)) }
-    ensures written { result.0 ≡ 0 → Writes (IsRunBy job.now.on_refusal (hash_of_choice job.now.hash) (givens job.now.how.rows input.now.parts.items) job.now.live input.now.script.items Finish.Through)
+    ensures written { result.0 ≡ 0 → Writes (IsRunBy job.now.on_refusal (hash_of_choice job.now.hash) (givens_in job.now.form job.now.how.rows input.now.parts.items) job.now.live input.now.script.items Finish.Through)
         (writer_contents W.contents out) (writer_contents W.contents result.1) }
-    ensures stopped { result.0 ≡ 1 → Writes (IsRunBy job.now.on_refusal (hash_of_choice job.now.hash) (givens job.now.how.rows input.now.parts.items) job.now.live input.now.script.items Finish.Stopped)
+    ensures stopped { result.0 ≡ 1 → Writes (IsRunBy job.now.on_refusal (hash_of_choice job.now.hash) (givens_in job.now.form job.now.how.rows input.now.parts.items) job.now.live input.now.script.items Finish.Stopped)
         (writer_contents W.contents out) (writer_contents W.contents result.1) }
     ensures flushed { (result.0 ≡ 0) ⊎ (result.0 ≡ 1) → writer_buffer result.1 ≡ [] }
-    ensures beginning { BeginsToWrite (HoweverFinished (IsRunBy job.now.on_refusal (hash_of_choice job.now.hash) (givens job.now.how.rows input.now.parts.items) job.now.live input.now.script.items))
+    ensures beginning { BeginsToWrite (HoweverFinished (IsRunBy job.now.on_refusal (hash_of_choice job.now.hash) (givens_in job.now.form job.now.how.rows input.now.parts.items) job.now.live input.now.script.items))
         (writer_contents W.contents out) (writer_contents W.contents result.1) }
 {
     let gate = Telling {
@@ -134,6 +135,7 @@ fn run_told<'a, T: Renew + Sync, W: Write + Drop, E: Write, R: Threads + Wait + 
         alloc,
         &job.how,
         job.hash,
+        job.form,
         job.viewing(),
         job.on_refusal,
         input,
@@ -185,6 +187,7 @@ pub fn run_standard_input<I: Read + Drop, W: Write + Drop, E: Write, R: Threads 
         alloc,
         &How::default(),
         HashChoice::default(),
+        Form::Classic,
         None,
         OnRefusal::GoesOn,
         &input,
@@ -194,7 +197,7 @@ pub fn run_standard_input<I: Read + Drop, W: Write + Drop, E: Write, R: Threads 
     )
 }
 
-/// Runs the script over the parts, with viewers beside it where there are some, flushes what it wrote, and gives the program's
+/// Runs the script over the parts in a form, with viewers beside it where there are some, flushes what it wrote, and gives the program's
 /// status and the writer back: 0 where the output was written whole, 1 where the run stopped after a refused line, and none of
 /// what it wrote waits in the buffer; and 3 where a beginning of it was written, and why it ended is on `err`. The gate is told of
 /// the run's steps, and of its end before that is told on `err`. The memory of the run's table is left to the system.
@@ -203,6 +206,7 @@ pub fn run_input<'a, G: Ending, W: Write + Drop, E: Write, R: Threads + Wait + S
     alloc: Global,
     how: &'a How,
     hash: HashChoice,
+    form: Form,
     viewing: Option<Viewing<&'a str>>,
     on_refusal: OnRefusal,
     input: &'a Input,
@@ -211,12 +215,12 @@ pub fn run_input<'a, G: Ending, W: Write + Drop, E: Write, R: Threads + Wait + S
     err: &mut E,
 ) -> (u8, BufWriter<W>)
     ensures status { (result.0 ≡ 0) ⊎ ((result.0 ≡ 1) ⊎ (result.0 ≡ 3)) }
-    ensures written { result.0 ≡ 0 → Writes (IsRunBy on_refusal (hash_of_choice hash) (givens how.now.rows input.now.parts.items) (asked_of viewing.entry) input.now.script.items Finish.Through)
+    ensures written { result.0 ≡ 0 → Writes (IsRunBy on_refusal (hash_of_choice hash) (givens_in form how.now.rows input.now.parts.items) (asked_of viewing.entry) input.now.script.items Finish.Through)
         (writer_contents W.contents out) (writer_contents W.contents result.1) }
-    ensures stopped { result.0 ≡ 1 → Writes (IsRunBy on_refusal (hash_of_choice hash) (givens how.now.rows input.now.parts.items) (asked_of viewing.entry) input.now.script.items Finish.Stopped)
+    ensures stopped { result.0 ≡ 1 → Writes (IsRunBy on_refusal (hash_of_choice hash) (givens_in form how.now.rows input.now.parts.items) (asked_of viewing.entry) input.now.script.items Finish.Stopped)
         (writer_contents W.contents out) (writer_contents W.contents result.1) }
     ensures flushed { (result.0 ≡ 0) ⊎ (result.0 ≡ 1) → writer_buffer result.1 ≡ [] }
-    ensures beginning { BeginsToWrite (HoweverFinished (IsRunBy on_refusal (hash_of_choice hash) (givens how.now.rows input.now.parts.items) (asked_of viewing.entry) input.now.script.items))
+    ensures beginning { BeginsToWrite (HoweverFinished (IsRunBy on_refusal (hash_of_choice hash) (givens_in form how.now.rows input.now.parts.items) (asked_of viewing.entry) input.now.script.items))
         (writer_contents W.contents out) (writer_contents W.contents result.1) }
     ensures quiet { result.0 ≡ 0 → err.new ≡ err.old }
 {
@@ -230,7 +234,7 @@ pub fn run_input<'a, G: Ending, W: Write + Drop, E: Write, R: Threads + Wait + S
         on_refusal,
         gate,
     };
-    let ended = run_last(&setup, hash, input.script.as_slice(), &mut pour);
+    let ended = run_in(&setup, form, hash, input.script.as_slice(), &mut pour);
     let mut out = pour.into_inner();
     gate.ended();
     let status = close_finished(ended, &mut out, err);

@@ -15,12 +15,12 @@ audience begun watches = record { begun = begun; watches = watches }
 
 -- a report, with the text before it
 pub report_behind : {H : Type 0} (w : Waits) (reports new : List (Pending H)) (after left : List ℕ) (p : Pending H) → waits (map under_way reports) after ≡ w → new ≡ reports ++ p ∷ [] →
-    left ≡ [] → p.before.items ≡ after → waits (map under_way new) left ≡ with_report w (p.answer.handle.promise.edition.value) (p.answer.handle.promise.plan.value)
+    left ≡ [] → p.before.items ≡ after → waits (map under_way new) left ≡ with_report w (p.answer.handle.promise.edition.value) (p.answer.handle.promise.question.value)
 report_behind w reports new after left p is added none before =
-    subst (λ v. waits (map under_way new) left ≡ with_report v (p.answer.handle.promise.edition.value) (p.answer.handle.promise.plan.value)) is
+    subst (λ v. waits (map under_way new) left ≡ with_report v (p.answer.handle.promise.edition.value) (p.answer.handle.promise.question.value)) is
     (ap₂ waits
     (ap (map under_way) added ∙ map-append under_way reports (p ∷ []) ∙
-    ap (λ (b : List ℕ). map under_way reports ++ record { before = b; edition = p.answer.handle.promise.edition.value; plan = p.answer.handle.promise.plan.value } ∷ []) before)
+    ap (λ (b : List ℕ). map under_way reports ++ record { before = b; edition = p.answer.handle.promise.edition.value; question = p.answer.handle.promise.question.value } ∷ []) before)
     none)
 
 -- a viewer

@@ -6,7 +6,7 @@ use Rattle.std.proofs.KnownBytes.{Appends-trans}
 use Rattle.std.specs.Io.KnownBytes.{Appends}
 use Rattle.std.specs.Prelude.{IsErr, OnErr, OnOk}
 use Rattle.board.specs.Editions.{Edition}
-use Rattle.query.specs.Plans.{PlanTree}
+use Rattle.report.specs.declared.question.Question.{Question}
 use Rattle.report.specs.Laws.{takes_beginning, takes_last, takes_more, takes_start, takes_whole}
 use Rattle.report.specs.Taken.{TakesBeginning, TakesUpTo}
 use Rattle.report.specs.Waiting.{Awaits, AwaitsThen, Comes, GoesOn, HasAnswer, Heads, IsReportText, TakesFront, UnderWay, Waits, report_first, text_alone, with_report, with_text}
@@ -31,12 +31,12 @@ module _ (a b : Option (List ℕ)) (first rest : List ℕ) where
 pub begins_second : (a b c : Option (List ℕ)) (first rest : List ℕ) → Appends a b first → TakesBeginning b c rest → TakesBeginning a c (first ++ rest)
 begins_second a b c first rest p q = takes_last a b c (first ++ rest) rest (takes_first a b first rest p) q
 
--- a heading and then the answer of a plan, of which there is one
-module _ (a b c : Option (List ℕ)) (heading answer : List ℕ) (edition : Edition) (plan : PlanTree) (text : List ℕ) (heads : Heads heading edition plan text) where
+-- a heading and then the answer of a question, of which there is one
+module _ (a b c : Option (List ℕ)) (heading answer : List ℕ) (edition : Edition) (question : Question) (text : List ℕ) (heads : Heads heading edition question text) where
   pub begins_heading : TakesBeginning a b heading → TakesBeginning a b text
   begins_heading p = rw heads.joined (begins_first a b heading heads.answer p)
 
-  module _ (is : IsReportText edition.rows plan answer) (first : Appends a b heading) where
+  module _ (is : IsReportText edition.rows question answer) (first : Appends a b heading) where
     pub writes_heads : Appends b c answer → Appends a c text
     writes_heads second = rw heads.joined (Appends-trans a b c heading heads.answer first (subst (Appends b c) (heads.has answer is) second))
 
@@ -62,15 +62,15 @@ comes_text after text (report ∷ more) waiting (report_first answer rest has co
     subst (Comes (after ++ text) (report ∷ more)) longer (report_first answer (rest ++ text) has (comes_text after text more rest comes))
 
 -- so does a report
-comes_report : (after answer : List ℕ) (edition : Edition) (plan : PlanTree) (reports : List UnderWay) (waiting : List ℕ) → HasAnswer edition plan answer → Comes after reports waiting →
-    Comes [] (reports ++ record { before = after; edition = edition; plan = plan } ∷ []) (waiting ++ answer)
-comes_report after answer edition plan [] waiting has text_alone =
-    subst (λ t. Comes [] (record { before = after; edition = edition; plan = plan } ∷ []) (after ++ t)) (append-nil answer) (report_first answer [] has text_alone)
-comes_report after answer edition plan (report ∷ more) waiting has (report_first first rest other comes) =
-    let whole : UnderWay = record { before = after; edition = edition; plan = plan } in
+comes_report : (after answer : List ℕ) (edition : Edition) (question : Question) (reports : List UnderWay) (waiting : List ℕ) → HasAnswer edition question answer → Comes after reports waiting →
+    Comes [] (reports ++ record { before = after; edition = edition; question = question } ∷ []) (waiting ++ answer)
+comes_report after answer edition question [] waiting has text_alone =
+    subst (λ t. Comes [] (record { before = after; edition = edition; question = question } ∷ []) (after ++ t)) (append-nil answer) (report_first answer [] has text_alone)
+comes_report after answer edition question (report ∷ more) waiting has (report_first first rest other comes) =
+    let whole : UnderWay = record { before = after; edition = edition; question = question } in
     let longer : report.before ++ (first ++ (rest ++ answer)) ≡ (report.before ++ (first ++ rest)) ++ answer =
     sym (append_assoc report.before (first ++ rest) answer ∙ ap (λ t. report.before ++ t) (append_assoc first rest answer)) in
-    subst (Comes [] (report ∷ (more ++ whole ∷ []))) longer (report_first first (rest ++ answer) other (comes_report after answer edition plan more rest has comes))
+    subst (Comes [] (report ∷ (more ++ whole ∷ []))) longer (report_first first (rest ++ answer) other (comes_report after answer edition question more rest has comes))
 
 -- where no report is under way, the text behind them is all
 pub only_text : {after : List ℕ} {reports : List UnderWay} {waiting : List ℕ} → reports ≡ [] → Comes after reports waiting → waiting ≡ after
@@ -98,8 +98,8 @@ module _ {T : Type 0} (a b c : Option (List ℕ)) where
 module _ {T : Type 0} (a b : Option (List ℕ)) where
   -- the oldest report was written
   oldest : (report : UnderWay) (v : Waits) (text : List ℕ) (r : Result T Unwritten) → Comes v.after (report ∷ v.reports) text →
-      ((answer : List ℕ) → HasAnswer report.edition report.plan answer → OnOk r (Appends a b (report.before ++ answer))) →
-      ((answer : List ℕ) → HasAnswer report.edition report.plan answer → OnErr r (TakesBeginning a b (report.before ++ answer))) → GoesOn a b v text r
+      ((answer : List ℕ) → HasAnswer report.edition report.question answer → OnOk r (Appends a b (report.before ++ answer))) →
+      ((answer : List ℕ) → HasAnswer report.edition report.question answer → OnErr r (TakesBeginning a b (report.before ++ answer))) → GoesOn a b v text r
   oldest report v text (Ok x) (report_first answer rest has comes) written beginning = record {
     front = record {
       rest = rest;
@@ -114,8 +114,8 @@ module _ {T : Type 0} (a b : Option (List ℕ)) where
   }
 
   pub goes_oldest : (report : UnderWay) (w v : Waits) (text : List ℕ) (r : Result T Unwritten) → w.reports ≡ report ∷ v.reports → w.after ≡ v.after → Awaits w text →
-      ((answer : List ℕ) → HasAnswer report.edition report.plan answer → OnOk r (Appends a b (report.before ++ answer))) →
-      ((answer : List ℕ) → HasAnswer report.edition report.plan answer → OnErr r (TakesBeginning a b (report.before ++ answer))) → GoesOn a b v text r
+      ((answer : List ℕ) → HasAnswer report.edition report.question answer → OnOk r (Appends a b (report.before ++ answer))) →
+      ((answer : List ℕ) → HasAnswer report.edition report.question answer → OnErr r (TakesBeginning a b (report.before ++ answer))) → GoesOn a b v text r
   goes_oldest report w v text r is same awaits written beginning = oldest report v text r (rw (is, same) at awaits) written beginning
 
   -- it ended early behind a beginning
@@ -143,7 +143,7 @@ pub waits_text : {T : Type 0} (a : Option (List ℕ)) (w : Waits) (waiting text 
 waits_text a w waiting text x awaits = front_text a a w waiting text x record { rest = waiting; taken = takes_start a waiting; awaits = awaits }
 
 -- a heading, and then the answer of a report
-module _ (waits : Waits) (heading : List ℕ) (edition : Edition) (plan : PlanTree) (text : List ℕ) (p : AwaitsThen waits (Heads heading edition plan) text) where
+module _ (waits : Waits) (heading : List ℕ) (edition : Edition) (question : Question) (text : List ℕ) (p : AwaitsThen waits (Heads heading edition question) text) where
   pub before_answer : AwaitsThen waits (λ more. heading ≡ more) (p.waiting ++ heading)
   before_answer = record { waiting = p.waiting; more = heading; awaits = p.awaits; is_more = refl; joined = refl }
 
@@ -153,12 +153,12 @@ module _ (waits : Waits) (heading : List ℕ) (edition : Edition) (plan : PlanTr
   pub begins_answer : (a b : Option (List ℕ)) → TakesBeginning a b (p.waiting ++ heading) → TakesBeginning a b text
   begins_answer a b early = rw behind_heading (begins_first a b (p.waiting ++ heading) p.is_more.answer early)
 
-  pub front_answer : {T : Type 0} (a b : Option (List ℕ)) (w : Waits) (x : T) → TakesFront a b w (p.waiting ++ heading) → GoesOn a b (with_report w edition plan) text (Ok x)
+  pub front_answer : {T : Type 0} (a b : Option (List ℕ)) (w : Waits) (x : T) → TakesFront a b w (p.waiting ++ heading) → GoesOn a b (with_report w edition question) text (Ok x)
   front_answer a b w x f = rw behind_heading (record {
     front = record {
       rest = f.rest ++ p.is_more.answer;
       taken = takes_with a b (p.waiting ++ heading) f.rest p.is_more.answer f.taken;
-      awaits = comes_report w.after p.is_more.answer edition plan w.reports f.rest p.is_more.has f.awaits;
+      awaits = comes_report w.after p.is_more.answer edition question w.reports f.rest p.is_more.has f.awaits;
     };
     beginning = tt;
   })

@@ -11,7 +11,7 @@ use Rattle.std.specs.Prelude.{IfOk, IsOk, MatchResult, OnOk, nat_lt}
 use Rattle.board.specs.Editions.{Edition, Editions, History, IsLastOf, Known, KnowsAllOf, Learns, Looks, Note, last_rows}
 use Rattle.board.specs.Editions as keeper
 use Rattle.cells.specs.Tables.{Rows}
-use Rattle.query.specs.Plans.{PlanTree}
+use Rattle.report.specs.declared.question.Question.{Question}
 use Rattle.report.specs.Waiting.{IsReportText}
 use Rattle.report.specs.Watching.{AreShots, GoUpTo, HasWatched, IsLastEdition, IsLastShot, IsShot, Sight, Watching, at_last, before_last, no_shot, shot_first, up_to}
 use Rattle.report.specs.declared.want.Want.{Want}
@@ -41,29 +41,29 @@ last_or (x ∷ y ∷ ys) zero d e = absurd (omega arith)
 last_or (x ∷ y ∷ ys) (suc k) d e = last_or (y ∷ ys) k d (omega arith)
 
 -- a report on the last edition of the history
-pub shot_on_last : (h : History) (plan : PlanTree) (shot : Sight) (number : ℕ) (rows : Rows) → IsLastOf h number rows → shot.edition ≡ number → IsReportText rows plan shot.text → IsShot h plan shot
-shot_on_last h plan shot number rows last same is = record {
+pub shot_on_last : (h : History) (question : Question) (shot : Sight) (number : ℕ) (rows : Rows) → IsLastOf h number rows → shot.edition ≡ number → IsReportText rows question shot.text → IsShot h question shot
+shot_on_last h question shot number rows last same is = record {
   rows = rows;
   at = slice_get-get_or h shot.edition rows (omega (arith, last.long, same)) ∙ ap Some (last_or h shot.edition rows (omega (arith, last.long, same)) ∙ sym last.is);
   is = is;
 }
 
-shot_longer : (h more : History) (plan : PlanTree) (shot : Sight) → IsPrefix h more → IsShot h plan shot → IsShot more plan shot
-shot_longer h more plan shot begins is = record { rows = is.rows; at = at_prefix h more shot.edition is.rows begins (slice_get_within h shot.edition is.rows is.at) ∙ is.at; is = is.is }
+shot_longer : (h more : History) (question : Question) (shot : Sight) → IsPrefix h more → IsShot h question shot → IsShot more question shot
+shot_longer h more question shot begins is = record { rows = is.rows; at = at_prefix h more shot.edition is.rows begins (slice_get_within h shot.edition is.rows is.at) ∙ is.at; is = is.is }
 
-shot_shorter : (h more : History) (plan : PlanTree) (shot : Sight) → IsPrefix h more → shot.edition < length h → IsShot more plan shot → IsShot h plan shot
-shot_shorter h more plan shot begins within is = record { rows = is.rows; at = sym (at_prefix h more shot.edition is.rows begins within) ∙ is.at; is = is.is }
+shot_shorter : (h more : History) (question : Question) (shot : Sight) → IsPrefix h more → shot.edition < length h → IsShot more question shot → IsShot h question shot
+shot_shorter h more question shot begins within is = record { rows = is.rows; at = sym (at_prefix h more shot.edition is.rows begins within) ∙ is.at; is = is.is }
 
 -- a report more, on the last edition of a longer history
-pub shots_more : {h : History} {plan : PlanTree} {least : ℕ} {shots : List Sight} (more : History) (shot : Sight) → IsPrefix h more → length more ≡ shot.edition + 1 → least ≤ shot.edition →
-    IsShot more plan shot → AreShots h plan least shots → AreShots more plan least (shots ++ shot ∷ [])
+pub shots_more : {h : History} {question : Question} {least : ℕ} {shots : List Sight} (more : History) (shot : Sight) → IsPrefix h more → length more ≡ shot.edition + 1 → least ≤ shot.edition →
+    IsShot more question shot → AreShots h question least shots → AreShots more question least (shots ++ shot ∷ [])
 shots_more more shot begins long low new no_shot = shot_first low new no_shot
-shots_more {h = h} {plan = plan} more shot begins long low new (shot_first {shot = first} higher is rest) =
+shots_more {h = h} {question = question} more shot begins long low new (shot_first {shot = first} higher is rest) =
     let within = slice_get_within h first.edition is.rows is.at in
-    shot_first higher (shot_longer h more plan first begins is)
+    shot_first higher (shot_longer h more question first begins is)
     (shots_more more shot begins long (omega (arith, within, prefix_length h more begins, long)) new rest)
 
-shots_lower : {h : History} {plan : PlanTree} {least : ℕ} {shots : List Sight} (lower : ℕ) → lower ≤ least → AreShots h plan least shots → AreShots h plan lower shots
+shots_lower : {h : History} {question : Question} {least : ℕ} {shots : List Sight} (lower : ℕ) → lower ≤ least → AreShots h question least shots → AreShots h question lower shots
 shots_lower lower le no_shot = no_shot
 shots_lower lower le (shot_first higher is rest) = shot_first (omega (arith, le, higher)) is rest
 
@@ -71,13 +71,13 @@ behind_is : (m n : ℕ) → nat_lt m n ≡ false → n ≤ m
 behind_is m n e = grind (arith, nat_tests)
 
 -- the reports up to the last edition of a beginning of the history, and then one on that edition
-pub goes_up_to : {more : History} {plan : PlanTree} {least : ℕ} (shots : List Sight) (h : History) (last : Sight) → IsPrefix h more → length h ≡ last.edition + 1 → least ≤ last.edition →
-    IsShot h plan last → AreShots more plan least shots → GoUpTo h plan last.edition least (length shots) (map (up_to last) shots ++ last ∷ [])
+pub goes_up_to : {more : History} {question : Question} {least : ℕ} (shots : List Sight) (h : History) (last : Sight) → IsPrefix h more → length h ≡ last.edition + 1 → least ≤ last.edition →
+    IsShot h question last → AreShots more question least shots → GoUpTo h question last.edition least (length shots) (map (up_to last) shots ++ last ∷ [])
 goes_up_to [] h last begins long low is_last no_shot = at_last low refl is_last
-goes_up_to {more = more} {plan = plan} {least = least} (shot ∷ rest) h last begins long low is_last (shot_first higher is are) =
+goes_up_to {more = more} {question = question} {least = least} (shot ∷ rest) h last begins long low is_last (shot_first higher is are) =
     elim (cases_Bool (nat_lt last.edition shot.edition)) [
       | inl behind ↦ rw behind (before_last low is_last (goes_up_to rest h last begins long (omega arith) is_last (shots_lower last.edition (lower behind) are)))
-      | inr within ↦ rw within (before_last higher (shot_shorter h more plan shot begins (let here = behind_is last.edition shot.edition within in omega (arith, here, long)) is)
+      | inr within ↦ rw within (before_last higher (shot_shorter h more question shot begins (let here = behind_is last.edition shot.edition within in omega (arith, here, long)) is)
           (goes_up_to rest h last begins long (behind_is last.edition shot.edition within) is_last are))
     ] where
       lower : nat_lt last.edition shot.edition ≡ true → last.edition ≤ shot.edition
@@ -105,7 +105,7 @@ learnt_of k note before after seen knows learns looks =
 
 -- a viewer that makes no reports more, and one more behind so many
 pub watched_none : (before : Watching) → HasWatched before 0 before
-watched_none before = record { seen = ([], append-nil _); board = refl; schema = refl; plan = refl; many = omega arith }
+watched_none before = record { seen = ([], append-nil _); board = refl; schema = refl; question = refl; many = omega arith }
 
 pub watched_more : (before middle after : Watching) (count : ℕ) → HasWatched before count middle → HasWatched middle 1 after → HasWatched before (count + 1) after
 watched_more before middle after count watched once = record {
@@ -115,39 +115,39 @@ watched_more before middle after count watched once = record {
   );
   board = once.board ∙ watched.board;
   schema = once.schema ∙ watched.schema;
-  plan = once.plan ∙ watched.plan;
+  question = once.question ∙ watched.question;
   many = omega (arith, watched.many, once.many);
 }
 
 -- what it made stays so, whatever it sees
-pub shots_longer : {h : History} {plan : PlanTree} {least : ℕ} {shots : List Sight} (more : History) → IsPrefix h more → AreShots h plan least shots → AreShots more plan least shots
+pub shots_longer : {h : History} {question : Question} {least : ℕ} {shots : List Sight} (more : History) → IsPrefix h more → AreShots h question least shots → AreShots more question least shots
 shots_longer more begins no_shot = no_shot
-shots_longer {h = h} {plan = plan} more begins (shot_first {shot = first} higher is rest) = shot_first higher (shot_longer h more plan first begins is) (shots_longer more begins rest)
+shots_longer {h = h} {question = question} more begins (shot_first {shot = first} higher is rest) = shot_first higher (shot_longer h more question first begins is) (shots_longer more begins rest)
 
 -- a report on the snapshot that was taken
-pub looked : (r : Result Sight Want) (h : History) (plan : PlanTree) (seen : Edition) → IsLastOf h seen.number seen.rows → IfOk r (λ shot. shot.edition ≡ seen.number) →
-    IfOk r (λ shot. IsReportText seen.rows plan shot.text) → IfOk r (λ shot. IsShot h plan shot × (length h ≡ shot.edition + 1))
-looked (Ok shot) h plan seen last same is = (shot_on_last h plan shot seen.number seen.rows last same is, last.long ∙ ap (λ n. n + 1) (sym same))
-looked (Err e) h plan seen last same is = tt
+pub looked : (r : Result Sight Want) (h : History) (question : Question) (seen : Edition) → IsLastOf h seen.number seen.rows → IfOk r (λ shot. shot.edition ≡ seen.number) →
+    IfOk r (λ shot. IsReportText seen.rows question shot.text) → IfOk r (λ shot. IsShot h question shot × (length h ≡ shot.edition + 1))
+looked (Ok shot) h question seen last same is = (shot_on_last h question shot seen.number seen.rows last same is, last.long ∙ ap (λ n. n + 1) (sym same))
+looked (Err e) h question seen last same is = tt
 
 -- the report on the keeper's last edition
-pub looked_last : (r : Result Sight Want) (k : Editions) (plan : PlanTree) (seen : Edition) → IsLastOf (keeper.history k) (keeper.edition k) (keeper.published k) → IsLastEdition k seen →
-    IfOk r (λ shot. shot.edition ≡ seen.number) → IfOk r (λ shot. IsReportText seen.rows plan shot.text) → IfOk r (IsLastShot k plan)
-looked_last (Ok shot) k plan seen mine is_last same text =
+pub looked_last : (r : Result Sight Want) (k : Editions) (question : Question) (seen : Edition) → IsLastOf (keeper.history k) (keeper.edition k) (keeper.published k) → IsLastEdition k seen →
+    IfOk r (λ shot. shot.edition ≡ seen.number) → IfOk r (λ shot. IsReportText seen.rows question shot.text) → IfOk r (IsLastShot k question)
+looked_last (Ok shot) k question seen mine is_last same text =
     let at : shot.edition ≡ keeper.edition k = same ∙ is_last.number in
     record {
       number = at;
       long = mine.long;
-      is = shot_on_last (keeper.history k) plan shot (keeper.edition k) (keeper.published k) mine at (subst (λ (rs : Rows). IsReportText rs plan shot.text) is_last.rows text);
+      is = shot_on_last (keeper.history k) question shot (keeper.edition k) (keeper.published k) mine at (subst (λ (rs : Rows). IsReportText rs question shot.text) is_last.rows text);
     }
-looked_last (Err e) k plan seen mine is_last same text = tt
+looked_last (Err e) k question seen mine is_last same text = tt
 
 -- the reports of a viewer, and that one
-pub finished : (k : Editions) (before : Watching) (more : History) (last : Sight) (all : List Sight) → IsPrefix before.viewer.history more → IsPrefix (keeper.history k) more → IsLastShot k before.plan last →
-    AreShots before.viewer.history before.plan 0 before.shots → all ≡ map (up_to last) before.shots ++ last ∷ [] →
-    GoUpTo (keeper.history k) before.plan (keeper.edition k) 0 (length before.shots) all
+pub finished : (k : Editions) (before : Watching) (more : History) (last : Sight) (all : List Sight) → IsPrefix before.viewer.history more → IsPrefix (keeper.history k) more → IsLastShot k before.question last →
+    AreShots before.viewer.history before.question 0 before.shots → all ≡ map (up_to last) before.shots ++ last ∷ [] →
+    GoUpTo (keeper.history k) before.question (keeper.edition k) 0 (length before.shots) all
 finished k before more last all old learnt shot shots is =
-    rw is (subst (λ n. GoUpTo (keeper.history k) before.plan n 0 (length before.shots) (map (up_to last) before.shots ++ last ∷ [])) shot.number
+    rw is (subst (λ n. GoUpTo (keeper.history k) before.question n 0 (length before.shots) (map (up_to last) before.shots ++ last ∷ [])) shot.number
     (goes_up_to before.shots (keeper.history k) last learnt (shot.long ∙ ap (λ n. n + 1) (sym shot.number)) (omega arith) shot.is (shots_longer more old shots)))
 
 -- what is so of a value once a call was no error is so of the value that is handed on after it

@@ -6,22 +6,22 @@ use Rattle.cells.specs.Tables.{Rows, table}
 use Rattle.cells.specs.Updates.{AreLeft}
 use Rattle.cells.specs.Values.{RowValue}
 use Rattle.groups.specs.Groups.{report_rows}
-use Rattle.query.specs.Plans.{PlanTree}
-use Rattle.report.specs.Reports.{report_text}
+use Rattle.report.specs.declared.question.Question.{Question}
+use Rattle.report.specs.Reports.{text_of}
 use Rattle.report.specs.Taken.{TakesBeginning, TakesUpTo}
 use Rattle.report.specs.declared.backlog.Pending.{Pending}
 use Rattle.report.specs.declared.unwritten.Unwritten.{Unwritten}
 use Rattle.report.specs.declared.unwritten.Unwritten.TheVariants.{WriteFailed}
 
--- the text is the plan's report over these rows, in whatever order they are listed
-pub record IsReportText (rows : Rows) (plan : PlanTree) (text : List ℕ) : Type 0 where
-  pub is : (rs : List RowValue) → AreLeft rs → rows ≡ table rs → text ≡ report_text plan (report_rows plan rs)
+-- the text is what is asked of these rows, in whatever order they are listed
+pub record IsReportText (rows : Rows) (question : Question) (text : List ℕ) : Type 0 where
+  pub is : (rs : List RowValue) → AreLeft rs → rows ≡ table rs → text ≡ text_of question (report_rows question.plan rs)
 
--- a report under way: the text before it, the edition that it is on, and what it answers
+-- a report under way: the text before it, the edition that it is on, and what it is asked
 pub record UnderWay : Type 0 where
   pub before : List ℕ
   pub edition : Edition
-  pub plan : PlanTree
+  pub question : Question
 
 -- the reports under way, in the order in which they began, and the text behind them
 pub record Waits : Type 0 where
@@ -33,31 +33,31 @@ abbrev pub with_text : Waits → List ℕ → Waits
 with_text w text = record { reports = w.reports; after = w.after ++ text }
 
 -- one report more is under way, and what waited behind the others waits before it
-abbrev pub with_report : Waits → Edition → PlanTree → Waits
-with_report w edition plan = record { reports = w.reports ++ record { before = w.after; edition = edition; plan = plan } ∷ []; after = [] }
+abbrev pub with_report : Waits → Edition → Question → Waits
+with_report w edition question = record { reports = w.reports ++ record { before = w.after; edition = edition; question = question } ∷ []; after = [] }
 
 -- what is known of a report whose thread was started
 abbrev pub under_way : {H : Type 0} → Pending H → UnderWay
-under_way p = record { before = p.before.items; edition = p.answer.handle.promise.edition.value; plan = p.answer.handle.promise.plan.value }
+under_way p = record { before = p.before.items; edition = p.answer.handle.promise.edition.value; question = p.answer.handle.promise.question.value }
 
--- the plan has this answer on the edition, and no other
-abbrev pub HasAnswer : Edition → PlanTree → List ℕ → Type 0
-HasAnswer edition plan text = (answer : List ℕ) → IsReportText edition.rows plan answer → answer ≡ text
+-- the question has this answer on the edition, and no other
+abbrev pub HasAnswer : Edition → Question → List ℕ → Type 0
+HasAnswer edition question text = (answer : List ℕ) → IsReportText edition.rows question answer → answer ≡ text
 
 -- the text comes of the reports, whatever thread ends first, and then of the text behind them
 pub data Comes (after : List ℕ) : List UnderWay → List ℕ → Type 0 where
   text_alone : Comes after [] after
-  report_first : {report : UnderWay} {more : List UnderWay} (answer rest : List ℕ) → HasAnswer report.edition report.plan answer → Comes after more rest →
+  report_first : {report : UnderWay} {more : List UnderWay} (answer rest : List ℕ) → HasAnswer report.edition report.question answer → Comes after more rest →
       Comes after (report ∷ more) (report.before ++ (answer ++ rest))
 
 -- what waits is this text
 abbrev pub Awaits : Waits → List ℕ → Type 0
 Awaits waits text = Comes waits.after waits.reports text
 
--- the text is a heading, and then the one answer of the plan on the edition
-pub record Heads (heading : List ℕ) (edition : Edition) (plan : PlanTree) (text : List ℕ) : Type 0 where
+-- the text is a heading, and then the one answer of the question on the edition
+pub record Heads (heading : List ℕ) (edition : Edition) (question : Question) (text : List ℕ) : Type 0 where
   pub answer : List ℕ
-  pub has : HasAnswer edition plan answer
+  pub has : HasAnswer edition question answer
   pub joined : text ≡ heading ++ answer
 
 -- the text is what waits, and then more that is so

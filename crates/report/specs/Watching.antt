@@ -5,7 +5,7 @@ use mathlib.Core.List.{IsPrefix}
 use Rattle.board.specs.Editions.{Edition, Editions, History, Known}
 use Rattle.board.specs.Editions as keeper
 use Rattle.cells.specs.Tables.{Rows}
-use Rattle.query.specs.Plans.{PlanTree}
+use Rattle.report.specs.declared.question.Question.{Question}
 use Rattle.report.specs.Waiting.{IsReportText}
 use Rattle.report.specs.declared.want.Want.{Want}
 
@@ -15,27 +15,27 @@ pub record Sight : Type 0 where
   pub text : List ℕ
 
 -- it is the report on the edition of its number in the history
-pub record IsShot (history : History) (plan : PlanTree) (shot : Sight) : Type 0 where
+pub record IsShot (history : History) (question : Question) (shot : Sight) : Type 0 where
   pub rows : Rows
   pub at : slice_get history shot.edition ≡ Some rows
-  pub is : IsReportText rows plan shot.text
+  pub is : IsReportText rows question shot.text
 
 -- such reports one after another, whose editions never fall, from the least on
-pub data AreShots (history : History) (plan : PlanTree) : ℕ → List Sight → Type 0 where
-  no_shot : {least : ℕ} → AreShots history plan least []
-  shot_first : {least : ℕ} {shot : Sight} {more : List Sight} → least ≤ shot.edition → IsShot history plan shot → AreShots history plan shot.edition more →
-      AreShots history plan least (shot ∷ more)
+pub data AreShots (history : History) (question : Question) : ℕ → List Sight → Type 0 where
+  no_shot : {least : ℕ} → AreShots history question least []
+  shot_first : {least : ℕ} {shot : Sight} {more : List Sight} → least ≤ shot.edition → IsShot history question shot → AreShots history question shot.edition more →
+      AreShots history question least (shot ∷ more)
 
 -- so many such reports, and then one on the last edition
-pub data GoUpTo (history : History) (plan : PlanTree) (last : ℕ) : ℕ → ℕ → List Sight → Type 0 where
-  at_last : {least : ℕ} {shot : Sight} → least ≤ last → shot.edition ≡ last → IsShot history plan shot → GoUpTo history plan last least 0 (shot ∷ [])
-  before_last : {least count : ℕ} {shot : Sight} {more : List Sight} → least ≤ shot.edition → IsShot history plan shot → GoUpTo history plan last shot.edition count more →
-      GoUpTo history plan last least (suc count) (shot ∷ more)
+pub data GoUpTo (history : History) (question : Question) (last : ℕ) : ℕ → ℕ → List Sight → Type 0 where
+  at_last : {least : ℕ} {shot : Sight} → least ≤ last → shot.edition ≡ last → IsShot history question shot → GoUpTo history question last least 0 (shot ∷ [])
+  before_last : {least count : ℕ} {shot : Sight} {more : List Sight} → least ≤ shot.edition → IsShot history question shot → GoUpTo history question last shot.edition count more →
+      GoUpTo history question last least (suc count) (shot ∷ more)
 
--- a viewer with the plan that it answers, and the reports that it made
+-- a viewer with the question that it answers, and the reports that it made
 pub record Watching : Type 0 where
   pub viewer : Known
-  pub plan : PlanTree
+  pub question : Question
   pub shots : List Sight
 
 -- a viewer whose thread was started: its number, as it was then, and how many reports it is to make
@@ -45,12 +45,12 @@ pub record Watch : Type 0 where
   pub count : ℕ
 
 -- a viewer before its first report
-abbrev pub unwatched : Known → PlanTree → Watching
-unwatched viewer plan = record { viewer = viewer; plan = plan; shots = [] }
+abbrev pub unwatched : Known → Question → Watching
+unwatched viewer question = record { viewer = viewer; question = question; shots = [] }
 
--- a viewer of this number that is to make so many reports of a plan
-abbrev pub watch_from : ℕ → Known → PlanTree → ℕ → Watch
-watch_from number viewer plan count = record { number = number; before = unwatched viewer plan; count = count }
+-- a viewer of this number that is to make so many reports of a question
+abbrev pub watch_from : ℕ → Known → Question → ℕ → Watch
+watch_from number viewer question count = record { number = number; before = unwatched viewer question; count = count }
 
 -- how many viewers were begun, and those of them that are still here
 pub record AudienceValue : Type 0 where
@@ -58,8 +58,8 @@ pub record AudienceValue : Type 0 where
   pub watches : List Watch
 
 -- one viewer more was begun, of the next number
-abbrev pub with_watch : AudienceValue → Known → PlanTree → ℕ → AudienceValue
-with_watch a viewer plan count = record { begun = a.begun + 1; watches = a.watches ++ watch_from (a.begun + 1) viewer plan count ∷ [] }
+abbrev pub with_watch : AudienceValue → Known → Question → ℕ → AudienceValue
+with_watch a viewer question count = record { begun = a.begun + 1; watches = a.watches ++ watch_from (a.begun + 1) viewer question count ∷ [] }
 
 -- a viewer was not begun, and the next number is spent all the same
 abbrev pub without_watch : AudienceValue → AudienceValue
@@ -70,7 +70,7 @@ pub record HasWatched (before : Watching) (count : ℕ) (after : Watching) : Typ
   pub seen : IsPrefix before.viewer.history after.viewer.history
   pub board : after.viewer.board ≡ before.viewer.board
   pub schema : after.viewer.schema ≡ before.viewer.schema
-  pub plan : after.plan ≡ before.plan
+  pub question : after.question ≡ before.question
   pub many : length after.shots ≡ length before.shots + count
 
 -- the first of those that were started came back
@@ -91,10 +91,10 @@ pub record IsLastEdition (k : Editions) (edition : Edition) : Type 0 where
   pub schema : edition.schema ≡ keeper.schema k
 
 -- it is the report on that edition
-pub record IsLastShot (k : Editions) (plan : PlanTree) (shot : Sight) : Type 0 where
+pub record IsLastShot (k : Editions) (question : Question) (shot : Sight) : Type 0 where
   pub number : shot.edition ≡ keeper.edition k
   pub long : length (keeper.history k) ≡ keeper.edition k + 1
-  pub is : IsShot (keeper.history k) plan shot
+  pub is : IsShot (keeper.history k) question shot
 
 -- the report on the last edition, in place of one on an edition above it
 abbrev pub up_to : Sight → Sight → Sight

@@ -5,16 +5,19 @@ ghost use Rattle.cells.specs.declared.refused.Refused.TheVariants as Refused;
 ghost use Rattle.crew.specs.Gathering.{rows_in};
 ghost use Rattle.crew.specs.Limits.{piece_limit};
 ghost use Rattle.groups.specs.Groups.{report_rows};
+ghost use Rattle.report.specs.Reports.{asked_in, classic};
 ghost use Rattle.report.specs.Standing.{AreRowsFor};
 ghost use Rattle.report.specs.Waiting.{IsReportText};
 
 use crate::pieces::{cutting_of, pieces_of};
-use crate::printing::text;
+use crate::printing::text_in;
+use crate::question::Question;
 use crate::want::Want;
 use board::Snapshot;
 use cells::{Cell, KeyHash, Refused, Row, Tuple};
 use columns::RowPiece;
 use crew::{Gate, gather_pieces};
+use forms::Form;
 use groups::{ReportRow, any_order};
 use query::Plan;
 use std::alloc::{AllocError, Global};
@@ -22,7 +25,7 @@ use std::sync::Wait;
 use std::thread::Threads;
 use trie::{Cutting, a_map_has_its_entries};
 
-/// The text of the plan's report over the rows of the snapshot, in whatever order they came and however they are cut
+/// The text of the plan's report over the rows of the snapshot, in the classic form, in whatever order they came and however they are cut
 /// into pieces. As many workers as the smaller of `workers`, taken as 1 at least and
 /// [`MAX_WORKERS`](crate::MAX_WORKERS) at most, and the number of pieces lay out columns of the pieces, each in a thread of its
 /// own, and others fold these; all are joined before this returns. The gate is told of each piece, and of the report as of
@@ -40,7 +43,7 @@ pub fn answer<H: KeyHash<Cell> + KeyHash<Tuple> + Send + Sync, G: Gate, R: Threa
     cutting: &Cutting,
     gate: &G,
 ) -> Result<Vec<u8>, Refused>
-    ensures text { IfOk result (λ text. IsReportText snapshot.now.rows plan.now text.items) }
+    ensures text { IfOk result (λ text. IsReportText snapshot.now.rows (classic plan.now) text.items) }
     ensures refused { IfErr result (λ e. (e ≡ Refused.NoWorker) ⊎ (e ≡ Refused.OutOfMemory)) }
 {
     let answering = Answering {
@@ -50,7 +53,7 @@ pub fn answer<H: KeyHash<Cell> + KeyHash<Tuple> + Send + Sync, G: Gate, R: Threa
         cutting: *cutting,
         gate,
     };
-    Ok(answering.text(0, snapshot, plan)?)
+    Ok(answering.text_in(0, snapshot, Form::Classic, plan)?)
 }
 
 /// What reports are answered with: where threads and memory come from, how many workers answer a report, how rows are cut
@@ -82,21 +85,34 @@ impl<R, G> Clone for Answering<'_, R, G> {
 impl<R, G> Copy for Answering<'_, R, G> {}
 
 impl<'a, R: Threads + Wait + Sync, G: Gate> Answering<'a, R, G> {
-    /// The text of the plan's report over the rows of the snapshot, for the line of this number, or 0 where no line asks. The
-    /// gate is told of it.
+    /// The text of what is asked of the rows of the snapshot, for the line of this number, or 0 where no line asks. The gate is
+    /// told of it.
     pub(crate) fn text<H: KeyHash<Cell> + KeyHash<Tuple> + Send + Sync>(
         &self,
         line: u64,
         snapshot: &Snapshot<H>,
+        question: &Question,
+    ) -> Result<Vec<u8>, Want>
+        ensures { IfOk result (λ text. IsReportText snapshot.now.rows question.now text.items) }
+    {
+        self.text_in(line, snapshot, question.form, &question.plan)
+    }
+
+    /// The same of the plan's report in this form.
+    fn text_in<H: KeyHash<Cell> + KeyHash<Tuple> + Send + Sync>(
+        &self,
+        line: u64,
+        snapshot: &Snapshot<H>,
+        form: Form,
         plan: &Plan,
     ) -> Result<Vec<u8>, Want>
-        ensures { IfOk result (λ text. IsReportText snapshot.now.rows plan.now text.items) }
+        ensures { IfOk result (λ text. IsReportText snapshot.now.rows (asked_in form plan.now) text.items) }
     {
         // These do nothing: the order of rows does not count, and a list of an edition's rows has those of its map.
         any_order::<H>();
         a_map_has_its_entries::<Cell, Row>();
         let rows = self.rows(snapshot, plan)?;
-        let text = text(self.alloc, plan, rows.as_slice())?;
+        let text = text_in(self.alloc, form, plan, rows.as_slice())?;
         self.gate.reported(
             line,
             snapshot.edition(),

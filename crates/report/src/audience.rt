@@ -3,13 +3,13 @@ ghost use Rattle.std.specs.Prelude.{◌≡◌, ◌∷◌, ◌++◌, ◌+◌, ◌
 ghost use Rattle.report.specs.Audiences.{watch_of};
 ghost use Rattle.report.specs.Watching.{ComesBack, HasWatched, unwatched, with_watch, without_watch};
 
+use crate::question::Question;
 use crate::starting::{Starter, in_thread};
 use crate::want::Want;
 use crate::watching::Watcher;
 use board::{Viewer, viewers_cross_threads};
 use cells::{Cell, KeyHash, Tuple};
 use crew::Gate;
-use query::Plan;
 use std::alloc::{AllocError, Global};
 use std::collections::VecDeque;
 use std::marker::Model;
@@ -21,22 +21,22 @@ use std::thread::{Promise, PromisedHandle, Threads};
 #[derive(Drop)]
 struct WatchOf<H: KeyHash<Cell>> {
     viewer: snapshot::Snapshot<Viewer<H>>,
-    plan: snapshot::Snapshot<Plan>,
+    question: snapshot::Snapshot<Question>,
     number: u64,
     count: u64,
 }
 
 impl<H: KeyHash<Cell>> WatchOf<H> {
-    /// So many reports of the plan, by the viewer of this number. It takes no memory.
-    fn new(viewer: &Viewer<H>, plan: &Plan, number: u64, count: u64) -> WatchOf<H>
+    /// So many reports of the question, by the viewer of this number. It takes no memory.
+    fn new(viewer: &Viewer<H>, question: &Question, number: u64, count: u64) -> WatchOf<H>
         ensures viewer { result.viewer.value ≡ viewer.now }
-        ensures plan { result.plan.value ≡ plan.now }
+        ensures question { result.question.value ≡ question.now }
         ensures number { result.number ≡ number }
         ensures count { result.count ≡ count }
     {
         WatchOf {
             viewer: snapshot::Snapshot::of(viewer),
-            plan: snapshot::Snapshot::of(plan),
+            question: snapshot::Snapshot::of(question),
             number,
             count,
         }
@@ -47,7 +47,7 @@ impl<H: KeyHash<Cell>> Promise<Result<Watcher<H>, Want>> for WatchOf<H> {
     ghost use Rattle.std.specs.Prelude.{IfOk};
     ghost use Rattle.report.specs.Watching.{HasWatched, unwatched};
 
-    ghost kept_by = { λ promise result. IfOk result (HasWatched (unwatched promise.viewer.value promise.plan.value) promise.count) };
+    ghost kept_by = { λ promise result. IfOk result (HasWatched (unwatched promise.viewer.value promise.question.value) promise.count) };
 }
 
 /// A viewer's thread, which was started.
@@ -89,7 +89,7 @@ impl<H: KeyHash<Cell>> Audience<H> {
         }
     }
 
-    /// Starts a thread in which the viewer answers the plan so many times, each time on a snapshot that it takes then.
+    /// Starts a thread in which the viewer answers the question so many times, each time on a snapshot that it takes then.
     /// The gate is told of each snapshot before the answer on it, with the viewer's number. Numbers count from 1 the
     /// viewers that were begun here, also those who are gone, so none is given twice; a call that fails spends its number.
     ///
@@ -98,22 +98,22 @@ impl<H: KeyHash<Cell>> Audience<H> {
         &mut self,
         starter: &Starter<'_, 's, 'e, R, G>,
         viewer: Viewer<H>,
-        plan: Plan,
+        question: Question,
         count: u64,
     ) -> Result<(), Want>
     where
         H: KeyHash<Tuple> + Send + Sync + 's,
-        ensures watching { OnOk result (self.new ≡ with_watch self.old viewer plan count) }
+        ensures watching { OnOk result (self.new ≡ with_watch self.old viewer question count) }
         ensures onward { OnErr result (self.old.begun ≤ self.new.begun) }
         ensures spent { OnErr result (self.old.begun + 1 < 2 ^ 64 → self.new ≡ without_watch self.old) }
     {
         let Some(number) = self.begun.checked_add(1) else {
             drop(viewer);
-            drop(plan);
+            drop(question);
             return Err(Want::Memory);
         };
         self.begun = number;
-        let handle = start(starter, viewer, plan, number, count)?;
+        let handle = start(starter, viewer, question, number, count)?;
         self.push(Started { handle })?;
         Ok(())
     }
@@ -146,7 +146,7 @@ impl<H: KeyHash<Cell>> Audience<H> {
     }
 }
 
-/// Starts a thread in which the viewer answers the plan so many times.
+/// Starts a thread in which the viewer answers the question so many times.
 fn start<
     's,
     'e: 's,
@@ -156,21 +156,21 @@ fn start<
 >(
     starter: &Starter<'_, 's, 'e, R, G>,
     viewer: Viewer<H>,
-    plan: Plan,
+    question: Question,
     number: u64,
     count: u64,
 ) -> Result<PromisedHandle<Result<Watcher<H>, Want>, WatchOf<H>>, Want>
     ensures viewer { IfOk result (λ handle. handle.promise.viewer.value ≡ viewer) }
-    ensures plan { IfOk result (λ handle. handle.promise.plan.value ≡ plan) }
+    ensures question { IfOk result (λ handle. handle.promise.question.value ≡ question) }
     ensures number { IfOk result (λ handle. handle.promise.number ≡ number) }
     ensures count { IfOk result (λ handle. handle.promise.count ≡ count) }
 {
     // The law by which a viewer may be moved to the thread; it does nothing.
     viewers_cross_threads::<H>();
-    let promise = WatchOf::new(&viewer, &plan, number, count);
+    let promise = WatchOf::new(&viewer, &question, number, count);
     let answering = starter.answering;
     let job = move || -> Result<Watcher<H>, Want>
-        ensures { IfOk result (HasWatched (unwatched viewer plan) count) }
-    { Watcher::new(answering.alloc, viewer, plan).watched(&answering, number, count) };
+        ensures { IfOk result (HasWatched (unwatched viewer question) count) }
+    { Watcher::new(answering.alloc, viewer, question).watched(&answering, number, count) };
     in_thread(starter.scope, promise, job)
 }

@@ -10,13 +10,13 @@ ghost use Rattle.report.specs.declared.want.Want.TheVariants as want;
 
 use crate::limits::MAX_REPORTS;
 use crate::out::{Out, write_whole};
+use crate::question::Question;
 use crate::starting::{Started, Starter};
 use crate::unwritten::Unwritten;
 use crate::want::Want;
 use board::Snapshot;
 use cells::{Cell, KeyHash, Tuple};
 use crew::Gate;
-use query::Plan;
 use std::alloc::{AllocError, Global};
 use std::collections::VecDeque;
 use std::marker::Model;
@@ -180,16 +180,21 @@ impl<H: KeyHash<Cell>> Backlog<H> {
         line: u64,
         heading: &[u8],
         snapshot: Snapshot<H>,
-        plan: Plan,
+        question: Question,
     ) -> Result<(), Unwritten>
     where
         H: KeyHash<Tuple> + Send + Sync + 's,
         requires faults { O.faults out.old + 1 < 2 ^ 64 }
-        ensures goes_on { WritesOn O.taken O.faults out.old out.new self.new (AwaitsThen self.old (Heads heading.now snapshot plan)) result }
-        ensures early { length self.old.reports < under_way_limit → (out.new ≡ out.old) × OnOk result (self.new ≡ with_report (with_text self.old heading.now) snapshot plan) }
+        ensures goes_on { WritesOn O.taken O.faults out.old out.new self.new (AwaitsThen self.old (Heads heading.now snapshot question)) result }
+        ensures early { length self.old.reports < under_way_limit → (out.new ≡ out.old) × OnOk result (self.new ≡ with_report (with_text self.old heading.now) snapshot question) }
     {
-        let (snapshot, plan) = self.make_way(starter.answering.rt, out, heading, (snapshot, plan))?;
-        self.push_report(starter, line, snapshot, plan)?;
+        let (snapshot, question) = self.make_way(
+            starter.answering.rt,
+            out,
+            heading,
+            (snapshot, question),
+        )?;
+        self.push_report(starter, line, snapshot, question)?;
         Ok(())
     }
 
@@ -199,14 +204,14 @@ impl<H: KeyHash<Cell>> Backlog<H> {
         starter: &Starter<'_, 's, 'e, R, G>,
         line: u64,
         snapshot: Snapshot<H>,
-        plan: Plan,
+        question: Question,
     ) -> Result<(), Want>
     where
         H: KeyHash<Tuple> + Send + Sync + 's,
         requires { length self.old.reports < under_way_limit }
-        ensures { OnOk result (self.new ≡ with_report self.old snapshot plan) }
+        ensures { OnOk result (self.new ≡ with_report self.old snapshot question) }
     {
-        let answer = starter.start(line, snapshot, plan)?;
+        let answer = starter.start(line, snapshot, question)?;
         self.push_started(answer)?;
         Ok(())
     }
@@ -214,7 +219,7 @@ impl<H: KeyHash<Cell>> Backlog<H> {
     /// Puts a report whose thread was started behind all the rest.
     fn push_started(&mut self, answer: Started<H>) -> Result<(), AllocError>
         requires { length self.old.reports < under_way_limit }
-        ensures { OnOk result (self.new ≡ with_report self.old answer.handle.promise.edition.value answer.handle.promise.plan.value) }
+        ensures { OnOk result (self.new ≡ with_report self.old answer.handle.promise.edition.value answer.handle.promise.question.value) }
     {
         let before = mem::replace(&mut self.after, Vec::new(self.alloc));
         self.reports.push_back(Pending { before, answer })?;
@@ -277,7 +282,7 @@ impl<H: KeyHash<Cell>> Pending<H> {
     /// Waits for the report, and then writes what waits with it and its answer.
     fn write<O: Out, R: Threads>(self, rt: &R, out: &mut O) -> Result<(), Unwritten>
         requires { O.faults out.old + 1 < 2 ^ 64 }
-        ensures whole { WritesAll O.taken O.faults out.old out.new (Heads self.before.items self.answer.handle.promise.edition.value self.answer.handle.promise.plan.value) result }
+        ensures whole { WritesAll O.taken O.faults out.old out.new (Heads self.before.items self.answer.handle.promise.edition.value self.answer.handle.promise.question.value) result }
         ensures waited { (wanted : Wanted) → IsErrOf result (unwritten.Want wanted) → O.taken out.new ≡ O.taken out.old }
     {
         let Pending { before, answer } = self;

@@ -3,11 +3,11 @@ ghost use Rattle.std.specs.Prelude.{◌≡◌, IfOk};
 ghost use Rattle.report.specs.Waiting.{IsReportText};
 
 use crate::answering::Answering;
+use crate::question::Question;
 use crate::want::Want;
 use board::{Snapshot, viewers_cross_threads};
 use cells::{Cell, KeyHash, Tuple};
 use crew::Gate;
-use query::Plan;
 use std::alloc::{AllocError, Global};
 use std::snapshot;
 use std::sync::atomic::AtomicBool;
@@ -15,22 +15,22 @@ use std::sync::atomic::Ordering::SeqCst;
 use std::sync::{Arc, Wait};
 use std::thread::{Promise, PromisedHandle, Scope, Threads};
 
-/// What a report's thread promises: the plan's answer on the edition.
+/// What a report's thread promises: the question's answer on the edition.
 #[derive(Drop)]
 pub(crate) struct AnswerOf<H: KeyHash<Cell>> {
     edition: snapshot::Snapshot<Snapshot<H>>,
-    plan: snapshot::Snapshot<Plan>,
+    question: snapshot::Snapshot<Question>,
 }
 
 impl<H: KeyHash<Cell>> AnswerOf<H> {
-    /// The answer of the plan on the edition. It takes no memory.
-    fn new(edition: &Snapshot<H>, plan: &Plan) -> AnswerOf<H>
+    /// The answer of the question on the edition. It takes no memory.
+    fn new(edition: &Snapshot<H>, question: &Question) -> AnswerOf<H>
         ensures edition { result.edition.value ≡ edition.now }
-        ensures plan { result.plan.value ≡ plan.now }
+        ensures question { result.question.value ≡ question.now }
     {
         AnswerOf {
             edition: snapshot::Snapshot::of(edition),
-            plan: snapshot::Snapshot::of(plan),
+            question: snapshot::Snapshot::of(question),
         }
     }
 }
@@ -39,7 +39,7 @@ impl<H: KeyHash<Cell>> Promise<Result<Vec<u8>, Want>> for AnswerOf<H> {
     ghost use Rattle.std.specs.Prelude.{IfOk};
     ghost use Rattle.report.specs.Waiting.{IsReportText};
 
-    ghost kept_by = { λ promise result. IfOk result (λ text. IsReportText promise.edition.value.rows promise.plan.value text.items) };
+    ghost kept_by = { λ promise result. IfOk result (λ text. IsReportText promise.edition.value.rows promise.question.value text.items) };
 }
 
 /// A report that was started: what its thread promises, and whether it has ended.
@@ -58,7 +58,7 @@ impl<H: KeyHash<Cell>> Started<H> {
 
     /// Waits for the report, and gives its text.
     pub(crate) fn join<R: Threads>(self, rt: &R) -> Result<Vec<u8>, Want>
-        ensures { IfOk result (λ text. IsReportText self.handle.promise.edition.value.rows self.handle.promise.plan.value text.items) }
+        ensures { IfOk result (λ text. IsReportText self.handle.promise.edition.value.rows self.handle.promise.question.value text.items) }
     {
         let Started {
             handle,
@@ -81,13 +81,13 @@ impl<'a, 's, 'e: 's, R: Threads + Wait + Sync, G: Gate> Starter<'a, 's, 'e, R, G
         &self,
         line: u64,
         snapshot: Snapshot<H>,
-        plan: Plan,
+        question: Question,
     ) -> Result<Started<H>, Want>
         ensures edition { IfOk result (λ started. started.handle.promise.edition.value ≡ snapshot) }
-        ensures plan { IfOk result (λ started. started.handle.promise.plan.value ≡ plan) }
+        ensures question { IfOk result (λ started. started.handle.promise.question.value ≡ question) }
     {
         let (has_ended, ended) = unset(self.answering.alloc)?;
-        let handle = self.start_ending(line, snapshot, plan, ended)?;
+        let handle = self.start_ending(line, snapshot, question, ended)?;
         Ok(Started { handle, has_ended })
     }
 
@@ -96,19 +96,19 @@ impl<'a, 's, 'e: 's, R: Threads + Wait + Sync, G: Gate> Starter<'a, 's, 'e, R, G
         &self,
         line: u64,
         snapshot: Snapshot<H>,
-        plan: Plan,
+        question: Question,
         ended: Arc<AtomicBool>,
     ) -> Result<PromisedHandle<Result<Vec<u8>, Want>, AnswerOf<H>>, Want>
         ensures edition { IfOk result (λ handle. handle.promise.edition.value ≡ snapshot) }
-        ensures plan { IfOk result (λ handle. handle.promise.plan.value ≡ plan) }
+        ensures question { IfOk result (λ handle. handle.promise.question.value ≡ question) }
     {
         // The law by which a snapshot may be moved to the thread; it does nothing.
         viewers_cross_threads::<H>();
-        let promise = AnswerOf::new(&snapshot, &plan);
+        let promise = AnswerOf::new(&snapshot, &question);
         let answering = self.answering;
         let job = move || -> Result<Vec<u8>, Want>
-            ensures { IfOk result (λ text. IsReportText snapshot.rows plan text.items) }
-        { answering.answered(line, snapshot, plan, ended) };
+            ensures { IfOk result (λ text. IsReportText snapshot.rows question text.items) }
+        { answering.answered(line, snapshot, question, ended) };
         in_thread(self.scope, promise, job)
     }
 }
@@ -119,14 +119,14 @@ impl<'a, R: Threads + Wait + Sync, G: Gate> Answering<'a, R, G> {
         &self,
         line: u64,
         snapshot: Snapshot<H>,
-        plan: Plan,
+        question: Question,
         ended: Arc<AtomicBool>,
     ) -> Result<Vec<u8>, Want>
-        ensures { IfOk result (λ text. IsReportText snapshot.rows plan text.items) }
+        ensures { IfOk result (λ text. IsReportText snapshot.rows question text.items) }
     {
-        let text = self.text(line, &snapshot, &plan);
+        let text = self.text(line, &snapshot, &question);
         drop(snapshot);
-        drop(plan);
+        drop(question);
         ended.store(true, SeqCst);
         text
     }

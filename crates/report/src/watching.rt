@@ -7,11 +7,11 @@ ghost use Rattle.report.specs.Watching.{GoUpTo, HasWatched, IsLastEdition, IsLas
 
 use crate::answering::Answering;
 use crate::owned::handed_on;
+use crate::question::Question;
 use crate::want::Want;
 use board::{Keeper, Snapshot, Viewer};
 use cells::{Cell, KeyHash, Tuple};
 use crew::Gate;
-use query::Plan;
 use std::alloc::{AllocError, Global};
 use std::marker::Model;
 use std::sync::Wait;
@@ -32,12 +32,12 @@ impl Model for Shot {
     ghost view = { λ s. record { edition = s.edition; text = s.text.items } };
 }
 
-/// A viewer that answers one plan again and again, with the reports that it made: the numbers of their editions never
+/// A viewer that answers one question again and again, with the reports that it made: the numbers of their editions never
 /// fall, and each is the report on the edition of its number in the history that the viewer knows.
 #[derive(Drop)]
 pub struct Watcher<H: KeyHash<Cell>> {
     viewer: Viewer<H>,
-    plan: Plan,
+    question: Question,
     shots: Vec<Shot>,
 }
 
@@ -51,22 +51,22 @@ impl<H: KeyHash<Cell>> Model for Watcher<H> {
 
     ghost coded = { Prim.hlevel (codes, coded_known, coded_predicate) };
 
-    ghost view = { λ w. record { viewer = w.viewer; plan = w.plan; shots = w.shots.items } };
+    ghost view = { λ w. record { viewer = w.viewer; question = w.question; shots = w.shots.items } };
 
-    ghost invariant = { λ w. AreShots w.viewer.history w.plan 0 w.shots.items };
+    ghost invariant = { λ w. AreShots w.viewer.history w.question 0 w.shots.items };
 }
 
 impl<'a, R: Threads + Wait + Sync, G: Gate> Answering<'a, R, G> {
-    /// The report of the plan on the snapshot.
+    /// The report of the question on the snapshot.
     fn shot<H: KeyHash<Cell> + KeyHash<Tuple> + Send + Sync>(
         &self,
         snapshot: &Snapshot<H>,
-        plan: &Plan,
+        question: &Question,
     ) -> Result<Shot, Want>
         ensures edition { IfOk result (λ shot. shot.edition ≡ snapshot.now.number) }
-        ensures text { IfOk result (λ shot. IsReportText snapshot.now.rows plan.now shot.text) }
+        ensures text { IfOk result (λ shot. IsReportText snapshot.now.rows question.now shot.text) }
     {
-        let text = self.text(0, snapshot, plan)?;
+        let text = self.text(0, snapshot, question)?;
         Ok(Shot {
             edition: snapshot.edition(),
             text,
@@ -76,12 +76,12 @@ impl<'a, R: Threads + Wait + Sync, G: Gate> Answering<'a, R, G> {
 
 impl<H: KeyHash<Cell>> Watcher<H> {
     /// The viewer before its first report. It takes no memory.
-    pub(crate) fn new(alloc: Global, viewer: Viewer<H>, plan: Plan) -> Watcher<H>
-        ensures { result ≡ unwatched viewer plan }
+    pub(crate) fn new(alloc: Global, viewer: Viewer<H>, question: Question) -> Watcher<H>
+        ensures { result ≡ unwatched viewer question }
     {
         Watcher {
             viewer,
-            plan,
+            question,
             shots: Vec::new(alloc),
         }
     }
@@ -125,7 +125,7 @@ impl<H: KeyHash<Cell> + KeyHash<Tuple> + Send + Sync> Watcher<H> {
     ) -> Result<(), Want>
         ensures { OnOk result (HasWatched self.old 1 self.new) }
     {
-        let shot = look(answering, &mut self.viewer, &self.plan, number)?;
+        let shot = look(answering, &mut self.viewer, &self.question, number)?;
         self.shots.push(shot)?;
         Ok(())
     }
@@ -142,16 +142,16 @@ impl<H: KeyHash<Cell> + KeyHash<Tuple> + Send + Sync> Watcher<H> {
     ) -> Result<Vec<Shot>, Want>
         requires own { IsOf keeper.old self.viewer }
         ensures same { keeper.new ≡ keeper.old }
-        ensures shots { IfOk result (λ shots. GoUpTo (history keeper.old) self.plan (edition keeper.old) 0 (length self.shots) shots.items) }
+        ensures shots { IfOk result (λ shots. GoUpTo (history keeper.old) self.question (edition keeper.old) 0 (length self.shots) shots.items) }
     {
         let Watcher {
             mut viewer,
-            plan,
+            question,
             shots,
         } = self;
-        let last = last_look(answering, &mut viewer, &plan, keeper);
+        let last = last_look(answering, &mut viewer, &question, keeper);
         drop(viewer);
-        drop(plan);
+        drop(question);
         Ok(ended(answering.alloc, shots, last?)?)
     }
 }
@@ -160,31 +160,31 @@ impl<H: KeyHash<Cell> + KeyHash<Tuple> + Send + Sync> Watcher<H> {
 fn last_look<H: KeyHash<Cell> + KeyHash<Tuple> + Send + Sync, R: Threads + Wait + Sync, G: Gate>(
     answering: &Answering<'_, R, G>,
     viewer: &mut Viewer<H>,
-    plan: &Plan,
+    question: &Question,
     keeper: &mut Keeper<H>,
 ) -> Result<Shot, Want>
     requires own { IsOf keeper.old viewer.old }
     ensures same { keeper.new ≡ keeper.old }
     ensures learnt { IsPrefix viewer.old.history viewer.new.history × IsPrefix (history keeper.old) viewer.new.history }
-    ensures last { IfOk result (IsLastShot keeper.old plan.now) }
+    ensures last { IfOk result (IsLastShot keeper.old question.now) }
 {
     let snapshot = last_edition(viewer, keeper)?;
-    answering.shot(&snapshot, plan)
+    answering.shot(&snapshot, question)
 }
 
 /// A report on a snapshot that the viewer takes now. The gate is told of the snapshot before it is answered.
 fn look<H: KeyHash<Cell> + KeyHash<Tuple> + Send + Sync, R: Threads + Wait + Sync, G: Gate>(
     answering: &Answering<'_, R, G>,
     viewer: &mut Viewer<H>,
-    plan: &Plan,
+    question: &Question,
     number: u64,
 ) -> Result<Shot, Want>
     ensures looks { Looks viewer.old viewer.new }
-    ensures shot { IfOk result (λ shot. IsShot viewer.new.history plan.now shot × (length viewer.new.history ≡ shot.edition + 1)) }
+    ensures shot { IfOk result (λ shot. IsShot viewer.new.history question.now shot × (length viewer.new.history ≡ shot.edition + 1)) }
 {
     let snapshot = viewer.snapshot()?;
     answering.gate.viewing(number, snapshot.edition());
-    answering.shot(&snapshot, plan)
+    answering.shot(&snapshot, question)
 }
 
 /// The last edition of the keeper, as the viewer sees it once it has learnt what the keeper tells; should it see one above

@@ -8,7 +8,8 @@ use Rattle.cells.specs.declared.refused.Refused.TheVariants.{Limit}
 use Rattle.script.specs.Deeds.{Declares, Deed, Loads, Nothing, Publishes, Reports, Shapes, Updates}
 use Rattle.script.specs.Givens.{Givens}
 use Rattle.script.specs.Limits.{part_limit, script_limit}
-use Rattle.script.specs.Output.{AreBlocks, InThree, IsAnswer, IsBlock, IsOutput, IsTooMuch, deed_behind, line_first, no_line, of_lines, refusal, too_much}
+use Rattle.script.specs.Output.{AreBlocks, InThree, IsAnswer, IsBlock, IsOutput, IsTooMuch, deed_behind, line_first, no_line, of_lines, too_much}
+use Rattle.script.specs.Spelling.{refusal}
 use Rattle.script.specs.declared.fault.Fault.{Fault}
 use Rattle.script.specs.declared.fault.Fault.TheVariants.{Line}
 use Rattle.script.proofs.SaysLemmas.{EachAnswered, OneAnswer, one_report, some_report}
@@ -25,7 +26,7 @@ module _ (each : EachAnswered) (hash : Cell → ℕ) (givens : Givens) where
   some_answer before (Ok (Loads t listing)) = (_, refl)
   some_answer before (Ok (Updates us)) = (_, refl)
   some_answer before (Ok Publishes) = (_, refl)
-  some_answer before (Ok (Reports t query)) = some_report each _ _ t _ query
+  some_answer before (Ok (Reports t query)) = some_report each _ _ _ t _ query
   some_answer before (Ok Shapes) = (_, refl)
   some_answer before (Err fault) = (_, refl)
 
@@ -39,8 +40,8 @@ module _ (each : EachAnswered) (hash : Cell → ℕ) (givens : Givens) where
   pub some_output : (script : List ℕ) → (bytes : List ℕ) × IsOutput hash givens script bytes
   some_output script = go (cases_lt script_limit (length script)) (cases_lt part_limit (length givens.parts)) where
     go : (script_limit < length script) ⊎ (length script ≤ script_limit) → (part_limit < length givens.parts) ⊎ (length givens.parts ≤ part_limit) → (bytes : List ℕ) × IsOutput hash givens script bytes
-    go (inl long) few = (refusal 0 (Line Limit), too_much (inl long))
-    go (inr short) (inl many) = (refusal 0 (Line Limit), too_much (inr many))
+    go (inl long) few = (refusal givens.form 0 (Line Limit), too_much (inl long))
+    go (inr short) (inl many) = (refusal givens.form 0 (Line Limit), too_much (inr many))
     go (inr short) (inr few) = let (bytes, are) = some_blocks (lines script) [] in (bytes, of_lines short few are)
 
 -- ---- and no other
@@ -56,7 +57,7 @@ module _ (law : OneAnswer) where
   one_answer hash givens before (Ok (Loads t listing)) a b h k = h ∙ sym k
   one_answer hash givens before (Ok (Updates us)) a b h k = h ∙ sym k
   one_answer hash givens before (Ok Publishes) a b h k = h ∙ sym k
-  one_answer hash givens before (Ok (Reports t query)) a b h k = one_report law _ _ t _ query a b h k
+  one_answer hash givens before (Ok (Reports t query)) a b h k = one_report law _ _ _ t _ query a b h k
   one_answer hash givens before (Ok Shapes) a b h k = h ∙ sym k
   one_answer hash givens before (Err fault) a b h k = h ∙ sym k
 

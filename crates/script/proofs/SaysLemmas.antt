@@ -8,9 +8,11 @@ use Rattle.cells.specs.declared.refused.Refused.{Refused}
 use Rattle.cells.specs.declared.refused.Refused.TheVariants.{OutOfMemory}
 use Rattle.board.specs.Editions.{Editions}
 use Rattle.board.specs.Editions as keeper
+use Rattle.forms.specs.declared.form.Form.{Form}
 use Rattle.script.specs.Blocks.{WillReport, WillReportPlan}
-use Rattle.script.specs.Output.{IsReport, refusal, report}
-use Rattle.script.specs.Says.{GivesPlan, IsRefused, MeansPlan, Says, answer, answer_of, no_plan, no_query}
+use Rattle.script.specs.Output.{IsReport, report}
+use Rattle.script.specs.Says.{Answer, GivesPlan, IsRefused, MeansPlan, Says, answer, answer_of, no_plan, no_query, spelt}
+use Rattle.script.specs.Spelling.{refusal}
 use Rattle.script.specs.declared.block.Block.{Block}
 use Rattle.script.specs.declared.block.Block.TheVariants.{Refusal}
 use Rattle.script.specs.declared.fault.Fault.TheVariants.{Line}
@@ -35,13 +37,13 @@ pub record OneAnswer : Type 0 where
 
 -- ---- so a text says one thing
 
-says_some : EachAnswered → (t : Table) (rs : List RowValue) (text : List ℕ) → (r : Result (List ℕ) Refused) × Says t rs text r
+says_some : EachAnswered → (t : Table) (rs : List RowValue) (text : List ℕ) → (r : Result Answer Refused) × Says t rs text r
 says_some each t rs text = read (each text) where
-  asked : (q : QueryTree) → IsQuery text q → (o : Option Refused) → fault_of t q ≡ o → (r : Result (List ℕ) Refused) × Says t rs text r
+  asked : (q : QueryTree) → IsQuery text q → (o : Option Refused) → fault_of t q ≡ o → (r : Result Answer Refused) × Says t rs text r
   asked q is None e = (Ok (answer_of (plan_of t q) rs), answer is e)
   asked q is (Some fault) e = (Err fault, no_plan is e)
 
-  read : IsAnswered text → (r : Result (List ℕ) Refused) × Says t rs text r
+  read : IsAnswered text → (r : Result Answer Refused) × Says t rs text r
   read (a_query q is) = asked q is (fault_of t q) refl
   read (a_fault fault is) = (Err fault, no_query is)
 
@@ -50,7 +52,7 @@ same_fault : OneAnswer → (t : Table) (text : List ℕ) (q p : QueryTree) → I
 same_fault law t text q p h k = ap (fault_of t) (law.one_query text q p h k)
 
 module _ (law : OneAnswer) {t : Table} {rs : List RowValue} {text : List ℕ} where
-  says_one : {r s : Result (List ℕ) Refused} → Says t rs text r → Says t rs text s → r ≡ s
+  says_one : {r s : Result Answer Refused} → Says t rs text r → Says t rs text s → r ≡ s
   says_one (no_query {fault = e} h) (no_query {fault = f} k) = ap Err (law.one_fault text e f h k)
   says_one (no_query {fault = e} h) (no_plan {q = q} k f) = absurd (law.no_both text q e k h)
   says_one (no_query {fault = e} h) (answer {q = q} k f) = absurd (law.no_both text q e k h)
@@ -66,14 +68,14 @@ module _ (law : OneAnswer) {t : Table} {rs : List RowValue} {text : List ℕ} wh
 
 -- ---- and a report has one block
 
-pub some_report : EachAnswered → (number edition : ℕ) (t : Table) (rs : List RowValue) (query : List ℕ) → (bytes : List ℕ) × IsReport number edition t rs query bytes
-some_report each number edition t rs query =
+pub some_report : EachAnswered → (form : Form) (number edition : ℕ) (t : Table) (rs : List RowValue) (query : List ℕ) → (bytes : List ℕ) × IsReport form number edition t rs query bytes
+some_report each form number edition t rs query =
     let (said, says) = says_some each t rs query in
-    (report number edition said, record { said = said; says = says; is = refl })
+    (report form number edition said, record { said = said; says = says; is = refl })
 
-pub one_report : OneAnswer → (number edition : ℕ) (t : Table) (rs : List RowValue) (query bytes others : List ℕ) →
-    IsReport number edition t rs query bytes → IsReport number edition t rs query others → bytes ≡ others
-one_report law number edition t rs query bytes others a b = a.is ∙ ap (report number edition) (says_one law a.says b.says) ∙ sym b.is
+pub one_report : OneAnswer → (form : Form) (number edition : ℕ) (t : Table) (rs : List RowValue) (query bytes others : List ℕ) →
+    IsReport form number edition t rs query bytes → IsReport form number edition t rs query others → bytes ≡ others
+one_report law form number edition t rs query bytes others a b = a.is ∙ ap (report form number edition) (says_one law a.says b.says) ∙ sym b.is
 
 -- ---- what the code answers
 
@@ -94,21 +96,21 @@ checked_text t text q result is reads = go (fault_of t q) refl result reads wher
   go (Some first) e (Err fault) (inr said) = inr (λ rs. let same : first ≡ fault = cc in no_plan is (e ∙ ap Some same))
 
 -- the block of a refused report
-pub answers_refused : {H : Type 0} (k : Editions) (number : ℕ) (query : List ℕ) (fault : Refused) (bytes : Vec ℕ Global) →
-    IsRefused (keeper.schema k) query fault → (Line fault ≡ Line OutOfMemory → false ≡ true) → bytes.items ≡ refusal number (Line fault) → WillReport {H = H} k number query (Refusal bytes)
+pub answers_refused : {H : Type 0} {form : Form} (k : Editions) (number : ℕ) (query : List ℕ) (fault : Refused) (bytes : Vec ℕ Global) →
+    IsRefused (keeper.schema k) query fault → (Line fault ≡ Line OutOfMemory → false ≡ true) → bytes.items ≡ refusal form number (Line fault) → WillReport {H = H} form k number query (Refusal bytes)
 answers_refused k number query fault bytes (inl wanting) memory is = absurd (let bad : false ≡ true = memory (ap Line wanting) in cc)
-answers_refused k number query fault bytes (inr says) memory is = record {
-  is = λ rs left same. record { text = refusal number (Line fault); is = record { said = Err fault; says = says rs; is = refl }; will = is; tells = record { fault = Line fault; is = refl } };
+answers_refused {form = form} k number query fault bytes (inr says) memory is = record {
+  is = λ rs left same. record { text = refusal form number (Line fault); is = record { said = Err fault; says = says rs; is = refl }; will = is; tells = record { form = form; fault = Line fault; is = refl } };
 }
 
 -- the block of a report that is answered
-pub answers_plan : {H : Type 0} (k : Editions) (number : ℕ) (query : List ℕ) (plan : PlanTree) (block : Block H) →
-    MeansPlan (keeper.schema k) query plan → WillReportPlan k number plan block → WillReport k number query block
-answers_plan k number query plan block asks answers = record {
+pub answers_plan : {H : Type 0} {form : Form} (k : Editions) (number : ℕ) (query : List ℕ) (plan : PlanTree) (block : Block H) →
+    MeansPlan (keeper.schema k) query plan → WillReportPlan form k number plan block → WillReport form k number query block
+answers_plan {form = form} k number query plan block asks answers = record {
   is = λ rs left same. record {
-    text = report number (keeper.edition k) (Ok (answer_of plan rs));
+    text = report form number (keeper.edition k) (Ok (answer_of plan rs));
     is = record { said = Ok (answer_of plan rs); says = asks rs; is = refl };
     will = answers.is rs left same;
-    tells = subst (λ b. Tells b number (report number (keeper.edition k) (Ok (answer_of plan rs)))) (sym answers.accepted) (no_refusal_headed number (keeper.edition k) (answer_of plan rs));
+    tells = subst (λ b. Tells b number (report form number (keeper.edition k) (Ok (answer_of plan rs)))) (sym answers.accepted) (no_refusal_headed form number (keeper.edition k) (spelt form (answer_of plan rs)));
   };
 }

@@ -16,13 +16,16 @@ use Rattle.cells.specs.declared.refused.Refused.TheVariants.{OutOfMemory, TooMan
 use Rattle.trie.specs.Shapes.{shape_of}
 use Rattle.board.specs.Editions.{Begins, ChangesDraft, Editions}
 use Rattle.board.specs.Editions as keeper
+use Rattle.forms.specs.declared.form.Form.{Form}
+use Rattle.forms.specs.declared.form.Form.TheVariants.{Classic, Csv, Json, Table as TableForm}
 use Rattle.script.specs.Blocks.{WillReport, Steps, quiet, quiet_by}
 use Rattle.script.specs.Deeds.{Declares, Deed, Loads, Nothing, Publishes, Reports, Shapes, Updates, deed, deed_of, declares, is_comment, command_of}
 use Rattle.script.specs.Endings.{HasWorkers, reports}
 use Rattle.script.specs.Givens.{Givens}
 use Rattle.script.specs.Listings.{rows_loaded}
-use Rattle.script.specs.Output.{IsAnswer, IsBlock, IsReport, added, declared, declared_by, edition, editions, is_overfull, is_publish, loaded, published, refusal, shape_text, updated, updates, within, within_loaded}
+use Rattle.script.specs.Output.{IsAnswer, IsBlock, IsReport, added, declared, declared_by, edition, editions, is_overfull, is_publish, loaded, published, updated, updates, within, within_loaded}
 use Rattle.script.specs.Output.{keys as keys_of_rows}
+use Rattle.script.specs.Spelling.{refusal, shape_text}
 use Rattle.script.specs.Desks.{Executes, Keeps, LaysOrOverflows, LoadsRows, PutsRow, IsBehind, Stays, schema_of_desk}
 use Rattle.script.specs.declared.block.Block.{Block}
 use Rattle.script.specs.Stops.{IsQuiet, IsRefusal}
@@ -115,9 +118,9 @@ pub executes_nothing : (hash : Cell → ℕ) (givens : Givens) (line : List ℕ)
 executes_nothing hash givens line number desk bytes does none = executes_quiet hash givens line number desk (Ok Nothing) bytes does (λ earlier. refl) (λ us. refl) refl (λ before stands n. none)
 
 pub executes_refused : (hash : Cell → ℕ) (givens : Givens) (line : List ℕ) (number : ℕ) (desk : Option Editions) (fault : Fault) (bytes : List ℕ)
-    → deed (schema_of_desk desk) line ≡ Err fault → bytes ≡ refusal number fault → Executes hash givens line number desk desk bytes
+    → deed (schema_of_desk desk) line ≡ Err fault → bytes ≡ refusal givens.form number fault → Executes hash givens line number desk desk bytes
 executes_refused hash givens line number desk fault bytes does text =
-    executes_quiet hash givens line number desk (Err fault) bytes does (λ earlier. refl) (λ us. refl) refl (λ before stands n. text ∙ ap (λ m. refusal m fault) n)
+    executes_quiet hash givens line number desk (Err fault) bytes does (λ earlier. refl) (λ us. refl) refl (λ before stands n. text ∙ ap (λ m. refusal givens.form m fault) n)
 
 -- some updates left the published rows
 left_published : (givens : Givens) (before : Lines) → AreLeft (published givens before)
@@ -151,15 +154,18 @@ steps_refusal hash givens line number old new bytes refused executes = record {
 quiet_nothing : {H : Type 0} (bytes : Vec ℕ Global) → bytes.items ≡ [] → quiet {H = H} bytes ≡ Text bytes
 quiet_nothing bytes none = ap (λ t. quiet_by t bytes) none
 
-quiet_refused : {H : Type 0} (bytes : Vec ℕ Global) (number : ℕ) (fault : Fault) → bytes.items ≡ refusal number fault → quiet {H = H} bytes ≡ Refusal bytes
-quiet_refused bytes number fault is = ap (λ t. quiet_by t bytes) is
+quiet_refused : {H : Type 0} (bytes : Vec ℕ Global) (number : ℕ) (form : Form) (fault : Fault) → bytes.items ≡ refusal form number fault → quiet {H = H} bytes ≡ Refusal bytes
+quiet_refused bytes number Classic fault is = ap (λ t. quiet_by t bytes) is
+quiet_refused bytes number Csv fault is = ap (λ t. quiet_by t bytes) is
+quiet_refused bytes number Json fault is = ap (λ t. quiet_by t bytes) is
+quiet_refused bytes number TableForm fault is = ap (λ t. quiet_by t bytes) is
 
 pub steps_quiet : {H : Type 0} (hash : Cell → ℕ) (givens : Givens) (line : List ℕ) (number : ℕ) (old new : Option Editions) (bytes : Vec ℕ Global)
     → IsQuiet number bytes.items → Executes hash givens line number old new bytes.items → Steps {H = H} hash givens line number old new (quiet bytes)
 steps_quiet {H} hash givens line number old new bytes (inl none) executes =
     subst (λ b. Steps {H = H} hash givens line number old new b) (sym (quiet_nothing bytes none)) (steps_text hash givens line number old new bytes (no_refusal number bytes.items none) executes)
 steps_quiet {H} hash givens line number old new bytes (inr refused) executes =
-    subst (λ b. Steps {H = H} hash givens line number old new b) (sym (quiet_refused bytes number refused.fault refused.is)) (steps_refusal hash givens line number old new bytes refused executes)
+    subst (λ b. Steps {H = H} hash givens line number old new b) (sym (quiet_refused bytes number refused.form refused.fault refused.is)) (steps_refusal hash givens line number old new bytes refused executes)
 
 pub steps_nothing : {H : Type 0} (hash : Cell → ℕ) (givens : Givens) (line : List ℕ) (number : ℕ) (desk : Option Editions) (bytes : Vec ℕ Global)
     → deed (schema_of_desk desk) line ≡ Ok Nothing → bytes.items ≡ [] → Steps {H = H} hash givens line number desk desk (Text bytes)
@@ -189,21 +195,21 @@ both_ok (Err e) A B C f a b = tt
 -- the block of a refused line; want of memory is no block
 pub executes_refused_text : {E : Type 0} (hash : Cell → ℕ) (givens : Givens) (line : List ℕ) (number : ℕ) (desk : Option Editions) (fault : Fault) (text : Result (Vec ℕ Global) E)
     → (fault ≡ Line OutOfMemory) ⊎ (deed (schema_of_desk desk) line ≡ Err fault) → (fault ≡ Line OutOfMemory → IsErr text)
-    → IfOk text (λ bytes. bytes.items ≡ refusal number fault) → IfOk text (λ bytes. Executes hash givens line number desk desk bytes.items)
+    → IfOk text (λ bytes. bytes.items ≡ refusal givens.form number fault) → IfOk text (λ bytes. Executes hash givens line number desk desk bytes.items)
 executes_refused_text hash givens line number desk fault (Ok bytes) (inl wanting) memory is = absurd (let bad : false ≡ true = memory wanting in cc)
 executes_refused_text hash givens line number desk fault (Ok bytes) (inr does) memory is = executes_refused hash givens line number desk fault bytes.items does is
 executes_refused_text hash givens line number desk fault (Err e) asks memory is = tt
 
 pub steps_report : {H : Type 0} (hash : Cell → ℕ) (givens : Givens) (line : List ℕ) (number : ℕ) (k : Editions) (query : List ℕ) (block : Block H)
-    → deed (Some (keeper.schema k)) line ≡ Ok (Reports (keeper.schema k) query) → WillReport k number query block → Steps hash givens line number (Some k) (Some k) block
+    → deed (Some (keeper.schema k)) line ≡ Ok (Reports (keeper.schema k) query) → WillReport givens.form k number query block → Steps hash givens line number (Some k) (Some k) block
 steps_report hash givens line number k query block does answers =
     let r = Ok (Reports (keeper.schema k) query) in record {
       foretells = λ before stands n.
           let told = answers.is (published givens before) (left_published givens before) stands.published in record {
             text = told.text;
             is = block_by givens before line r (does_so givens before line (Some k) r stands does) hash told.text
-                (subst (λ m. IsReport m (edition givens before) (keeper.schema k) (published givens before) query told.text) n
-                (subst (λ e. IsReport number e (keeper.schema k) (published givens before) query told.text) stands.edition told.is));
+                (subst (λ m. IsReport givens.form m (edition givens before) (keeper.schema k) (published givens before) query told.text) n
+                (subst (λ e. IsReport givens.form number e (keeper.schema k) (published givens before) query told.text) stands.edition told.is));
             will = told.will;
             tells = told.tells;
           };
@@ -218,7 +224,7 @@ HaveShapes hash = (rs : List RowValue) → AreLeft rs → shape_of hash (keys (t
 
 pub executes_shape : (hash : Cell → ℕ) (givens : Givens) (line : List ℕ) (number : ℕ) (k : Editions) (bytes : List ℕ)
     → deed (Some (keeper.schema k)) line ≡ Ok Shapes → HaveShapes hash
-    → bytes ≡ shape_text number (keeper.edition k) (shape_of hash (keys (keeper.published k))) → Executes hash givens line number (Some k) (Some k) bytes
+    → bytes ≡ shape_text givens.form number (keeper.edition k) (shape_of hash (keys (keeper.published k))) → Executes hash givens line number (Some k) (Some k) bytes
 executes_shape hash givens line number k bytes does law text =
     executes_quiet hash givens line number (Some k) (Ok Shapes) bytes does (λ earlier. refl) (λ us. refl) refl (λ before stands n.
     let shape : shape_of hash (keys (keeper.published k)) ≡ shape_of hash (keys_of_rows (published givens before)) =
@@ -233,7 +239,7 @@ record Adds (hash : Cell → ℕ) (givens : Givens) (r : Result Deed Fault) (mor
   declares : (before : Lines) → declared_by (declared givens before) r ≡ declared givens before
   adds : (us : List Update) → added givens us r ≡ within givens.limit us more
   quiet : is_publish r ≡ false
-  writes : (before : Lines) (bytes : List ℕ) → bytes ≡ updated (length before + 1) givens.limit (updates givens before) more → IsAnswer hash givens before r bytes
+  writes : (before : Lines) (bytes : List ℕ) → bytes ≡ updated givens.form (length before + 1) givens.limit (updates givens before) more → IsAnswer hash givens before r bytes
 
 adds_updates : (hash : Cell → ℕ) (givens : Givens) (more : List Update) → Adds hash givens (Ok (Updates more)) more
 adds_updates hash givens more = record { declares = λ before. refl; adds = λ us. refl; quiet = refl; writes = λ before bytes is. is }
@@ -243,7 +249,7 @@ adds_rows hash givens t listing rs hold = record {
   declares = λ before. refl;
   adds = λ us. ap (within_loaded givens.limit us) hold;
   quiet = refl;
-  writes = λ before bytes is. is ∙ sym (ap (loaded (length before + 1) givens.limit (updates givens before)) hold);
+  writes = λ before bytes is. is ∙ sym (ap (loaded givens.form (length before + 1) givens.limit (updates givens before)) hold);
 }
 
 fits : (m n l : ℕ) → m ≡ n → n ≤ l → nat_lt l m ≡ false
@@ -265,7 +271,7 @@ module _ (hash : Cell → ℕ) (givens : Givens) (line : List ℕ) (number : ℕ
   executes_laid new bytes changes room none = record {
     block = λ before stands n.
         block_by givens before line r (does_so givens before line (Some k) r stands does) hash bytes
-        (adds.writes before bytes (none ∙ sym (ap (λ b. cond b (refusal (length before + 1) (Line TooManyRows)) []) (fitting before stands))));
+        (adds.writes before bytes (none ∙ sym (ap (λ b. cond b (refusal givens.form (length before + 1) (Line TooManyRows)) []) (fitting before stands))));
     stands = λ before stands.
         let so = does_so givens before line (Some k) r stands does in
         record {
@@ -291,12 +297,12 @@ module _ (hash : Cell → ℕ) (givens : Givens) (line : List ℕ) (number : ℕ
         ∙ ap (λ us. updates givens before ++ us) (adds.adds (updates givens before) ∙ ap (λ b. cond b [] more) (fitting before stands))
 
   -- there is none
-  executes_overfull : (bytes : List ℕ) → keeper.limit k < len left → bytes ≡ refusal number (Line TooManyRows) → Executes hash givens line number (Some k) (Some k) bytes
+  executes_overfull : (bytes : List ℕ) → keeper.limit k < len left → bytes ≡ refusal givens.form number (Line TooManyRows) → Executes hash givens line number (Some k) (Some k) bytes
   executes_overfull bytes full text = record {
     block = λ before stands n.
         block_by givens before line r (does_so givens before line (Some k) r stands does) hash bytes
         (adds.writes before bytes
-        (text ∙ ap (λ m. refusal m (Line TooManyRows)) n ∙ sym (ap (λ b. cond b (refusal (length before + 1) (Line TooManyRows)) []) (exceeding before stands))));
+        (text ∙ ap (λ m. refusal givens.form m (Line TooManyRows)) n ∙ sym (ap (λ b. cond b (refusal givens.form (length before + 1) (Line TooManyRows)) []) (exceeding before stands))));
     stands = λ before stands.
         stands_left givens before line (Some k)
         (leaves_at givens before line r (does_so givens before line (Some k) r stands does) (adds.declares before)
@@ -308,13 +314,13 @@ module _ (hash : Cell → ℕ) (givens : Givens) (line : List ℕ) (number : ℕ
     exceeding before stands = exceeds _ _ givens.limit (many before stands) (subst (λ l. l < len left) stands.same_limit full)
 
   -- there is, or there is not
-  executes_either : (new : Editions) (bytes : List ℕ) → LaysOrOverflows k new left number bytes → Executes hash givens line number (Some k) (Some new) bytes
+  executes_either : (new : Editions) (bytes : List ℕ) → LaysOrOverflows givens.form k new left number bytes → Executes hash givens line number (Some k) (Some new) bytes
   executes_either new bytes (inl lays) = executes_laid new bytes lays.draft (λ before stands. subst (λ l. len left ≤ l) stands.same_limit lays.within) lays.nothing
   executes_either new bytes (inr over) = rw over.unchanged (executes_overfull bytes over.full over.refused)
 
 -- what a put writes is the line's block, whether the row was laid or refused
 pub executes_put : (hash : Cell → ℕ) (givens : Givens) (line : List ℕ) (number : ℕ) (k new : Editions) (row : RowValue) (bytes : List ℕ)
-    → deed (Some (keeper.schema k)) line ≡ Ok (Updates (Put row ∷ [])) → PutsRow k new row number bytes → Executes hash givens line number (Some k) (Some new) bytes
+    → deed (Some (keeper.schema k)) line ≡ Ok (Updates (Put row ∷ [])) → PutsRow givens.form k new row number bytes → Executes hash givens line number (Some k) (Some new) bytes
 executes_put hash givens line number k new row bytes does puts =
     executes_either hash givens line number k (Ok (Updates (Put row ∷ []))) (Put row ∷ []) does (adds_updates hash givens (Put row ∷ [])) (insert (keeper.draft k) row.key row)
     (λ us is. table_rows_put us row ∙ ap (λ d. insert d row.key row) (sym is)) new bytes puts
@@ -337,7 +343,7 @@ abbrev LieOver : Type 0
 LieOver = (us : List Update) (rs : List RowValue) → table (rows (us ++ puts rs)) ≡ laid_over (table (rows (puts rs))) (table (rows us))
 
 executes_load : LieOver → (hash : Cell → ℕ) (givens : Givens) (line : List ℕ) (number : ℕ) (k new : Editions) (listing bytes : List ℕ) (held : Result (List RowValue) Fault)
-    → rows_loaded (keeper.schema k) givens.parts listing ≡ held → deed (Some (keeper.schema k)) line ≡ Ok (Loads (keeper.schema k) listing) → LoadsRows k new held number bytes
+    → rows_loaded (keeper.schema k) givens.parts listing ≡ held → deed (Some (keeper.schema k)) line ≡ Ok (Loads (keeper.schema k) listing) → LoadsRows givens.form k new held number bytes
     → Executes hash givens line number (Some k) (Some new) bytes
 executes_load law hash givens line number k new listing bytes (Ok rs) hold does loads =
     executes_either hash givens line number k (Ok (Loads (keeper.schema k) listing)) (puts rs) does (adds_rows hash givens (keeper.schema k) listing rs hold)
@@ -345,7 +351,7 @@ executes_load law hash givens line number k new listing bytes (Ok rs) hold does 
 executes_load law hash givens line number k new listing bytes (Err fault) hold does (unchanged, text) = rw unchanged (record {
   block = λ before stands n.
       block_by givens before line r (does_so givens before line (Some k) r stands does) hash bytes
-      (text ∙ ap (λ m. refusal m fault) n ∙ sym (ap (loaded (length before + 1) givens.limit (updates givens before)) hold));
+      (text ∙ ap (λ m. refusal givens.form m fault) n ∙ sym (ap (loaded givens.form (length before + 1) givens.limit (updates givens before)) hold));
   stands = λ before stands.
       stands_left givens before line (Some k)
       (leaves_at givens before line r (does_so givens before line (Some k) r stands does) refl (ap (within_loaded givens.limit (updates givens before)) hold) refl) stands;
@@ -357,7 +363,7 @@ executes_load law hash givens line number k new listing bytes (Err fault) hold d
 -- what a load writes is the line's block, by that law
 pub executes_loads : (hash : Cell → ℕ) (givens : Givens) (line : List ℕ) (number : ℕ) (k new : Editions) (listing bytes : List ℕ)
     → deed (Some (keeper.schema k)) line ≡ Ok (Loads (keeper.schema k) listing) → LieOver
-    → LoadsRows k new (rows_loaded (keeper.schema k) givens.parts listing) number bytes → Executes hash givens line number (Some k) (Some new) bytes
+    → LoadsRows givens.form k new (rows_loaded (keeper.schema k) givens.parts listing) number bytes → Executes hash givens line number (Some k) (Some new) bytes
 executes_loads hash givens line number k new listing bytes does law loads =
     executes_load law hash givens line number k new listing bytes (rows_loaded (keeper.schema k) givens.parts listing) refl does loads
 

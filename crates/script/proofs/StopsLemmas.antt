@@ -5,11 +5,14 @@ use Rattle.cells.specs.Updates.{Update, puts}
 use Rattle.cells.specs.declared.cell.Cell.{Cell}
 use Rattle.cells.specs.declared.refused.Refused.{Refused}
 use Rattle.cells.specs.declared.refused.Refused.TheVariants.{TooManyRows}
+use Rattle.forms.specs.declared.form.Form.{Form}
 use Rattle.script.specs.Deeds.{Declares, Deed, Loads, Nothing, Publishes, Reports, Shapes, Updates}
 use Rattle.script.specs.Givens.{Givens}
 use Rattle.script.specs.Listings.{rows_loaded}
-use Rattle.script.specs.Output.{AreBlocks, IsAnswer, IsBlock, deed_behind, edition, is_overfull, loaded, refusal, report, updates}
+use Rattle.script.specs.Output.{AreBlocks, IsAnswer, IsBlock, deed_behind, edition, is_overfull, loaded, report, updates}
 use Rattle.script.specs.Output.{line_first as block_first, no_line as no_block}
+use Rattle.script.specs.Says.{Answer, spelt}
+use Rattle.script.specs.Spelling.{refusal}
 use Rattle.script.specs.Stops.{AreBlocksUpTo, IsRefusal, StoppedAt, StopsAfter, Tells, last_line, line_first, no_line, stops}
 use Rattle.script.specs.declared.fault.Fault.{Fault}
 use Rattle.script.specs.declared.fault.Fault.TheVariants.{Line}
@@ -34,30 +37,30 @@ record Told (number : ℕ) (bytes : List ℕ) : Type 0 where
 told_nothing : (number : ℕ) (bytes : List ℕ) → bytes ≡ [] → Told number bytes
 told_nothing number bytes none = record { refused = false; tells = no_refusal number bytes none }
 
-told_refusal : (number : ℕ) (fault : Fault) (bytes : List ℕ) → bytes ≡ refusal number fault → Told number bytes
-told_refusal number fault bytes is = record { refused = true; tells = record { fault = fault; is = is } }
+told_refusal : (form : Form) (number : ℕ) (fault : Fault) (bytes : List ℕ) → bytes ≡ refusal form number fault → Told number bytes
+told_refusal form number fault bytes is = record { refused = true; tells = record { form = form; fault = fault; is = is } }
 
-told_updated : (number : ℕ) (full : Bool) (bytes : List ℕ) → bytes ≡ cond full (refusal number (Line TooManyRows)) [] → Told number bytes
-told_updated number true bytes is = told_refusal number (Line TooManyRows) bytes is
-told_updated number false bytes is = told_nothing number bytes is
+told_updated : (form : Form) (number : ℕ) (full : Bool) (bytes : List ℕ) → bytes ≡ cond full (refusal form number (Line TooManyRows)) [] → Told number bytes
+told_updated form number true bytes is = told_refusal form number (Line TooManyRows) bytes is
+told_updated form number false bytes is = told_nothing number bytes is
 
-told_loaded : (number limit : ℕ) (us : List Update) (held : Result (List RowValue) Fault) (bytes : List ℕ) → bytes ≡ loaded number limit us held → Told number bytes
-told_loaded number limit us (Ok rs) bytes is = told_updated number (is_overfull limit us (puts rs)) bytes is
-told_loaded number limit us (Err fault) bytes is = told_refusal number fault bytes is
+told_loaded : (form : Form) (number limit : ℕ) (us : List Update) (held : Result (List RowValue) Fault) (bytes : List ℕ) → bytes ≡ loaded form number limit us held → Told number bytes
+told_loaded form number limit us (Ok rs) bytes is = told_updated form number (is_overfull limit us (puts rs)) bytes is
+told_loaded form number limit us (Err fault) bytes is = told_refusal form number fault bytes is
 
-told_report : (number edition : ℕ) (said : Result (List ℕ) Refused) (bytes : List ℕ) → bytes ≡ report number edition said → Told number bytes
-told_report number edition (Ok text) bytes is = record { refused = false; tells = λ refused. no_refusal_headed number edition text (subst (IsRefusal number) is refused) }
-told_report number edition (Err fault) bytes is = told_refusal number (Line fault) bytes is
+told_report : (form : Form) (number edition : ℕ) (said : Result Answer Refused) (bytes : List ℕ) → bytes ≡ report form number edition said → Told number bytes
+told_report form number edition (Ok told) bytes is = record { refused = false; tells = λ refused. no_refusal_headed form number edition (spelt form told) (subst (IsRefusal number) is refused) }
+told_report form number edition (Err fault) bytes is = told_refusal form number (Line fault) bytes is
 
 told_answer : (hash : Cell → ℕ) (givens : Givens) (before : Lines) (r : Result Deed Fault) (bytes : List ℕ) → IsAnswer hash givens before r bytes → Told (length before + 1) bytes
 told_answer hash givens before (Ok Nothing) bytes is = told_nothing _ bytes is
 told_answer hash givens before (Ok (Declares t)) bytes is = told_nothing _ bytes is
-told_answer hash givens before (Ok (Loads t listing)) bytes is = told_loaded _ givens.limit (updates givens before) (rows_loaded t givens.parts listing) bytes is
-told_answer hash givens before (Ok (Updates us)) bytes is = told_updated _ (is_overfull givens.limit (updates givens before) us) bytes is
+told_answer hash givens before (Ok (Loads t listing)) bytes is = told_loaded givens.form _ givens.limit (updates givens before) (rows_loaded t givens.parts listing) bytes is
+told_answer hash givens before (Ok (Updates us)) bytes is = told_updated givens.form _ (is_overfull givens.limit (updates givens before) us) bytes is
 told_answer hash givens before (Ok Publishes) bytes is = told_nothing _ bytes is
-told_answer hash givens before (Ok (Reports t query)) bytes is = told_report _ (edition givens before) is.said bytes is.is
-told_answer hash givens before (Ok Shapes) bytes is = record { refused = false; tells = λ refused. no_refusal_shape _ (edition givens before) _ (subst (IsRefusal (length before + 1)) is refused) }
-told_answer hash givens before (Err fault) bytes is = told_refusal _ fault bytes is
+told_answer hash givens before (Ok (Reports t query)) bytes is = told_report givens.form _ (edition givens before) is.said bytes is.is
+told_answer hash givens before (Ok Shapes) bytes is = record { refused = false; tells = λ refused. no_refusal_shape givens.form _ (edition givens before) _ (subst (IsRefusal (length before + 1)) is refused) }
+told_answer hash givens before (Err fault) bytes is = told_refusal givens.form _ fault bytes is
 
 -- ---- where a run stops
 

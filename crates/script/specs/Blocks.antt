@@ -7,6 +7,7 @@ use Rattle.cells.specs.Tables.{table}
 use Rattle.cells.specs.Updates.{AreLeft}
 use Rattle.cells.specs.Values.{RowValue}
 use Rattle.cells.specs.declared.cell.Cell.{Cell}
+use Rattle.forms.specs.declared.form.Form.{Form}
 use Rattle.query.specs.Plans.{PlanTree}
 use Rattle.report.specs.Waiting.{Heads}
 use Rattle.script.specs.Deeds.{deed}
@@ -23,7 +24,7 @@ use Rattle.script.specs.declared.block.Block.TheVariants.{Refusal, Report, Text}
 abbrev pub WillBe : {H : Type 0} → Block H → List ℕ → Type 0
 WillBe (Text bytes) text = bytes.items ≡ text
 WillBe (Refusal bytes) text = bytes.items ≡ text
-WillBe (Report asked) text = Heads asked.heading.items asked.snapshot asked.plan text
+WillBe (Report asked) text = Heads asked.heading.items asked.snapshot asked.question text
 
 -- an answer is still to come
 abbrev pub IsAsked : {H : Type 0} → Block H → Type 0
@@ -61,10 +62,10 @@ pub record Steps {H : Type 0} (hash : Cell → ℕ) (givens : Givens) (line : Li
   pub asks : IsAsked block → HasWorkers (deed (schema_of_desk old) line)
 
 -- the block will be that of a report over the rows that the keeper has published, in whatever order they are listed
-pub record WillReport {H : Type 0} (k : Editions) (number : ℕ) (query : List ℕ) (block : Block H) : Type 0 where
-  pub is : (rs : List RowValue) → AreLeft rs → keeper.published k ≡ table rs → Foretells number (IsReport number (keeper.edition k) (keeper.schema k) rs query) block
+pub record WillReport {H : Type 0} (form : Form) (k : Editions) (number : ℕ) (query : List ℕ) (block : Block H) : Type 0 where
+  pub is : (rs : List RowValue) → AreLeft rs → keeper.published k ≡ table rs → Foretells number (IsReport form number (keeper.edition k) (keeper.schema k) rs query) block
 
 -- the block will be that of the plan's answer over those rows
-pub record WillReportPlan {H : Type 0} (k : Editions) (number : ℕ) (plan : PlanTree) (block : Block H) : Type 0 where
-  pub is : (rs : List RowValue) → AreLeft rs → keeper.published k ≡ table rs → WillBe block (report number (keeper.edition k) (Ok (answer_of plan rs)))
+pub record WillReportPlan {H : Type 0} (form : Form) (k : Editions) (number : ℕ) (plan : PlanTree) (block : Block H) : Type 0 where
+  pub is : (rs : List RowValue) → AreLeft rs → keeper.published k ≡ table rs → WillBe block (report form number (keeper.edition k) (Ok (answer_of plan rs)))
   pub accepted : is_refused block ≡ false

@@ -9,10 +9,12 @@ use Rattle.cells.specs.declared.cell.Cell.{Cell}
 use Rattle.cells.specs.declared.refused.Refused.TheVariants.{TooManyRows}
 use Rattle.board.specs.Editions.{ChangesDraft, Editions}
 use Rattle.board.specs.Editions as keeper
+use Rattle.forms.specs.declared.form.Form.{Form}
 use Rattle.script.specs.Givens.{Givens}
+use Rattle.script.specs.Spelling.{refusal}
 use Rattle.script.specs.declared.fault.Fault.{Fault}
 use Rattle.script.specs.declared.fault.Fault.TheVariants.{Line}
-use Rattle.script.specs.Output.{IsBlock, declared, edition, editions, published, refusal, updates}
+use Rattle.script.specs.Output.{IsBlock, declared, edition, editions, published, updates}
 
 -- the keeper stands where the lines have left it, of which the last one is the first
 pub record Keeps (givens : Givens) (before : List (List ℕ)) (k : Editions) : Type 0 where
@@ -62,23 +64,23 @@ pub record Lays (old new : Editions) (left : Rows) (bytes : List ℕ) : Type 0 w
   pub nothing : bytes ≡ []
 
 -- there is no room for these rows, and the line is refused
-pub record Overflows (old new : Editions) (left : Rows) (number : ℕ) (bytes : List ℕ) : Type 0 where
+pub record Overflows (form : Form) (old new : Editions) (left : Rows) (number : ℕ) (bytes : List ℕ) : Type 0 where
   pub unchanged : new ≡ old
   pub full : keeper.limit old < map.len left
-  pub refused : bytes ≡ refusal number (Line TooManyRows)
+  pub refused : bytes ≡ refusal form number (Line TooManyRows)
 
 -- the draft has these rows, or there is no room for them
-abbrev pub LaysOrOverflows : Editions → Editions → Rows → ℕ → List ℕ → Type 0
-LaysOrOverflows old new left number bytes = Lays old new left bytes ⊎ Overflows old new left number bytes
+abbrev pub LaysOrOverflows : Form → Editions → Editions → Rows → ℕ → List ℕ → Type 0
+LaysOrOverflows form old new left number bytes = Lays old new left bytes ⊎ Overflows form old new left number bytes
 
 -- a row is laid over the draft, where there is room for it
-abbrev pub PutsRow : Editions → Editions → RowValue → ℕ → List ℕ → Type 0
-PutsRow old new row number bytes = LaysOrOverflows old new (map.insert (keeper.draft old) row.key row) number bytes
+abbrev pub PutsRow : Form → Editions → Editions → RowValue → ℕ → List ℕ → Type 0
+PutsRow form old new row number bytes = LaysOrOverflows form old new (map.insert (keeper.draft old) row.key row) number bytes
 
 -- the rows of a load are laid over the draft, where there is room for them; or the line is refused by its first fault
-abbrev pub LoadsRows : Editions → Editions → Result (List RowValue) Fault → ℕ → List ℕ → Type 0
-LoadsRows old new (Ok rs) number bytes = LaysOrOverflows old new (laid_over (table (rows (puts rs))) (keeper.draft old)) number bytes
-LoadsRows old new (Err fault) number bytes = (new ≡ old) × (bytes ≡ refusal number fault)
+abbrev pub LoadsRows : Form → Editions → Editions → Result (List RowValue) Fault → ℕ → List ℕ → Type 0
+LoadsRows form old new (Ok rs) number bytes = LaysOrOverflows form old new (laid_over (table (rows (puts rs))) (keeper.draft old)) number bytes
+LoadsRows form old new (Err fault) number bytes = (new ≡ old) × (bytes ≡ refusal form number fault)
 
 -- no line has made a keeper yet
 abbrev pub IsFresh : Option Editions → Type 0

@@ -1,19 +1,20 @@
 -- What a script writes. The lines before a line stand with the last one first.
-use Rattle.std.specs.Prelude.{◌≡◌, ◌⊎◌, ◌<◌, ◌≤◌, ℕ, ◌+◌, Bool, true, false, List, [], ◌∷◌, ◌++◌, length, map, nat_lt, codes, decimal, if◌then◌else◌, Option, Some, None, Result, Ok, Err}
-use Rattle.std.specs.List.{flat_map}
+use Rattle.std.specs.Prelude.{◌≡◌, ◌⊎◌, ◌<◌, ◌≤◌, ℕ, ◌+◌, Bool, true, false, List, [], ◌∷◌, ◌++◌, length, map, nat_lt, if◌then◌else◌, Option, Some, None, Result, Ok, Err}
 use Rattle.std.specs.Str.Lines.{lines}
 use Rattle.cells.specs.Updates.{Update, puts, rows}
 use Rattle.cells.specs.Values.{RowValue, Table}
 use Rattle.cells.specs.declared.cell.Cell.{Cell}
 use Rattle.cells.specs.declared.refused.Refused.{Refused}
 use Rattle.cells.specs.declared.refused.Refused.TheVariants.{Limit, TooManyRows}
-use Rattle.trie.specs.Shapes.{prefix_text, shape_of}
+use Rattle.forms.specs.declared.form.Form.{Form}
+use Rattle.trie.specs.Shapes.{shape_of}
 use Rattle.script.specs.Deeds.{Declares, Deed, Loads, Nothing, Publishes, Reports, Shapes, Updates, deed}
-use Rattle.script.specs.Faults.{fault_text}
+use Rattle.script.specs.ClassicSpelling.{newline}
 use Rattle.script.specs.Givens.{Givens}
 use Rattle.script.specs.Listings.{rows_loaded}
 use Rattle.script.specs.Limits.{part_limit, script_limit}
-use Rattle.script.specs.Says.{Says}
+use Rattle.script.specs.Says.{Answer, Says, spelt}
+use Rattle.script.specs.Spelling.{heading, refusal, shape_text}
 use Rattle.script.specs.declared.fault.Fault.{Fault}
 use Rattle.script.specs.declared.fault.Fault.TheVariants.{Line}
 
@@ -92,50 +93,30 @@ module _ (givens : Givens) where
   editions [] = [] ∷ []
   editions (line ∷ before) = if is_publish (deed_behind before line) then editions before ++ rows (updates before) ∷ [] else editions before
 
-abbrev pub newline : List ℕ
-newline = 10 ∷ []
-
 -- lines, each ended by a newline
 abbrev pub text_of : List (List ℕ) → List ℕ
 text_of [] = []
 text_of (line ∷ more) = line ++ (newline ++ text_of more)
 
--- the block of a refused line
-abbrev pub refusal : ℕ → Fault → List ℕ
-refusal number fault = codes "line " ++ (decimal number ++ (codes " refused " ++ (fault_text fault ++ newline)))
-
 -- the block of updates, which is a refusal where they would leave too many rows
-abbrev pub updated : ℕ → ℕ → List Update → List Update → List ℕ
-updated number limit us more = if is_overfull limit us more then refusal number (Line TooManyRows) else []
+abbrev pub updated : Form → ℕ → ℕ → List Update → List Update → List ℕ
+updated form number limit us more = if is_overfull limit us more then refusal form number (Line TooManyRows) else []
 
 -- the block of a load, by the rows that it puts or its first fault
-abbrev pub loaded : ℕ → ℕ → List Update → Result (List RowValue) Fault → List ℕ
-loaded number limit us (Ok rs) = updated number limit us (puts rs)
-loaded number limit us (Err fault) = refusal number fault
-
--- the first line of the block of a report or a shape
-abbrev pub heading : ℕ → ℕ → List ℕ
-heading number edition = codes "line " ++ (decimal number ++ (codes " edition " ++ (decimal edition ++ newline)))
+abbrev pub loaded : Form → ℕ → ℕ → List Update → Result (List RowValue) Fault → List ℕ
+loaded form number limit us (Ok rs) = updated form number limit us (puts rs)
+loaded form number limit us (Err fault) = refusal form number fault
 
 -- the block of a report: its heading and its answer, or its refusal
-abbrev pub report : ℕ → ℕ → Result (List ℕ) Refused → List ℕ
-report number edition (Ok text) = heading number edition ++ text
-report number edition (Err fault) = refusal number (Line fault)
+abbrev pub report : Form → ℕ → ℕ → Result Answer Refused → List ℕ
+report form number edition (Ok told) = heading form number edition ++ spelt form told
+report form number edition (Err fault) = refusal form number (Line fault)
 
 -- the bytes are the block of a report: what its text says over these rows
-pub record IsReport (number edition : ℕ) (t : Table) (rs : List RowValue) (query bytes : List ℕ) : Type 0 where
-  pub said : Result (List ℕ) Refused
+pub record IsReport (form : Form) (number edition : ℕ) (t : Table) (rs : List RowValue) (query bytes : List ℕ) : Type 0 where
+  pub said : Result Answer Refused
   pub says : Says t rs query said
-  pub is : bytes ≡ report number edition said
-
--- a line of a shape: the digits of a prefix, and how many keys share it
-abbrev pub shape_line : List ℕ × ℕ → List ℕ
-shape_line p = prefix_text p.0 ++ (codes " " ++ (decimal p.1 ++ newline))
-
--- the block of a shape: its heading, and a line for each prefix that two keys share
-abbrev pub shape_text : ℕ → ℕ → List (List ℕ × ℕ) → List ℕ
-shape_text number edition prefixes =
-    codes "line " ++ (decimal number ++ (codes " edition " ++ (decimal edition ++ (newline ++ flat_map shape_line prefixes))))
+  pub is : bytes ≡ report form number edition said
 
 abbrev pub keys : List RowValue → List Cell
 keys rs = map (λ r. r.key) rs
@@ -146,12 +127,12 @@ module _ (hash : Cell → ℕ) (givens : Givens) where
   abbrev pub IsAnswer : List (List ℕ) → Result Deed Fault → List ℕ → Type 0
   IsAnswer before (Ok Nothing) bytes = bytes ≡ []
   IsAnswer before (Ok (Declares t)) bytes = bytes ≡ []
-  IsAnswer before (Ok (Loads t listing)) bytes = bytes ≡ loaded (length before + 1) givens.limit (updates givens before) (rows_loaded t givens.parts listing)
-  IsAnswer before (Ok (Updates more)) bytes = bytes ≡ updated (length before + 1) givens.limit (updates givens before) more
+  IsAnswer before (Ok (Loads t listing)) bytes = bytes ≡ loaded givens.form (length before + 1) givens.limit (updates givens before) (rows_loaded t givens.parts listing)
+  IsAnswer before (Ok (Updates more)) bytes = bytes ≡ updated givens.form (length before + 1) givens.limit (updates givens before) more
   IsAnswer before (Ok Publishes) bytes = bytes ≡ []
-  IsAnswer before (Ok (Reports t query)) bytes = IsReport (length before + 1) (edition givens before) t (published givens before) query bytes
-  IsAnswer before (Ok Shapes) bytes = bytes ≡ shape_text (length before + 1) (edition givens before) (shape_of hash (keys (published givens before)))
-  IsAnswer before (Err fault) bytes = bytes ≡ refusal (length before + 1) fault
+  IsAnswer before (Ok (Reports t query)) bytes = IsReport givens.form (length before + 1) (edition givens before) t (published givens before) query bytes
+  IsAnswer before (Ok Shapes) bytes = bytes ≡ shape_text givens.form (length before + 1) (edition givens before) (shape_of hash (keys (published givens before)))
+  IsAnswer before (Err fault) bytes = bytes ≡ refusal givens.form (length before + 1) fault
 
   -- the bytes are the line's block
   abbrev pub IsBlock : List (List ℕ) → List ℕ → List ℕ → Type 0
@@ -170,7 +151,7 @@ IsTooMuch givens script = (script_limit < length script) ⊎ (part_limit < lengt
 
 -- the bytes are what a script writes
 pub data IsOutput (hash : Cell → ℕ) (givens : Givens) (script : List ℕ) : List ℕ → Type 0 where
-  too_much : IsTooMuch givens script → IsOutput hash givens script (refusal 0 (Line Limit))
+  too_much : IsTooMuch givens script → IsOutput hash givens script (refusal givens.form 0 (Line Limit))
   of_lines : {bytes : List ℕ} → length script ≤ script_limit → length givens.parts ≤ part_limit →
       AreBlocks hash givens [] (lines script) bytes → IsOutput hash givens script bytes
 

@@ -3,20 +3,31 @@ use Rattle.std.specs.Prelude.{◌≡◌, ◌⊎◌, ℕ, List, Some, None, Resul
 use Rattle.cells.specs.Values.{RowValue, Table}
 use Rattle.cells.specs.declared.refused.Refused.{Refused}
 use Rattle.cells.specs.declared.refused.Refused.TheVariants.{OutOfMemory}
+use Rattle.cells.specs.declared.total.Total.{Total}
+use Rattle.forms.specs.declared.form.Form.{Form}
 use Rattle.groups.specs.Groups.{report_rows}
 use Rattle.query.specs.Checks.{fault_of}
 use Rattle.query.specs.Plans.{PlanTree, plan_of}
 use Rattle.query.specs.Queries.{FirstFault, IsQuery}
 use Rattle.query.specs.Values.{QueryTree}
-use Rattle.report.specs.Reports.{report_text}
+use Rattle.report.specs.Reports.{report_of}
 
--- the header and the rows of a plan's report over these rows
-abbrev pub answer_of : PlanTree → List RowValue → List ℕ
-answer_of plan rs = report_text plan (report_rows plan rs)
+-- what a report answers: its headings and its rows
+pub record Answer : Type 0 where
+  pub headings : List (List ℕ)
+  pub rows : List (List Total)
+
+-- those of a plan's report over these rows
+abbrev pub answer_of : PlanTree → List RowValue → Answer
+answer_of plan rs = record { headings = plan.headings; rows = report_rows plan rs }
+
+-- the text of an answer in a form
+abbrev pub spelt : Form → Answer → List ℕ
+spelt form answer = report_of form answer.headings answer.rows
 
 -- over the rows of the table the text says this: the first fault of a text that is no query, the first fault of a query
 -- for the table, or the answer of its plan
-pub data Says (t : Table) (rs : List RowValue) (text : List ℕ) : Result (List ℕ) Refused → Type 0 where
+pub data Says (t : Table) (rs : List RowValue) (text : List ℕ) : Result Answer Refused → Type 0 where
   no_query : {fault : Refused} → FirstFault text fault → Says t rs text (Err fault)
   no_plan : {q : QueryTree} {fault : Refused} → IsQuery text q → fault_of t q ≡ Some fault → Says t rs text (Err fault)
   answer : {q : QueryTree} → IsQuery text q → fault_of t q ≡ None → Says t rs text (Ok (answer_of (plan_of t q) rs))

@@ -3,21 +3,24 @@ use Rattle.std.specs.Prelude.{◌≡◌, ◌⊎◌, ◌<◌, ◌+◌, ℕ, Bool,
 use Rattle.std.specs.Io.KnownBytes.{Appends}
 use Rattle.board.specs.Editions.{Editions}
 use Rattle.cells.specs.declared.cell.Cell.{Cell}
+use Rattle.forms.specs.declared.form.Form.{Form}
 use Rattle.report.specs.Waiting.{Awaits, Waits}
 use Rattle.script.specs.Desks.{IsBehind}
 use Rattle.script.specs.Endings.{AsksForWorkers}
 use Rattle.script.specs.Givens.{Givens}
-use Rattle.script.specs.Output.{IsBlock, refusal}
+use Rattle.script.specs.Output.{IsBlock}
+use Rattle.script.specs.Spelling.{refusal}
 use Rattle.script.specs.declared.fault.Fault.{Fault}
 use Rattle.script.specs.declared.finish.Finish.{Finish}
 use Rattle.script.specs.declared.finish.Finish.TheVariants.{Stopped, Through}
 use Rattle.script.specs.declared.on_refusal.OnRefusal.{OnRefusal}
 use Rattle.script.specs.declared.on_refusal.OnRefusal.TheVariants.{GoesOn, Stops}
 
--- the bytes are the block of a refused line of this number
+-- the bytes are the block of a refused line of this number, in one of the forms
 pub record IsRefusal (number : ℕ) (bytes : List ℕ) : Type 0 where
+  pub form : Form
   pub fault : Fault
-  pub is : bytes ≡ refusal number fault
+  pub is : bytes ≡ refusal form number fault
 
 -- it is told right whether they are
 abbrev pub Tells : Bool → ℕ → List ℕ → Type 0

@@ -10,16 +10,18 @@ use Rattle.cells.specs.declared.refused.Refused.TheVariants.{Limit, NoTable}
 use Rattle.script.specs.declared.fault.Fault.TheVariants.{Line}
 use Rattle.board.specs.Editions.{Editions}
 use Rattle.board.specs.Editions as keeper
+use Rattle.forms.specs.declared.form.Form.{Form}
 use Rattle.query.specs.Plans.{PlanTree}
 use Rattle.report.specs.Waiting.{Waits}
 use Rattle.report.specs.Watching.{Sight, Watch}
 use Rattle.script.specs.Endings.{AsksForWorkers, Ends, Writes}
 use Rattle.script.specs.Givens.{Givens}
 use Rattle.script.specs.Limits.{part_limit, script_limit}
-use Rattle.script.specs.Output.{InTwo, IsOutput, IsTooMuch, refusal}
+use Rattle.script.specs.Output.{InTwo, IsOutput, IsTooMuch}
 use Rattle.script.specs.Says.{MeansPlan, Says}
 use Rattle.script.specs.Stops.{AreBlocksUpTo, GoesOver, HoweverFinished}
-use Rattle.script.specs.Tails.{IsLive, IsTailBehind, Viewing, view_heading, viewers_refused}
+use Rattle.script.specs.Spelling.{refusal, view_heading, viewers_refused}
+use Rattle.script.specs.Tails.{IsLive, IsTailBehind, Viewing}
 use Rattle.script.specs.declared.ended.Ended.{Ended}
 use Rattle.script.specs.declared.finish.Finish.{Finish}
 use Rattle.script.specs.declared.finish.Finish.TheVariants.{Stopped, Through}
@@ -53,16 +55,17 @@ IsWritten hash givens None script bytes = IsOutput hash givens script bytes
 IsWritten hash givens (Some viewing) script bytes = IsLive hash givens viewing script bytes
 
 -- a viewer was started on the keeper's board, and answers the query
-pub record IsStarted (viewing : Viewing) (k : Editions) (watch : Watch) : Type 0 where
+pub record IsStarted (form : Form) (viewing : Viewing) (k : Editions) (watch : Watch) : Type 0 where
   pub board : watch.before.viewer.board ≡ keeper.board k
   pub schema : watch.before.viewer.schema ≡ keeper.schema k
-  pub plan : MeansPlan (keeper.schema k) viewing.query watch.before.plan
+  pub form_is : watch.before.question.form ≡ form
+  pub plan : MeansPlan (keeper.schema k) viewing.query watch.before.question.plan
   pub none : watch.before.shots ≡ []
   pub count : watch.count ≡ viewing.shots
 
 -- a report of a viewer under its heading
-abbrev pub view_block : ℕ → Sight → List ℕ
-view_block viewer shot = view_heading viewer shot.edition ++ shot.text
+abbrev pub view_block : Form → ℕ → Sight → List ℕ
+view_block form viewer shot = view_heading form viewer shot.edition ++ shot.text
 
 -- plans of the query
 abbrev pub ArePlans : Table → List ℕ → List PlanTree → Type 0
@@ -70,20 +73,20 @@ ArePlans t query plans = AllByRecursion (MeansPlan t query) plans
 
 -- how far the viewers of a run are at its desk: they are expected, or turned away since the query is refused, or they were
 -- all started
-pub data Attend (viewing : Viewing) : Option Editions → Stage → List Watch → Type 0 where
-  expected : {desk : Option Editions} → Attend viewing desk Expected []
-  turned : {k : Editions} {fault : Refused} → Says (keeper.schema k) [] viewing.query (Err fault) → Attend viewing (Some k) (Turned fault) []
-  begun : {k : Editions} {watches : List Watch} → length watches ≡ viewing.viewers → AllByRecursion (IsStarted viewing k) watches →
-      Attend viewing (Some k) Begun watches
+pub data Attend (form : Form) (viewing : Viewing) : Option Editions → Stage → List Watch → Type 0 where
+  expected : {desk : Option Editions} → Attend form viewing desk Expected []
+  turned : {k : Editions} {fault : Refused} → Says (keeper.schema k) [] viewing.query (Err fault) → Attend form viewing (Some k) (Turned fault) []
+  begun : {k : Editions} {watches : List Watch} → length watches ≡ viewing.viewers → AllByRecursion (IsStarted form viewing k) watches →
+      Attend form viewing (Some k) Begun watches
 
 -- the same of a run that may have none
-abbrev pub MayAttend : Option Viewing → Option Editions → Stage → List Watch → Type 0
-MayAttend None desk stage watches = ⊤
-MayAttend (Some viewing) desk stage watches = Attend viewing desk stage watches
+abbrev pub MayAttend : Form → Option Viewing → Option Editions → Stage → List Watch → Type 0
+MayAttend form None desk stage watches = ⊤
+MayAttend form (Some viewing) desk stage watches = Attend form viewing desk stage watches
 
 -- and they are expected only where there is no table
-pub record HasAttended (asked : Option Viewing) (desk : Option Editions) (stage : Stage) (watches : List Watch) : Type 0 where
-  pub attend : MayAttend asked desk stage watches
+pub record HasAttended (form : Form) (asked : Option Viewing) (desk : Option Editions) (stage : Stage) (watches : List Watch) : Type 0 where
+  pub attend : MayAttend form asked desk stage watches
   pub declared : HasViewers asked → stage ≡ Expected → desk ≡ None
 
 -- a run may want a worker: it has viewers, or a line of the script has workers
@@ -108,7 +111,7 @@ AreWritten hash givens on asked script finish bytes = InTwo (AreBlocksUpTo hash 
 -- what a strict run writes that is so finished: its last line is the first that is refused; a script beyond a limit is
 -- refused as a whole
 pub data IsStrict (hash : Cell → ℕ) (givens : Givens) (asked : Option Viewing) (script : List ℕ) : Finish → List ℕ → Type 0 where
-  too_much : IsTooMuch givens script → IsStrict hash givens asked script Stopped (refusal 0 (Line Limit))
+  too_much : IsTooMuch givens script → IsStrict hash givens asked script Stopped (refusal givens.form 0 (Line Limit))
   of_lines : {finish : Finish} {bytes : List ℕ} → length script ≤ script_limit → length givens.parts ≤ part_limit →
       AreWritten hash givens Stops asked (lines script) finish bytes → IsStrict hash givens asked script finish bytes
 
@@ -142,15 +145,15 @@ EndsEarly on hash taken faults old new givens asked script e =
 pub record GoesOverBeside {W : Type 0} (taken : W → Option (List ℕ)) (faults : W → ℕ) (old new : W) (hash : Cell → ℕ) (givens : Givens) (on : OnRefusal) (asked : Option Viewing) (script : List (List ℕ))
     (desk : Option Editions) (waits : Waits) (stage : Stage) (watches : List Watch) (finish : Finish) : Type 0 where
   pub over : GoesOver (taken old) (taken new) hash givens on script desk waits finish
-  pub attended : HasAttended asked desk stage watches
+  pub attended : HasAttended givens.form asked desk stage watches
   pub sound : faults new ≡ faults old
 
 -- what is written for a script beyond a limit
-abbrev pub too_much_text : Option Viewing → List ℕ
-too_much_text None = refusal 0 (Line Limit)
-too_much_text (Some viewing) = refusal 0 (Line Limit) ++ viewers_refused NoTable
+abbrev pub too_much_text : Form → Option Viewing → List ℕ
+too_much_text form None = refusal form 0 (Line Limit)
+too_much_text form (Some viewing) = refusal form 0 (Line Limit) ++ viewers_refused form NoTable
 
 -- the same of a run that is strict or not: a strict one writes nothing behind a refusal
-abbrev pub too_much_by : OnRefusal → Option Viewing → List ℕ
-too_much_by GoesOn asked = too_much_text asked
-too_much_by Stops asked = refusal 0 (Line Limit)
+abbrev pub too_much_by : Form → OnRefusal → Option Viewing → List ℕ
+too_much_by form GoesOn asked = too_much_text form asked
+too_much_by form Stops asked = refusal form 0 (Line Limit)

@@ -1,22 +1,22 @@
 //! The blocks of lines: shapes, refusals, and reports, whose answers are still to come.
-ghost use Rattle.std.specs.Prelude.{◌≡◌, ◌++◌, IfOk, IsErr, OnOk, string_bytes};
+ghost use Rattle.std.specs.Prelude.{◌≡◌, ◌++◌, IfOk, IsErr, OnOk};
 ghost use Rattle.std.specs.FinMap.{keys};
 ghost use Rattle.std.specs.List.{flat_map};
 ghost use Rattle.trie.specs.Shapes.{shape_of};
 ghost use Rattle.board.specs.Editions as editions;
 ghost use Rattle.script.specs.Blocks.{is_refused, quiet};
-ghost use Rattle.script.specs.Output.{heading, refusal, shape_line, shape_text};
-ghost use Rattle.script.specs.Tails.{viewers_refused};
+ghost use Rattle.script.specs.Spelling.{heading, refusal, shape_text, viewers_refused};
 ghost use Rattle.script.specs.Viewers.{view_block};
 ghost use Rattle.script.specs.declared.fault.Fault.TheVariants.{Line};
 
 use crate::fault::Fault;
-use crate::setup::Setup;
+use crate::setup::SpeltSetup;
+use crate::spelling;
 use board::{Keeper, Snapshot};
 use cells::{Cell, KeyHash, Refused};
 use crew::Gate;
-use query::Plan;
-use report::Shot;
+use forms::Form;
+use report::{Question, Shot};
 use std::alloc::{AllocError, Global};
 use trie::Prefix;
 
@@ -54,26 +54,27 @@ impl<H: KeyHash<Cell>> Block<H> {
 }
 
 /// A report that is still to be answered: the heading of its block, the edition that stood published at its line, and
-/// the plan that was checked for its table.
+/// what is asked of it, whose plan was checked for its table.
 #[derive(Drop)]
 pub struct Asked<H: KeyHash<Cell>> {
     pub heading: Vec<u8>,
     pub snapshot: Snapshot<H>,
-    pub plan: Plan,
+    pub question: Question,
 }
 
 /// The block of a shape of the last published edition.
 pub fn shape_block<H: KeyHash<Cell>>(
     alloc: Global,
+    form: Form,
     keeper: &Keeper<H>,
     number: u64,
 ) -> Result<Vec<u8>, AllocError>
-    ensures { IfOk result (λ block. block.items ≡ shape_text number (editions.edition keeper.now) (shape_of H.hash_of (keys (editions.published keeper.now)))) }
+    ensures { IfOk result (λ block. block.items ≡ shape_text form number (editions.edition keeper.now) (shape_of H.hash_of (keys (editions.published keeper.now)))) }
 {
     let Ok(snapshot) = keeper.snapshot() else {
         return Err(AllocError);
     };
-    let block = snapshot_block(alloc, &snapshot, number);
+    let block = snapshot_block(alloc, form, &snapshot, number);
     drop(snapshot);
     block
 }
@@ -81,109 +82,116 @@ pub fn shape_block<H: KeyHash<Cell>>(
 /// The block of a shape of the snapshot's edition.
 fn snapshot_block<H: KeyHash<Cell>>(
     alloc: Global,
+    form: Form,
     snapshot: &Snapshot<H>,
     number: u64,
 ) -> Result<Vec<u8>, AllocError>
-    ensures { IfOk result (λ block. block.items ≡ shape_text number snapshot.now.number (shape_of H.hash_of (keys snapshot.now.rows))) }
+    ensures { IfOk result (λ block. block.items ≡ shape_text form number snapshot.now.number (shape_of H.hash_of (keys snapshot.now.rows))) }
 {
     let shape = snapshot.root().shape()?;
-    let block = shape_lines(alloc, number, snapshot.edition(), shape.as_slice());
+    let block = shape_lines(alloc, form, number, snapshot.edition(), shape.as_slice());
     drop(shape);
     block
 }
 
-/// The text of a shape: its heading, and a line for each prefix.
+/// The text of a shape: its heading, and what is said of each prefix.
 fn shape_lines(
     alloc: Global,
+    form: Form,
     number: u64,
     edition: u64,
     shape: &[(Prefix, u64)],
 ) -> Result<Vec<u8>, AllocError>
-    ensures { IfOk result (λ text. text.items ≡ shape_text number edition shape.now) }
+    ensures { IfOk result (λ text. text.items ≡ shape_text form number edition shape.now) }
 {
-    let mut text = format!(in alloc; "line {number} edition {edition}\n")?;
-    push_lines(&mut text, shape)?;
+    let mut text = spelling::heading(alloc, form, number, edition)?;
+    spelling::push_shape(form, &mut text, shape)?;
     Ok(text.into_bytes())
 }
 
-/// The text with a line for each prefix behind it.
-fn push_lines(text: &mut String, shape: &[(Prefix, u64)]) -> Result<(), AllocError>
-    ensures { OnOk result (string_bytes text.new ≡ string_bytes text.old ++ flat_map shape_line shape.now) }
-{
-    for line in shape {
-        push_line(text, line)?;
-    }
-    Ok(())
-}
-
-/// The text with a prefix and its number of keys behind it.
-fn push_line(text: &mut String, line: &(Prefix, u64)) -> Result<(), AllocError>
-    ensures { OnOk result (string_bytes text.new ≡ string_bytes text.old ++ shape_line line.now) }
-{
-    let (prefix, keys) = line;
-    write!(text, "{prefix} {keys}\n")
-}
-
 /// The block of a refused line. Want of memory is no refusal of a line: it ends the run.
-fn refusal_block(alloc: Global, number: u64, fault: Fault) -> Result<Vec<u8>, AllocError>
-    ensures block { IfOk result (λ block. block.items ≡ refusal number fault) }
+fn refusal_block(
+    alloc: Global,
+    form: Form,
+    number: u64,
+    fault: Fault,
+) -> Result<Vec<u8>, AllocError>
+    ensures block { IfOk result (λ block. block.items ≡ refusal form number fault) }
     ensures memory { fault ≡ Line Refused.OutOfMemory → IsErr result }
 {
     if fault == Fault::Line(Refused::OutOfMemory) {
         return Err(AllocError);
     }
-    let text = format!(in alloc; "line {number} refused {fault}\n")?;
+    let text = spelling::refusal(alloc, form, number, fault)?;
     Ok(text.into_bytes())
 }
 
 /// The block of a refused line, as [`refusal_block`] makes it. The gate is told of the refusal once the block is made.
 pub fn refuse<R, G: Gate>(
-    setup: &Setup<'_, R, G>,
+    setup: &SpeltSetup<'_, R, G>,
     number: u64,
     fault: Fault,
 ) -> Result<Vec<u8>, AllocError>
-    ensures block { IfOk result (λ block. block.items ≡ refusal number fault) }
+    ensures block { IfOk result (λ block. block.items ≡ refusal setup.now.form number fault) }
     ensures memory { fault ≡ Line Refused.OutOfMemory → IsErr result }
 {
-    let block = refusal_block(setup.alloc, number, fault)?;
+    let block = refusal_block(setup.alloc, setup.form, number, fault)?;
     fault.tell(number, setup.gate);
     Ok(block)
 }
 
 /// The heading of a report's block.
-pub fn report_heading(alloc: Global, number: u64, edition: u64) -> Result<Vec<u8>, AllocError>
-    ensures { IfOk result (λ text. text.items ≡ heading number edition) }
+pub fn report_heading(
+    alloc: Global,
+    form: Form,
+    number: u64,
+    edition: u64,
+) -> Result<Vec<u8>, AllocError>
+    ensures { IfOk result (λ text. text.items ≡ heading form number edition) }
 {
-    let text = format!(in alloc; "line {number} edition {edition}\n")?;
+    let text = spelling::heading(alloc, form, number, edition)?;
     Ok(text.into_bytes())
 }
 
-/// The line that stands in place of all blocks of viewers.
-pub fn viewers_refused_line(alloc: Global, fault: Refused) -> Result<Vec<u8>, AllocError>
-    ensures { IfOk result (λ text. text.items ≡ viewers_refused fault) }
+/// What stands in place of all blocks of viewers.
+pub fn viewers_refused_block(
+    alloc: Global,
+    form: Form,
+    fault: Refused,
+) -> Result<Vec<u8>, AllocError>
+    ensures { IfOk result (λ text. text.items ≡ viewers_refused form fault) }
 {
-    let number = fault.number();
-    let text = format!(in alloc; "viewers refused {number}\n")?;
+    let text = spelling::viewers_refused(alloc, form, fault)?;
     Ok(text.into_bytes())
 }
 
 /// The blocks of a viewer: for each of its reports the heading, and then the text.
-pub fn view_text(alloc: Global, viewer: u64, shots: &[Shot]) -> Result<Vec<u8>, AllocError>
-    ensures { IfOk result (λ text. text.items ≡ flat_map (view_block viewer) shots.now) }
+pub fn view_text(
+    alloc: Global,
+    form: Form,
+    viewer: u64,
+    shots: &[Shot],
+) -> Result<Vec<u8>, AllocError>
+    ensures { IfOk result (λ text. text.items ≡ flat_map (view_block form viewer) shots.now) }
 {
     let mut text = Vec::new(alloc);
     for shot in shots {
-        push_view(alloc, &mut text, viewer, shot)?;
+        push_view(alloc, form, &mut text, viewer, shot)?;
     }
     Ok(text)
 }
 
 /// The text with a report of the viewer behind it, under its heading.
-fn push_view(alloc: Global, text: &mut Vec<u8>, viewer: u64, shot: &Shot) -> Result<(), AllocError>
-    ensures { OnOk result (text.new.items ≡ text.old.items ++ view_block viewer shot.now) }
+fn push_view(
+    alloc: Global,
+    form: Form,
+    text: &mut Vec<u8>,
+    viewer: u64,
+    shot: &Shot,
+) -> Result<(), AllocError>
+    ensures { OnOk result (text.new.items ≡ text.old.items ++ view_block form viewer shot.now) }
 {
-    let edition = shot.edition;
-    let heading = format!(in alloc; "viewer {viewer} edition {edition}\n")?;
+    let heading = spelling::view_heading(alloc, form, viewer, shot.edition)?;
     text.extend_from_slice(heading.as_bytes())?;
     text.extend_from_slice(shot.text.as_slice())
 }

@@ -5,24 +5,26 @@ ghost use Rattle.board.specs.Editions.{edition, schema as schema_of};
 ghost use Rattle.report.specs.Watching.{IsOf};
 ghost use Rattle.script.specs.Desks.{IsBehind, Keeps};
 ghost use Rattle.script.specs.Endings.{Delivers, Ends};
-ghost use Rattle.script.specs.Givens.{Givens, givens};
+ghost use Rattle.script.specs.Givens.{Givens, givens_in};
 ghost use Rattle.script.specs.Output.{editions};
 ghost use Rattle.script.specs.Says.{IsRefused, MeansPlan};
-ghost use Rattle.script.specs.Tails.{AreViewers, AreViews, viewers_refused};
+ghost use Rattle.script.specs.Spelling.{viewers_refused};
+ghost use Rattle.script.specs.Tails.{AreViewers, AreViews};
 ghost use Rattle.script.specs.Viewers.{ArePlans, Attend, HasAttended, HasViewers, IsStarted, IsTailOf, MayAttend, asked_of, viewing_of};
 
-use crate::block::{view_text, viewers_refused_line};
+use crate::block::{view_text, viewers_refused_block};
 use crate::ended::Ended;
 use crate::reporting::read_plan;
-use crate::setup::Setup;
+use crate::setup::SpeltSetup;
 use crate::stage::Stage;
 use crate::unstarted::Unstarted;
 use crate::viewing::Viewing;
 use board::Keeper;
 use cells::{Cell, KeyHash, Refused, Schema, Tuple};
 use crew::Gate;
+use forms::Form;
 use query::Plan;
-use report::{Answering, Audience, Out, Starter, Want, Watcher, write_whole};
+use report::{Answering, Audience, Out, Question, Starter, Want, Watcher, write_whole};
 use std::alloc::Global;
 use std::sync::Wait;
 use std::thread::Threads;
@@ -57,15 +59,15 @@ impl<H: KeyHash<Cell> + KeyHash<Tuple> + Send + Sync> Gallery<H> {
     /// Starts the viewers that a run asks for, where a table is declared and they were not started.
     pub fn attend<'s, 'e: 's, G: Gate, R: Threads + Wait + Sync>(
         &mut self,
-        setup: &Setup<'_, R, G>,
+        setup: &SpeltSetup<'_, R, G>,
         starter: &Starter<'_, 's, 'e, R, G>,
         desk: &mut Option<Keeper<H>>,
     ) -> Result<(), Unstarted>
     where
         H: 's,
-        requires attend { MayAttend (asked_of setup.now.viewing) desk.old self.old.stage self.old.audience.watches }
+        requires attend { MayAttend setup.now.form (asked_of setup.now.viewing) desk.old self.old.stage self.old.audience.watches }
         ensures same { desk.new ≡ desk.old }
-        ensures attended { OnOk result (HasAttended (asked_of setup.now.viewing) desk.new self.new.stage self.new.audience.watches) }
+        ensures attended { OnOk result (HasAttended setup.now.form (asked_of setup.now.viewing) desk.new self.new.stage self.new.audience.watches) }
         ensures asked { IfErr result (λ _. HasViewers (asked_of setup.now.viewing)) }
     {
         let Some(viewing) = setup.viewing else {
@@ -77,13 +79,14 @@ impl<H: KeyHash<Cell> + KeyHash<Tuple> + Send + Sync> Gallery<H> {
         let Some(keeper) = desk else {
             return Ok(());
         };
-        self.begin(setup.alloc, starter, viewing, keeper)
+        self.begin(setup.alloc, setup.form, starter, viewing, keeper)
     }
 
     /// Starts the viewers of the keeper's table, or turns them away where their query is refused.
     fn begin<'s, 'e: 's, G: Gate, R: Threads + Wait + Sync>(
         &mut self,
         alloc: Global,
+        form: Form,
         starter: &Starter<'_, 's, 'e, R, G>,
         viewing: Viewing<&str>,
         keeper: &mut Keeper<H>,
@@ -92,12 +95,12 @@ impl<H: KeyHash<Cell> + KeyHash<Tuple> + Send + Sync> Gallery<H> {
         H: 's,
         requires nobody { self.old.audience.watches ≡ [] }
         ensures same { keeper.new ≡ keeper.old }
-        ensures attend { OnOk result (Attend (viewing_of viewing.entry) (Some keeper.old) self.new.stage self.new.audience.watches) }
+        ensures attend { OnOk result (Attend form (viewing_of viewing.entry) (Some keeper.old) self.new.stage self.new.audience.watches) }
         ensures stage { OnOk result (self.new.stage ≡ Stage.Expected → ⊥) }
     {
         match plans_of(alloc, viewing, keeper.schema()) {
             Ok(plans) => {
-                self.start_all(starter, viewing, keeper, plans)?;
+                self.start_all(form, starter, viewing, keeper, plans)?;
                 self.stage = Stage::Begun;
                 Ok(())
             }
@@ -112,6 +115,7 @@ impl<H: KeyHash<Cell> + KeyHash<Tuple> + Send + Sync> Gallery<H> {
     /// Starts a viewer for each plan.
     fn start_all<'s, 'e: 's, G: Gate, R: Threads + Wait + Sync>(
         &mut self,
+        form: Form,
         starter: &Starter<'_, 's, 'e, R, G>,
         viewing: Viewing<&str>,
         keeper: &mut Keeper<H>,
@@ -123,13 +127,14 @@ impl<H: KeyHash<Cell> + KeyHash<Tuple> + Send + Sync> Gallery<H> {
         requires plans { ArePlans (schema_of keeper.old) viewing.query.now plans.items }
         ensures same { keeper.new ≡ keeper.old }
         ensures many { OnOk result (length self.new.audience.watches ≡ length plans.items) }
-        ensures started { OnOk result (AllByRecursion (IsStarted (viewing_of viewing.entry) keeper.old) self.new.audience.watches) }
+        ensures started { OnOk result (AllByRecursion (IsStarted form (viewing_of viewing.entry) keeper.old) self.new.audience.watches) }
     {
         for plan in plans {
             let Ok(viewer) = keeper.viewer() else {
                 return Err(Unstarted::NotShown);
             };
-            self.audience.begin(starter, viewer, plan, viewing.shots)?;
+            self.audience
+                .begin(starter, viewer, Question { form, plan }, viewing.shots)?;
         }
         Ok(())
     }
@@ -137,14 +142,14 @@ impl<H: KeyHash<Cell> + KeyHash<Tuple> + Send + Sync> Gallery<H> {
     /// Writes what comes behind the blocks of all lines: nothing, where a run asks for no viewers; else the live tail.
     pub fn write_tail<O: Out, G: Gate, R: Threads + Wait + Sync>(
         &mut self,
-        setup: &Setup<'_, R, G>,
+        setup: &SpeltSetup<'_, R, G>,
         desk: &mut Option<Keeper<H>>,
         out: &mut O,
     ) -> Result<(), Ended>
-        requires attended { HasAttended (asked_of setup.now.viewing) desk.old self.old.stage self.old.audience.watches }
+        requires attended { HasAttended setup.now.form (asked_of setup.now.viewing) desk.old self.old.stage self.old.audience.watches }
         requires faults { O.faults out.old + 1 < 2 ^ 64 }
-        ensures tail { (before : List (List ℕ)) → IsBehind (givens setup.now.how.now.rows setup.now.parts.now) before desk.old →
-            Delivers O.taken O.faults out.old out.new (IsTailOf (givens setup.now.how.now.rows setup.now.parts.now) (asked_of setup.now.viewing) before) result }
+        ensures tail { (before : List (List ℕ)) → IsBehind (givens_in setup.now.form setup.now.how.now.rows setup.now.parts.now) before desk.old →
+            Delivers O.taken O.faults out.old out.new (IsTailOf (givens_in setup.now.form setup.now.how.now.rows setup.now.parts.now) (asked_of setup.now.viewing) before) result }
         ensures asked { IfErr result (λ _. HasViewers (asked_of setup.now.viewing)) }
     {
         let Some(viewing) = setup.viewing else {
@@ -163,23 +168,25 @@ impl<H: KeyHash<Cell> + KeyHash<Tuple> + Send + Sync> Gallery<H> {
     /// Waits for the viewers, one after another, and writes the blocks of each.
     fn write_viewers<O: Out, G: Gate, R: Threads + Wait + Sync>(
         &mut self,
-        setup: &Setup<'_, R, G>,
+        setup: &SpeltSetup<'_, R, G>,
         viewing: Viewing<&str>,
         keeper: &mut Keeper<H>,
         out: &mut O,
     ) -> Result<(), Ended>
-        requires started { AllByRecursion (IsStarted (viewing_of viewing) keeper.old) self.old.audience.watches }
+        requires started { AllByRecursion (IsStarted setup.now.form (viewing_of viewing) keeper.old) self.old.audience.watches }
         requires many { length self.old.audience.watches ≡ viewing.viewers }
         requires faults { O.faults out.old + 1 < 2 ^ 64 }
         ensures views { (givens : Givens) (before : List (List ℕ)) → Keeps givens before keeper.old →
-            Delivers O.taken O.faults out.old out.new (AreViewers (schema_of keeper.old) (editions givens before) (edition keeper.old) (viewing_of viewing.entry) 1 (length self.old.audience.watches)) result }
+            Delivers O.taken O.faults out.old out.new (AreViewers setup.now.form (schema_of keeper.old) (editions givens before) (edition keeper.old) (viewing_of viewing.entry) 1 (length self.old.audience.watches)) result }
     {
         let answering = setup.answering();
         let mut number = 0u64;
         while let Some(watched) = self.audience.next(setup.rt) {
             let watcher = watched?;
             number += 1;
-            write_viewer(&answering, viewing, keeper, watcher, number, out)?;
+            write_viewer(
+                &answering, setup.form, viewing, keeper, watcher, number, out,
+            )?;
         }
         Ok(())
     }
@@ -198,27 +205,32 @@ fn plans_of(alloc: Global, viewing: Viewing<&str>, schema: &Schema) -> Result<Ve
     Ok(plans)
 }
 
-/// Tells the gate that the viewers are refused, and writes the line that stands in place of all their blocks.
+/// Tells the gate that the viewers are refused, and writes what stands in place of all their blocks.
 fn write_refused<O: Out, R, G: Gate>(
-    setup: &Setup<'_, R, G>,
+    setup: &SpeltSetup<'_, R, G>,
     out: &mut O,
     fault: Refused,
 ) -> Result<(), Ended>
     requires { O.faults out.old + 1 < 2 ^ 64 }
-    ensures { Ends O.taken O.faults out.old out.new (λ bytes. bytes ≡ viewers_refused fault) ⊥ ⊥ result }
+    ensures { Ends O.taken O.faults out.old out.new (λ bytes. bytes ≡ viewers_refused setup.now.form fault) ⊥ ⊥ result }
 {
     setup.gate.refused_viewers(fault);
-    write_refused_line(setup.alloc, out, fault)
+    write_refused_block(setup.alloc, setup.form, out, fault)
 }
 
-/// Writes the line that stands in place of all blocks of viewers. It starts no thread and wants no viewer's place.
+/// Writes what stands in place of all blocks of viewers. It starts no thread and wants no viewer's place.
 #[tactic(auto, using(report::specs::Laws::takes_nothing))]
-fn write_refused_line<O: Out>(alloc: Global, out: &mut O, fault: Refused) -> Result<(), Ended>
+fn write_refused_block<O: Out>(
+    alloc: Global,
+    form: Form,
+    out: &mut O,
+    fault: Refused,
+) -> Result<(), Ended>
     requires { O.faults out.old + 1 < 2 ^ 64 }
-    ensures { Ends O.taken O.faults out.old out.new (λ bytes. bytes ≡ viewers_refused fault) ⊥ ⊥ result }
+    ensures { Ends O.taken O.faults out.old out.new (λ bytes. bytes ≡ viewers_refused form fault) ⊥ ⊥ result }
 {
-    let line = viewers_refused_line(alloc, fault)?;
-    let Ok(()) = write_whole(out, line.as_slice()) else {
+    let block = viewers_refused_block(alloc, form, fault)?;
+    let Ok(()) = write_whole(out, block.as_slice()) else {
         return Err(Ended::WriteFailed);
     };
     Ok(())
@@ -232,6 +244,7 @@ fn write_viewer<
     R: Threads + Wait + Sync,
 >(
     answering: &Answering<'_, R, G>,
+    form: Form,
     viewing: Viewing<&str>,
     keeper: &mut Keeper<H>,
     watcher: Watcher<H>,
@@ -239,16 +252,17 @@ fn write_viewer<
     out: &mut O,
 ) -> Result<(), Ended>
     requires own { IsOf keeper.old watcher.viewer }
-    requires plan { MeansPlan (schema_of keeper.old) viewing.query.now watcher.plan }
+    requires plan { MeansPlan (schema_of keeper.old) viewing.query.now watcher.question.plan }
+    requires form { watcher.question.form ≡ form }
     requires shots { length watcher.shots ≡ viewing.shots }
     requires faults { O.faults out.old + 1 < 2 ^ 64 }
     ensures same { keeper.new ≡ keeper.old }
     ensures sound { OnOk result (O.faults out.new ≡ O.faults out.old) }
     ensures views { (givens : Givens) (before : List (List ℕ)) → Keeps givens before keeper.old →
-        Delivers O.taken O.faults out.old out.new (AreViews (schema_of keeper.old) (editions givens before) viewing.entry.query.now (edition keeper.old) number 0 viewing.entry.shots) result }
+        Delivers O.taken O.faults out.old out.new (AreViews form (schema_of keeper.old) (editions givens before) viewing.entry.query.now (edition keeper.old) number 0 viewing.entry.shots) result }
 {
     let shots = watcher.finish(answering, keeper)?;
-    let text = view_text(answering.alloc, number, shots.as_slice())?;
+    let text = view_text(answering.alloc, form, number, shots.as_slice())?;
     let Ok(()) = write_whole(out, text.as_slice()) else {
         return Err(Ended::WriteFailed);
     };

@@ -1,26 +1,31 @@
 //! Scripts: the runner, which goes from line to line over one table, what a script writes, and the laws of that. A
 //! program that runs scripts calls [`run`] or [`run_by`], with viewers beside the lines [`live`], and where it ends behind its
-//! run [`run_last`].
+//! run [`run_last`], or [`run_in`] in a form of its choice.
 #![tactic(auto)]
 
 mod block;
+mod classic_spelling;
 mod closing;
 mod command;
+mod csv_spelling;
 mod ended;
 mod fault;
 mod finish;
 mod gallery;
 mod hash_choice;
 mod how;
+mod json_spelling;
 mod laws;
 mod limits;
 mod lines;
 mod listing;
 mod load_line;
 mod on_refusal;
+mod refusal_name;
 mod reporting;
 mod running;
 mod setup;
+mod spelling;
 mod stage;
 mod statement;
 mod step;
@@ -39,6 +44,6 @@ pub use limits::{
     DEPTH, Limits, MAX_PARTS, MAX_SCRIPT_BYTES, ROWS, SHOTS, SMALL, VIEWERS, WORKERS,
 };
 pub use on_refusal::OnRefusal;
-pub use running::{live, run, run_by, run_last};
+pub use running::{live, run, run_by, run_in, run_last};
 pub use setup::Setup;
 pub use viewing::Viewing;

@@ -15,7 +15,7 @@ ghost use Rattle.script.specs.Desks.{LaysOrOverflows, LoadsRows};
 use crate::block::refuse;
 use crate::fault::Fault;
 use crate::listing::{Listed, read_listing};
-use crate::setup::Setup;
+use crate::setup::SpeltSetup;
 use board::Keeper;
 use cells::{Cell, KeyHash};
 use columns::RowTrie;
@@ -31,13 +31,13 @@ use std::thread::Threads;
 /// rows. A refused load leaves the draft. [`Want::Worker`] where the thread of a worker could not be started,
 /// otherwise [`Want::Memory`] where a growth was refused, both whatever faults the parts have.
 pub fn execute_load<H: KeyHash<Cell> + Send + Sync, G: Gate, R: Threads + Wait>(
-    setup: &Setup<'_, R, G>,
+    setup: &SpeltSetup<'_, R, G>,
     keeper: &mut Keeper<H>,
     listing: &str,
     number: u64,
 ) -> Result<Vec<u8>, Want>
     requires { length listing.now ≤ script_limit }
-    ensures step { IfOk result (λ block. LoadsRows keeper.old keeper.new (rows_loaded (editions.schema keeper.old) (map (λ p. p.items) setup.now.parts.now) listing.now) number block.items) }
+    ensures step { IfOk result (λ block. LoadsRows setup.now.form keeper.old keeper.new (rows_loaded (editions.schema keeper.old) (map (λ p. p.items) setup.now.parts.now) listing.now) number block.items) }
 {
     match read_listing(setup.alloc, setup.parts, listing) {
         Ok(listed) => {
@@ -51,14 +51,14 @@ pub fn execute_load<H: KeyHash<Cell> + Send + Sync, G: Gate, R: Threads + Wait>(
 
 /// The same of the listed parts.
 fn load_listed<H: KeyHash<Cell> + Send + Sync, G: Gate, R: Threads + Wait>(
-    setup: &Setup<'_, R, G>,
+    setup: &SpeltSetup<'_, R, G>,
     keeper: &mut Keeper<H>,
     listed: &[Listed<'_>],
     number: u64,
 ) -> Result<Vec<u8>, Want>
     requires many { length listed.now ≤ piece_limit }
     requires within { sum_by part_len (map part_of listed.now) ≤ listed_limit }
-    ensures step { IfOk result (λ block. LoadsRows keeper.old keeper.new (rows_held (rows_of_parts (editions.schema keeper.old) (map part_of listed.now))) number block.items) }
+    ensures step { IfOk result (λ block. LoadsRows setup.now.form keeper.old keeper.new (rows_held (rows_of_parts (editions.schema keeper.old) (map part_of listed.now))) number block.items) }
 {
     let workers = setup.how.workers();
     match load(
@@ -93,13 +93,13 @@ fn want_of(fault: PartFault) -> Want
 
 /// Lays loaded rows over the draft, or refuses them where it would have too many.
 fn lay_over<H: KeyHash<Cell>, G: Gate, R>(
-    setup: &Setup<'_, R, G>,
+    setup: &SpeltSetup<'_, R, G>,
     keeper: &mut Keeper<H>,
     rows: RowTrie<H>,
     number: u64,
 ) -> Result<Vec<u8>, AllocError>
     requires { AreRowsOf (editions.schema keeper.old) (map_of cell_cmp rows) }
-    ensures step { IfOk result (λ block. LaysOrOverflows keeper.old keeper.new (laid_over (map_of cell_cmp rows) (editions.draft keeper.old)) number block.items) }
+    ensures step { IfOk result (λ block. LaysOrOverflows setup.now.form keeper.old keeper.new (laid_over (map_of cell_cmp rows) (editions.draft keeper.old)) number block.items) }
 {
     match keeper.absorb(rows) {
         Ok(()) => Ok(Vec::new(setup.alloc)),

@@ -5,24 +5,26 @@ ghost use Rattle.script.specs.Says.{GivesPlan};
 
 use crate::block::{Asked, Block, refuse, report_heading};
 use crate::fault::Fault;
-use crate::setup::Setup;
+use crate::setup::SpeltSetup;
 use board::Keeper;
 use cells::{Cell, KeyHash, Refused, Schema};
 use crew::Gate;
+use forms::Form;
 use query::{Plan, check, read};
+use report::Question;
 use std::alloc::{AllocError, Global};
 
 /// The block of a report of the last published edition: what the text asks of that edition, or its first fault.
 pub fn execute_report<H: KeyHash<Cell>, G: Gate, R>(
-    setup: &Setup<'_, R, G>,
+    setup: &SpeltSetup<'_, R, G>,
     keeper: &Keeper<H>,
     text: &str,
     number: u64,
 ) -> Result<Block<H>, AllocError>
-    ensures { IfOk result (WillReport keeper.now number text.now) }
+    ensures { IfOk result (WillReport setup.now.form keeper.now number text.now) }
 {
     match read_plan(setup.alloc, text, keeper.schema()) {
-        Ok(plan) => ask(setup.alloc, keeper, plan, number),
+        Ok(plan) => ask(setup.alloc, setup.form, keeper, plan, number),
         Err(fault) => {
             let block = refuse(setup, number, Fault::Line(fault))?;
             Ok(Block::Refusal(block))
@@ -42,19 +44,20 @@ pub fn read_plan(alloc: Global, text: &str, schema: &Schema) -> Result<Plan, Ref
 /// A snapshot of the last published edition, with the plan whose report of it is the block.
 fn ask<H: KeyHash<Cell>>(
     alloc: Global,
+    form: Form,
     keeper: &Keeper<H>,
     plan: Plan,
     number: u64,
 ) -> Result<Block<H>, AllocError>
-    ensures { IfOk result (WillReportPlan keeper.now number plan) }
+    ensures { IfOk result (WillReportPlan form keeper.now number plan) }
 {
     let Ok(snapshot) = keeper.snapshot() else {
         return Err(AllocError);
     };
-    let heading = report_heading(alloc, number, snapshot.edition())?;
+    let heading = report_heading(alloc, form, number, snapshot.edition())?;
     Ok(Block::Report(Asked {
         heading,
         snapshot,
-        plan,
+        question: Question { form, plan },
     }))
 }

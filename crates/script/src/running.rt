@@ -6,7 +6,7 @@ ghost use Rattle.report.specs.declared.unwritten.Unwritten.TheVariants as unwrit
 ghost use Rattle.report.specs.declared.want.Want.TheVariants as want;
 ghost use Rattle.script.specs.Blocks.{IsAsked, WillBe};
 ghost use Rattle.script.specs.Endings.{AsksForWorkers, Delivers, Ends};
-ghost use Rattle.script.specs.Givens.{givens};
+ghost use Rattle.script.specs.Givens.{givens, givens_in};
 ghost use Rattle.script.specs.Hows.{hash_of_choice};
 ghost use Rattle.script.specs.Limits.{script_limit};
 ghost use Rattle.script.specs.Output.{IsOutput};
@@ -16,7 +16,7 @@ ghost use Rattle.script.specs.Stops.{finish_of_refused};
 ghost use Rattle.script.specs.Viewers.{EndsBy, EndsEarly, EndsLines, EndsRun, GoesOverBeside, asked_of, too_much_by, too_much_text};
 ghost use Rattle.script.specs.declared.stage.Stage.TheVariants as Stage;
 
-use crate::block::{Asked, Block, refuse, viewers_refused_line};
+use crate::block::{Asked, Block, refuse, viewers_refused_block};
 use crate::closing::Closing;
 use crate::ended::Ended;
 use crate::fault::Fault;
@@ -27,12 +27,13 @@ use crate::how::How;
 use crate::limits::{MAX_PARTS, MAX_SCRIPT_BYTES};
 use crate::lines::lines_of;
 use crate::on_refusal::OnRefusal;
-use crate::setup::Setup;
+use crate::setup::{Setup, SpeltSetup};
 use crate::step::{Line, execute};
 use crate::viewing::Viewing;
 use board::Keeper;
 use cells::{Cell, Fnv, KeyHash, Plain, Refused, Tuple};
 use crew::Gate;
+use forms::Form;
 use query::each_text_has_an_answer;
 use report::{Backlog, Out, Starter, Unwritten, write_whole};
 use std::alloc::{AllocError, Global};
@@ -76,13 +77,14 @@ pub fn run<
     ensures worker { IsErrOf result Ended.NoWorker → AsksForWorkers (givens how.now.rows parts.now) (lines script.now) }
     ensures place { IsErrOf result Ended.NotShown → ⊥ }
 {
-    let setup = Setup {
+    let setup = SpeltSetup {
         rt,
         alloc,
         how,
         parts,
         viewing: None,
         on_refusal: OnRefusal::GoesOn,
+        form: Form::Classic,
         gate,
     };
     run_through::<H, O, G, R>(&setup, script, out)
@@ -127,13 +129,14 @@ pub fn live<
         viewers,
         shots,
     };
-    let setup = Setup {
+    let setup = SpeltSetup {
         rt,
         alloc,
         how,
         parts,
         viewing: Some(viewing),
         on_refusal: OnRefusal::GoesOn,
+        form: Form::Classic,
         gate,
     };
     run_through::<H, O, G, R>(&setup, script, out)
@@ -178,10 +181,36 @@ pub fn run_last<O: Out, G: Gate, R: Threads + Wait + Sync>(
     ensures by { EndsBy setup.now.on_refusal (hash_of_choice hash) O.taken O.faults out.old out.new (givens setup.now.how.now.rows setup.now.parts.now) (asked_of setup.now.viewing) script.now result }
     ensures goes_on { setup.now.on_refusal ≡ OnRefusal.GoesOn → EndsRun (hash_of_choice hash) O.taken O.faults out.old out.new (givens setup.now.how.now.rows setup.now.parts.now) (asked_of setup.now.viewing) script.now result }
 {
+    run_in(setup, Form::Classic, hash, script, out)
+}
+
+/// [`run_last`] in a form. It is the form of all that the run writes: what a report answers, of whose rows the values are
+/// those of [`run`], the headings of blocks, refusals, shapes, and what viewers report.
+pub fn run_in<O: Out, G: Gate, R: Threads + Wait + Sync>(
+    setup: &Setup<'_, R, G>,
+    form: Form,
+    hash: HashChoice,
+    script: &[u8],
+    out: &mut O,
+) -> Result<Finish, Ended>
+    requires { O.faults out.old + 1 < 2 ^ 64 }
+    ensures by { EndsBy setup.now.on_refusal (hash_of_choice hash) O.taken O.faults out.old out.new (givens_in form setup.now.how.now.rows setup.now.parts.now) (asked_of setup.now.viewing) script.now result }
+    ensures goes_on { setup.now.on_refusal ≡ OnRefusal.GoesOn → EndsRun (hash_of_choice hash) O.taken O.faults out.old out.new (givens_in form setup.now.how.now.rows setup.now.parts.now) (asked_of setup.now.viewing) script.now result }
+{
+    let spelt = SpeltSetup {
+        rt: setup.rt,
+        alloc: setup.alloc,
+        how: setup.how,
+        parts: setup.parts,
+        viewing: setup.viewing,
+        on_refusal: setup.on_refusal,
+        form,
+        gate: setup.gate,
+    };
     let closing = Closing::LeavesToSystem;
     match hash {
-        HashChoice::Fnv => run_whole::<Fnv, O, G, R>(setup, script, out, closing),
-        HashChoice::Plain => run_whole::<Plain, O, G, R>(setup, script, out, closing),
+        HashChoice::Fnv => run_whole::<Fnv, O, G, R>(&spelt, script, out, closing),
+        HashChoice::Plain => run_whole::<Plain, O, G, R>(&spelt, script, out, closing),
     }
 }
 
@@ -191,10 +220,10 @@ fn run_through<
     O: Out,
     G: Gate,
     R: Threads + Wait + Sync,
->(setup: &Setup<'_, R, G>, script: &[u8], out: &mut O) -> Result<(), Ended>
+>(setup: &SpeltSetup<'_, R, G>, script: &[u8], out: &mut O) -> Result<(), Ended>
     requires faults { O.faults out.old + 1 < 2 ^ 64 }
     requires goes_on { setup.now.on_refusal ≡ OnRefusal.GoesOn }
-    ensures { EndsRun H.KeyHash-1.hash_of O.taken O.faults out.old out.new (givens setup.now.how.now.rows setup.now.parts.now) (asked_of setup.now.viewing) script.now result }
+    ensures { EndsRun H.KeyHash-1.hash_of O.taken O.faults out.old out.new (givens_in setup.now.form setup.now.how.now.rows setup.now.parts.now) (asked_of setup.now.viewing) script.now result }
 {
     match run_whole::<H, O, G, R>(setup, script, out, Closing::GivesBack) {
         Ok(_) => Ok(()),
@@ -202,15 +231,20 @@ fn run_through<
     }
 }
 
-/// [`run_last`], with what becomes of the table at the end.
+/// [`run_in`], with what becomes of the table at the end.
 fn run_whole<
     H: KeyHash<Cell> + KeyHash<Tuple> + Send + Sync,
     O: Out,
     G: Gate,
     R: Threads + Wait + Sync,
->(setup: &Setup<'_, R, G>, script: &[u8], out: &mut O, closing: Closing) -> Result<Finish, Ended>
+>(
+    setup: &SpeltSetup<'_, R, G>,
+    script: &[u8],
+    out: &mut O,
+    closing: Closing,
+) -> Result<Finish, Ended>
     requires { O.faults out.old + 1 < 2 ^ 64 }
-    ensures { EndsBy setup.now.on_refusal H.KeyHash-1.hash_of O.taken O.faults out.old out.new (givens setup.now.how.now.rows setup.now.parts.now) (asked_of setup.now.viewing) script.now result }
+    ensures { EndsBy setup.now.on_refusal H.KeyHash-1.hash_of O.taken O.faults out.old out.new (givens_in setup.now.form setup.now.how.now.rows setup.now.parts.now) (asked_of setup.now.viewing) script.now result }
 {
     if script.len() > MAX_SCRIPT_BYTES || setup.parts.len() > MAX_PARTS {
         return refuse_whole(setup, out);
@@ -225,10 +259,15 @@ fn run_lines<
     O: Out,
     G: Gate,
     R: Threads + Wait + Sync,
->(setup: &Setup<'_, R, G>, script: &[u8], out: &mut O, closing: Closing) -> Result<Finish, Ended>
+>(
+    setup: &SpeltSetup<'_, R, G>,
+    script: &[u8],
+    out: &mut O,
+    closing: Closing,
+) -> Result<Finish, Ended>
     requires faults { O.faults out.old + 1 < 2 ^ 64 }
     requires short { length script.now ≤ script_limit }
-    ensures { EndsLines setup.now.on_refusal H.KeyHash-1.hash_of O.taken O.faults out.old out.new (givens setup.now.how.now.rows setup.now.parts.now) (asked_of setup.now.viewing) (lines script.now) result }
+    ensures { EndsLines setup.now.on_refusal H.KeyHash-1.hash_of O.taken O.faults out.old out.new (givens_in setup.now.form setup.now.how.now.rows setup.now.parts.now) (asked_of setup.now.viewing) (lines script.now) result }
 {
     let (ended, _out) = thread::scope(
         thread::scope_env(),
@@ -236,7 +275,7 @@ fn run_lines<
         move |scope| -> (Result<Finish, Ended>, &mut O)
             requires { (O.faults out.now + 1 < 2 ^ 64) × (length script.now ≤ script_limit) }
             ensures same { result.1.ghost_name ≡ out.entry.ghost_name }
-            ensures ends { EndsLines setup.entry.now.on_refusal H.KeyHash-1.hash_of O.taken O.faults out.entry.now result.1.now (givens setup.entry.now.how.now.rows setup.entry.now.parts.now) (asked_of setup.entry.now.viewing) (lines script.entry.now) result.0 }
+            ensures ends { EndsLines setup.entry.now.on_refusal H.KeyHash-1.hash_of O.taken O.faults out.entry.now result.1.now (givens_in setup.entry.now.form setup.entry.now.how.now.rows setup.entry.now.parts.now) (asked_of setup.entry.now.viewing) (lines script.entry.now) result.0 }
         {
             let starter = Starter {
                 scope,
@@ -272,7 +311,7 @@ fn run_beside<
     G: Gate,
     R: Threads + Wait + Sync,
 >(
-    setup: &Setup<'_, R, G>,
+    setup: &SpeltSetup<'_, R, G>,
     starter: &Starter<'_, 's, 'e, R, G>,
     script: &[u8],
     desk: &mut Option<Keeper<H>>,
@@ -284,7 +323,7 @@ fn run_beside<
     requires short { length script.now ≤ script_limit }
     requires fresh { IsFresh desk.old × (backlog.old ≡ record { reports = []; after = [] }) }
     requires nobody { (gallery.old.stage ≡ Stage.Expected) × (gallery.old.audience.watches ≡ []) }
-    ensures { EndsLines setup.now.on_refusal H.KeyHash-1.hash_of O.taken O.faults out.old out.new (givens setup.now.how.now.rows setup.now.parts.now) (asked_of setup.now.viewing) (lines script.now) result }
+    ensures { EndsLines setup.now.on_refusal H.KeyHash-1.hash_of O.taken O.faults out.old out.new (givens_in setup.now.form setup.now.how.now.rows setup.now.parts.now) (asked_of setup.now.viewing) (lines script.now) result }
 {
     // The law by which what was written is a beginning of an output, where a report ends the run; it does
     // nothing.
@@ -307,7 +346,7 @@ fn go_over<
     G: Gate,
     R: Threads + Wait + Sync,
 >(
-    setup: &Setup<'_, R, G>,
+    setup: &SpeltSetup<'_, R, G>,
     starter: &Starter<'_, 's, 'e, R, G>,
     script: &[u8],
     desk: &mut Option<Keeper<H>>,
@@ -320,8 +359,8 @@ fn go_over<
     requires fresh { IsFresh desk.old × (backlog.old ≡ record { reports = []; after = [] }) }
     requires nobody { (gallery.old.stage ≡ Stage.Expected) × (gallery.old.audience.watches ≡ []) }
     ensures { MatchResult result
-        (GoesOverBeside O.taken O.faults out.old out.new H.KeyHash-1.hash_of (givens setup.now.how.now.rows setup.now.parts.now) setup.now.on_refusal (asked_of setup.now.viewing) (lines script.now) desk.new backlog.new gallery.new.stage gallery.new.audience.watches)
-        (EndsEarly setup.now.on_refusal H.KeyHash-1.hash_of O.taken O.faults out.old out.new (givens setup.now.how.now.rows setup.now.parts.now) (asked_of setup.now.viewing) (lines script.now)) }
+        (GoesOverBeside O.taken O.faults out.old out.new H.KeyHash-1.hash_of (givens_in setup.now.form setup.now.how.now.rows setup.now.parts.now) setup.now.on_refusal (asked_of setup.now.viewing) (lines script.now) desk.new backlog.new gallery.new.stage gallery.new.audience.watches)
+        (EndsEarly setup.now.on_refusal H.KeyHash-1.hash_of O.taken O.faults out.old out.new (givens_in setup.now.form setup.now.how.now.rows setup.now.parts.now) (asked_of setup.now.viewing) (lines script.now)) }
 {
     // The law by which what was written is a beginning of an output, where a line ends the run; it does
     // nothing.
@@ -402,17 +441,20 @@ fn add_block<
             let Asked {
                 heading,
                 snapshot,
-                plan,
+                question,
             } = asked;
-            backlog.begin(starter, out, number, heading.as_slice(), snapshot, plan)
+            backlog.begin(starter, out, number, heading.as_slice(), snapshot, question)
         }
     }
 }
 
 /// Refuses a script that is too long, or of too many parts. A run that goes on has the tail of its viewers after the refusal.
-fn refuse_whole<O: Out, R, G: Gate>(setup: &Setup<'_, R, G>, out: &mut O) -> Result<Finish, Ended>
+fn refuse_whole<O: Out, R, G: Gate>(
+    setup: &SpeltSetup<'_, R, G>,
+    out: &mut O,
+) -> Result<Finish, Ended>
     requires { O.faults out.old + 1 < 2 ^ 64 }
-    ensures ends { Ends O.taken O.faults out.old out.new (λ bytes. bytes ≡ too_much_by setup.now.on_refusal (asked_of setup.now.viewing)) ⊥ ⊥ result }
+    ensures ends { Ends O.taken O.faults out.old out.new (λ bytes. bytes ≡ too_much_by setup.now.form setup.now.on_refusal (asked_of setup.now.viewing)) ⊥ ⊥ result }
     ensures finish { IfOk result (λ finish. finish ≡ finish_of_refused setup.now.on_refusal) }
 {
     let finish = setup.on_refusal.finish_of_refused();
@@ -425,13 +467,13 @@ fn refuse_whole<O: Out, R, G: Gate>(setup: &Setup<'_, R, G>, out: &mut O) -> Res
 /// Delivers the output of a script that is too long, or of too many parts, and after it the tail where there are viewers.
 #[tactic(auto, using(report::specs::Laws::takes_nothing))]
 fn write_too_much<O: Out, R, G: Gate>(
-    setup: &Setup<'_, R, G>,
+    setup: &SpeltSetup<'_, R, G>,
     viewing: Option<Viewing<&str>>,
     finish: Finish,
     out: &mut O,
 ) -> Result<Finish, Ended>
     requires { O.faults out.old + 1 < 2 ^ 64 }
-    ensures ends { Ends O.taken O.faults out.old out.new (λ bytes. bytes ≡ too_much_text (asked_of viewing.entry)) ⊥ ⊥ result }
+    ensures ends { Ends O.taken O.faults out.old out.new (λ bytes. bytes ≡ too_much_text setup.now.form (asked_of viewing.entry)) ⊥ ⊥ result }
     ensures finish { IfOk result (λ told. told ≡ finish) }
 {
     let text = too_much_block(setup, viewing)?;
@@ -443,16 +485,16 @@ fn write_too_much<O: Out, R, G: Gate>(
 
 /// What is written for a script that is too long, or for too many parts.
 fn too_much_block<R, G: Gate>(
-    setup: &Setup<'_, R, G>,
+    setup: &SpeltSetup<'_, R, G>,
     asked: Option<Viewing<&str>>,
 ) -> Result<Vec<u8>, AllocError>
-    ensures { IfOk result (λ text. text.items ≡ too_much_text (asked_of asked.entry)) }
+    ensures { IfOk result (λ text. text.items ≡ too_much_text setup.now.form (asked_of asked.entry)) }
 {
     let mut text = refuse(setup, 0, Fault::Line(Refused::Limit))?;
     if let Some(_) = asked {
         setup.gate.refused_viewers(Refused::NoTable);
-        let line = viewers_refused_line(setup.alloc, Refused::NoTable)?;
-        text.extend_from_slice(line.as_slice())?;
+        let block = viewers_refused_block(setup.alloc, setup.form, Refused::NoTable)?;
+        text.extend_from_slice(block.as_slice())?;
     }
     Ok(text)
 }

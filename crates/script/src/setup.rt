@@ -3,6 +3,7 @@ use crate::how::How;
 use crate::on_refusal::OnRefusal;
 use crate::viewing::Viewing;
 use crew::Gate;
+use forms::Form;
 use report::Answering;
 use std::alloc::Global;
 
@@ -20,7 +21,20 @@ pub struct Setup<'a, R, G: Gate> {
     pub gate: &'a G,
 }
 
-impl<'a, R, G: Gate> Setup<'a, R, G> {
+/// What a run is made with, as of [`Setup`], and the form in which its answers are spelt.
+#[derive(Drop)]
+pub struct SpeltSetup<'a, R, G: Gate> {
+    pub rt: &'a R,
+    pub alloc: Global,
+    pub how: &'a How,
+    pub parts: &'a [Vec<u8>],
+    pub viewing: Option<Viewing<&'a str>>,
+    pub on_refusal: OnRefusal,
+    pub form: Form,
+    pub gate: &'a G,
+}
+
+impl<'a, R, G: Gate> SpeltSetup<'a, R, G> {
     /// What the reports of the run are answered with.
     pub(crate) fn answering(&self) -> Answering<'a, R, G> {
         Answering {

@@ -8,7 +8,7 @@ ghost use Rattle.script.specs.Blocks.{Steps, quiet};
 ghost use Rattle.script.specs.Deeds.{deed};
 ghost use Rattle.report.specs.declared.want.Want.TheVariants as want;
 ghost use Rattle.script.specs.Endings.{HasWorkers};
-ghost use Rattle.script.specs.Givens.{givens};
+ghost use Rattle.script.specs.Givens.{givens_in};
 ghost use Rattle.script.specs.Limits.{script_limit};
 ghost use Rattle.script.specs.Stops.{IsQuiet};
 ghost use Rattle.script.specs.Desks.{Executes, Publishable, PutsRow, schema_of_desk};
@@ -18,7 +18,7 @@ use crate::fault::Fault;
 use crate::limits::VIEWERS;
 use crate::load_line::execute_load;
 use crate::reporting::execute_report;
-use crate::setup::Setup;
+use crate::setup::SpeltSetup;
 use crate::statement::{Statement, read_first, read_statement};
 use board::{Keeper, rows_have_the_shape_of_their_keys};
 use cells::{Cell, KeyHash, Row, later_puts_lie_over};
@@ -38,13 +38,13 @@ pub struct Line<'a> {
 /// Does what a line says, and gives the line's block, or what its report asks of the edition that stands published. Any
 /// line may want memory, and a load a worker, too.
 pub fn execute<H: KeyHash<Cell> + Send + Sync, G: Gate, R: Threads + Wait>(
-    setup: &Setup<'_, R, G>,
+    setup: &SpeltSetup<'_, R, G>,
     desk: &mut Option<Keeper<H>>,
     line: Line<'_>,
 ) -> Result<Block<H>, Want>
     requires publishable { Publishable desk.old }
     requires short { length line.bytes.now ≤ script_limit }
-    ensures step { IfOk result (Steps H.hash_of (givens setup.now.how.now.rows setup.now.parts.now) line.entry.bytes.now line.entry.number desk.old desk.new) }
+    ensures step { IfOk result (Steps H.hash_of (givens_in setup.now.form setup.now.how.now.rows setup.now.parts.now) line.entry.bytes.now line.entry.number desk.old desk.new) }
     ensures worker { IsErrOf result want.Worker → HasWorkers (deed (schema_of_desk desk.old) line.entry.bytes.now) }
 {
     if let Some(keeper) = desk {
@@ -58,10 +58,10 @@ pub fn execute<H: KeyHash<Cell> + Send + Sync, G: Gate, R: Threads + Wait>(
 /// The same before there is a table.
 #[tactic(auto, using(crate::proofs::StepsLemmas::executes_nothing, crate::proofs::StepsLemmas::executes_refused))]
 fn execute_first<H: KeyHash<Cell>, G: Gate, R>(
-    setup: &Setup<'_, R, G>,
+    setup: &SpeltSetup<'_, R, G>,
     line: Line<'_>,
 ) -> Result<(Option<Keeper<H>>, Vec<u8>), AllocError>
-    ensures step { IfOk result (λ r. Executes H.hash_of (givens setup.now.how.now.rows setup.now.parts.now) line.entry.bytes.now line.entry.number None r.0 r.1.items) }
+    ensures step { IfOk result (λ r. Executes H.hash_of (givens_in setup.now.form setup.now.how.now.rows setup.now.parts.now) line.entry.bytes.now line.entry.number None r.0 r.1.items) }
     ensures writes { IfOk result (λ r. IsQuiet line.entry.number r.1.items) }
 {
     let alloc = setup.alloc;
@@ -81,13 +81,13 @@ fn execute_first<H: KeyHash<Cell>, G: Gate, R>(
 /// The same once there is a table.
 #[tactic(auto, using(crate::proofs::StepsLemmas::steps_nothing, crate::proofs::StepsLemmas::steps_report))]
 fn execute_kept<H: KeyHash<Cell> + Send + Sync, G: Gate, R: Threads + Wait>(
-    setup: &Setup<'_, R, G>,
+    setup: &SpeltSetup<'_, R, G>,
     keeper: &mut Keeper<H>,
     line: Line<'_>,
 ) -> Result<Block<H>, Want>
     requires publishable { editions.edition keeper.old + 1 < 2 ^ 64 }
     requires short { length line.bytes.now ≤ script_limit }
-    ensures step { IfOk result (Steps H.hash_of (givens setup.now.how.now.rows setup.now.parts.now) line.entry.bytes.now line.entry.number (Some keeper.old) (Some keeper.new)) }
+    ensures step { IfOk result (Steps H.hash_of (givens_in setup.now.form setup.now.how.now.rows setup.now.parts.now) line.entry.bytes.now line.entry.number (Some keeper.old) (Some keeper.new)) }
     ensures worker { IsErrOf result want.Worker → HasWorkers (deed (Some (editions.schema keeper.old)) line.entry.bytes.now) }
 {
     let alloc = setup.alloc;
@@ -106,7 +106,7 @@ fn execute_kept<H: KeyHash<Cell> + Send + Sync, G: Gate, R: Threads + Wait>(
         Ok(Statement::Shape) => {
             // The law by which the block is that of the published rows; it does nothing.
             rows_have_the_shape_of_their_keys::<H>();
-            text_block(shape_block(alloc, keeper, line.number))
+            text_block(shape_block(alloc, setup.form, keeper, line.number))
         }
         Err(fault) => quiet_block(refuse(setup, line.number, fault)),
     }
@@ -138,13 +138,13 @@ fn quiet_block<H: KeyHash<Cell>>(text: Result<Vec<u8>, AllocError>) -> Result<Bl
 
 /// Lays a row over the draft, or refuses it where the draft is full.
 fn put<H: KeyHash<Cell>, G: Gate, R>(
-    setup: &Setup<'_, R, G>,
+    setup: &SpeltSetup<'_, R, G>,
     keeper: &mut Keeper<H>,
     row: Row,
     number: u64,
 ) -> Result<Vec<u8>, AllocError>
     requires row { IsRowOf (editions.schema keeper.old) row }
-    ensures step { IfOk result (λ block. PutsRow keeper.old keeper.new row number block.items) }
+    ensures step { IfOk result (λ block. PutsRow setup.now.form keeper.old keeper.new row number block.items) }
 {
     match keeper.put(row) {
         Ok(()) => Ok(Vec::new(setup.alloc)),
@@ -169,7 +169,7 @@ fn delete<H: KeyHash<Cell>>(
 
 /// Publishes the draft, and tells the gate. What the keeper tells of it is dropped: viewers look without being told.
 pub fn publish<H: KeyHash<Cell>, G: Gate, R: Wait>(
-    setup: &Setup<'_, R, G>,
+    setup: &SpeltSetup<'_, R, G>,
     keeper: &mut Keeper<H>,
 ) -> Result<Vec<u8>, AllocError>
     requires { editions.edition keeper.old + 1 < 2 ^ 64 }

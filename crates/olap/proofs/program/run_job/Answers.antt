@@ -13,7 +13,7 @@ returns-in-Ok-read_input-clause-written g c = λ ok.
     let file : List ℕ → Option (List ℕ) = g.F.Folder.file c.args.folder.now in
     let script : List ℕ = c.in-Ok-read_input.input.script.items in
     let parts : List (List ℕ) = map (λ p. p.items) c.in-Ok-read_input.input.parts.items in
-    let run : Givens = record { limit = c.args.job.now.how.rows; parts = parts } in
+    let run : Givens = record { form = c.args.job.now.form; limit = c.args.job.now.how.rows; parts = parts } in
     writes_as (IsRunBy c.args.job.now.on_refusal (hash_of_choice c.args.job.now.hash) run c.args.job.now.live script Through) (IsOutputOfJob file c.args.job.now Through)
     (writer_contents g.W.Write.contents c.args.out) (writer_contents g.W.Write.contents c.run_told.result.1)
     (output_of_job file c.args.job.now script parts c.in-Ok-read_input.ensures.script c.in-Ok-read_input.ensures.parts Through)
@@ -24,7 +24,7 @@ returns-in-Ok-read_input-clause-stopped g c = λ stopped.
     let file : List ℕ → Option (List ℕ) = g.F.Folder.file c.args.folder.now in
     let script : List ℕ = c.in-Ok-read_input.input.script.items in
     let parts : List (List ℕ) = map (λ p. p.items) c.in-Ok-read_input.input.parts.items in
-    let run : Givens = record { limit = c.args.job.now.how.rows; parts = parts } in
+    let run : Givens = record { form = c.args.job.now.form; limit = c.args.job.now.how.rows; parts = parts } in
     writes_as (IsRunBy c.args.job.now.on_refusal (hash_of_choice c.args.job.now.hash) run c.args.job.now.live script Stopped) (IsOutputOfJob file c.args.job.now Stopped)
     (writer_contents g.W.Write.contents c.args.out) (writer_contents g.W.Write.contents c.run_told.result.1)
     (output_of_job file c.args.job.now script parts c.in-Ok-read_input.ensures.script c.in-Ok-read_input.ensures.parts Stopped)
@@ -35,7 +35,7 @@ returns-in-Ok-read_input-clause-beginning g c = λ early.
     let file : List ℕ → Option (List ℕ) = g.F.Folder.file c.args.folder.now in
     let script : List ℕ = c.in-Ok-read_input.input.script.items in
     let parts : List (List ℕ) = map (λ p. p.items) c.in-Ok-read_input.input.parts.items in
-    let run : Givens = record { limit = c.args.job.now.how.rows; parts = parts } in
+    let run : Givens = record { form = c.args.job.now.form; limit = c.args.job.now.how.rows; parts = parts } in
     begins_however (IsRunBy c.args.job.now.on_refusal (hash_of_choice c.args.job.now.hash) run c.args.job.now.live script) (IsOutputOfJob file c.args.job.now)
     (writer_contents g.W.Write.contents c.args.out) (writer_contents g.W.Write.contents c.run_told.result.1)
     (output_of_job file c.args.job.now script parts c.in-Ok-read_input.ensures.script c.in-Ok-read_input.ensures.parts)

@@ -10,4 +10,4 @@ pub returns-in_err-text-clause-ends : goal.returns-in_err-text-clause-ends
 returns-in_err-text-clause-ends g c =
     let p = err_from_is_err_and c.from_residual.result c.from_residual.ensures.1 in
     ends_for g.O.Out.taken g.O.Out.faults c.args.out.now c.args.out.now _ _ c.from_residual.result p.1
-    (nothing_yet _ (g.O.Out.taken c.args.out.now) (too_much_text (asked_of c.args.viewing)) refl) _ _ Memory p.2 (λ late. absurd cc)
+    (nothing_yet _ (g.O.Out.taken c.args.out.now) (too_much_text c.args.setup.now.form (asked_of c.args.viewing)) refl) _ _ Memory p.2 (λ late. absurd cc)

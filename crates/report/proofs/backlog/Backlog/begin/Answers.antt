@@ -35,4 +35,4 @@ pub returns-clause-early : goal.returns-clause-early
 returns-clause-early g c = λ few.
     let ready = c.in_ok-snapshot.ensures.early few in
     let same = c.in_ok-snapshot.ensures.same in
-    (ready.0, c.in_ok-push_report.ensures ∙ ap (λ a. with_report c.make_way.new.self a.0 a.1) same ∙ ap (λ w. with_report w c.args.snapshot c.args.plan) ready.1)
+    (ready.0, c.in_ok-push_report.ensures ∙ ap (λ a. with_report c.make_way.new.self a.0 a.1) same ∙ ap (λ w. with_report w c.args.snapshot c.args.question) ready.1)

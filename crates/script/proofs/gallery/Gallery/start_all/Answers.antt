@@ -1,5 +1,6 @@
 use Rattle.std.proofs.Common.{◌∙◌, ◌+◌, ◌∷◌, [], ap, arith, length, length-append, refl, subst, sym}
 use Rattle.board.specs.Editions.{board, schema}
+use Rattle.report.specs.Reports.{asked_in}
 use Rattle.report.specs.Watching.{watch_from}
 use Rattle.script.specs.Viewers.{ArePlans, viewing_of}
 use Rattle.script.proofs.TailsLemmas.{started_more}
@@ -22,7 +23,7 @@ loop-plan-preserved g c =
     record {
       same = c.in-Ok.ensures.same ∙ inv.same;
       left = plans.1;
-      many = omega (arith, inv.many, fewer, more, length-append c.loop-plan.self.audience.watches (watch_from (c.loop-plan.self.audience.begun + 1) c.in-Ok.viewer c.in-Some.plan c.args.viewing.shots ∷ []));
-      started = rw c.in_ok-begin.ensures.watching (started_more (viewing_of c.args.viewing) c.args.keeper.now c.loop-plan.self.audience.watches (c.loop-plan.self.audience.begun + 1) c.in-Ok.viewer c.in-Some.plan inv.started
+      many = omega (arith, inv.many, fewer, more, length-append c.loop-plan.self.audience.watches (watch_from (c.loop-plan.self.audience.begun + 1) c.in-Ok.viewer (asked_in c.args.form c.in-Some.plan) c.args.viewing.shots ∷ []));
+      started = rw c.in_ok-begin.ensures.watching (started_more c.args.form (viewing_of c.args.viewing) c.args.keeper.now c.loop-plan.self.audience.watches (c.loop-plan.self.audience.begun + 1) c.in-Ok.viewer c.in-Some.plan inv.started
           (c.in-Ok.ensures.viewer.board ∙ ap board inv.same) (c.in-Ok.ensures.viewer.schema ∙ ap schema inv.same) plans.0);
     }

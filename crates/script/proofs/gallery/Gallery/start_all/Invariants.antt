@@ -10,5 +10,5 @@ invariant-loop-plan g l = record {
   same : l.keeper ≡ l.fn.keeper;
   left : ArePlans (schema l.fn.keeper) l.viewing.query.now (into_iter_items l.plan-iterator);
   many : length l.self.audience.watches + length (into_iter_items l.plan-iterator) ≡ length l.fn.plans.items;
-  started : AllByRecursion (IsStarted (viewing_of l.viewing) l.fn.keeper) l.self.audience.watches;
+  started : AllByRecursion (IsStarted l.form (viewing_of l.viewing) l.fn.keeper) l.self.audience.watches;
 }

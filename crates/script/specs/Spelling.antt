@@ -1,0 +1,48 @@
+-- What lines and viewers say, in each form. The table form has the headings and refusals of the classic one.
+use Rattle.std.specs.Prelude.{ℕ, List, ◌++◌}
+use Rattle.cells.specs.declared.refused.Refused.{Refused}
+use Rattle.forms.specs.declared.form.Form.{Form}
+use Rattle.forms.specs.declared.form.Form.TheVariants.{Classic, Csv, Json, Table}
+use Rattle.script.specs.ClassicSpelling as classic
+use Rattle.script.specs.CsvSpelling as csv
+use Rattle.script.specs.JsonSpelling as json
+use Rattle.script.specs.declared.fault.Fault.{Fault}
+
+-- the block of a refused line
+abbrev pub refusal : Form → ℕ → Fault → List ℕ
+refusal Classic number fault = classic.refusal number fault
+refusal Csv number fault = csv.refusal number fault
+refusal Json number fault = json.refusal number fault
+refusal Table number fault = classic.refusal number fault
+
+-- how the block of a report or a shape begins
+abbrev pub heading : Form → ℕ → ℕ → List ℕ
+heading Classic number edition = classic.heading number edition
+heading Csv number edition = csv.heading number edition
+heading Json number edition = json.heading number edition
+heading Table number edition = classic.heading number edition
+
+-- what stands behind a shape's heading
+abbrev pub shape_body : Form → List (List ℕ × ℕ) → List ℕ
+shape_body Classic prefixes = classic.shape_body prefixes
+shape_body Csv prefixes = csv.shape_body prefixes
+shape_body Json prefixes = json.shape_body prefixes
+shape_body Table prefixes = classic.shape_body prefixes
+
+-- the block of a shape
+abbrev pub shape_text : Form → ℕ → ℕ → List (List ℕ × ℕ) → List ℕ
+shape_text form number edition prefixes = heading form number edition ++ shape_body form prefixes
+
+-- what stands in place of all blocks of viewers
+abbrev pub viewers_refused : Form → Refused → List ℕ
+viewers_refused Classic fault = classic.viewers_refused fault
+viewers_refused Csv fault = csv.viewers_refused fault
+viewers_refused Json fault = json.viewers_refused fault
+viewers_refused Table fault = classic.viewers_refused fault
+
+-- how a viewer's block begins
+abbrev pub view_heading : Form → ℕ → ℕ → List ℕ
+view_heading Classic viewer edition = classic.view_heading viewer edition
+view_heading Csv viewer edition = csv.view_heading viewer edition
+view_heading Json viewer edition = json.view_heading viewer edition
+view_heading Table viewer edition = classic.view_heading viewer edition
