@@ -33,7 +33,7 @@ _olap() {
             return
             ;;
         live) options+=" --query --viewers --shots" ;;
-        query) options="--columns --delimiter --number --null --trim --workers --rows --help" ;;
+        query) options="--columns --delimiter --number --null --trim --workers --rows --format --help" ;;
         schema) options="--columns --delimiter --number --null --trim --help" ;;
         check) options="--help" ;;
         run) ;;

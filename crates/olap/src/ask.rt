@@ -16,6 +16,7 @@ use crate::question::{Question, SchemaQuestion, Wanted, question_of, schema_ques
 use crate::table_text::{script_of, table_line, table_name};
 use crate::tell::{Errors, Tell};
 use cells::Text;
+use forms::Form;
 use script::{Ended, HashChoice, How, OnRefusal};
 use std::alloc::{AllocError, Global};
 use std::io::{BufWriter, Write};
@@ -140,6 +141,7 @@ fn ask_files<W: Write + Drop, E: Write, R: Threads + Wait + Sync + Eprint>(
                 files,
                 delimiter,
                 how: &question.how,
+                form: question.form,
                 input: &input,
             };
             run_asked(rt, alloc, &teller, &asked, out, err)
@@ -169,6 +171,7 @@ struct Asked<'a> {
     files: &'a [Vec<u8>],
     delimiter: u8,
     how: &'a How,
+    form: Form,
     input: &'a Input,
 }
 
@@ -196,6 +199,7 @@ fn run_asked<'a, T: Tell + Sync, W: Write + Drop, E: Write, R: Threads + Wait + 
         alloc,
         asked.how,
         HashChoice::default(),
+        asked.form,
         None,
         OnRefusal::Stops,
         asked.input,

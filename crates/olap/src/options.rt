@@ -15,6 +15,7 @@ pub enum Valued {
     Null,
     Workers,
     Rows,
+    Format,
 }
 
 impl Valued {
@@ -27,6 +28,7 @@ impl Valued {
             "null" => Some(Valued::Null),
             "workers" => Some(Valued::Workers),
             "rows" => Some(Valued::Rows),
+            "format" => Some(Valued::Format),
             _ => None,
         }
     }
@@ -88,6 +90,7 @@ pub struct Parted<'w> {
     pub null: Option<&'w str>,
     pub workers: Option<&'w str>,
     pub rows: Option<&'w str>,
+    pub format: Option<&'w str>,
     pub trims: bool,
     /// Whether help is asked for.
     pub helps: bool,
@@ -104,6 +107,7 @@ impl<'w> Parted<'w> {
             null: None,
             workers: None,
             rows: None,
+            format: None,
             trims: false,
             helps: false,
             names: Vec::new(alloc),
@@ -124,6 +128,7 @@ impl<'w> Parted<'w> {
             Valued::Null => put(&mut self.null, word, value),
             Valued::Workers => put(&mut self.workers, word, value),
             Valued::Rows => put(&mut self.rows, word, value),
+            Valued::Format => put(&mut self.format, word, value),
         }
     }
 }

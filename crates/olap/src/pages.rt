@@ -226,6 +226,7 @@ Options:
       --trim           Leave out white space at both ends of fields
       --workers N      Workers, 1 to 64 [default: as many as processors]
       --rows M         Most rows of the table, 1 to 4294967296 [default: 4294967296]
+      --format FORM    Form of the answer, classic, csv, json or table [default: classic]
   -h, --help           Print help
 
 Options may come before, between and after the names, and after the word -- all words are names.

@@ -4,7 +4,9 @@ ghost use Rattle.script.specs.Limits.{IsWithin};
 
 use crate::job::Setting;
 use crate::options::{OptionFault, Parted};
+use crate::words::form;
 use cells::{Text, whole_number_of};
+use forms::Form;
 use prepare::{Chosen, ListFault, listed_columns, name_of};
 use script::{DEPTH, How, Limits, MAX_PARTS, ROWS, SMALL, WORKERS};
 use std::alloc::Global;
@@ -21,6 +23,8 @@ pub struct Question<'w> {
     /// The files, of which there is one at least.
     pub names: Vec<Text>,
     pub how: How,
+    /// The form of the answer.
+    pub form: Form,
 }
 
 /// A file whose table is wanted.
@@ -146,8 +150,19 @@ pub fn question_of<'w, R: Threads>(
     }
     let wanted = wanted_of(alloc, parted)?;
     let how = how(rt, parted)?;
+    let Some(form) = form(parted.format) else {
+        return Err(OptionFault::OutOfRange(Setting::Form));
+    };
     let names = owned(alloc, files)?;
-    Ok((Question { query, names, how }, wanted))
+    Ok((
+        Question {
+            query,
+            names,
+            how,
+            form,
+        },
+        wanted,
+    ))
 }
 
 /// The question of `schema`, from its words: one file.
@@ -160,6 +175,9 @@ pub fn schema_question_of<'w>(
     }
     if parted.rows.is_some() {
         return Err(OptionFault::Unknown("--rows"));
+    }
+    if parted.format.is_some() {
+        return Err(OptionFault::Unknown("--format"));
     }
     match parted.names.as_slice() {
         [] => Err(OptionFault::NoFile),
