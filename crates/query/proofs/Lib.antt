@@ -22,6 +22,5 @@ pub mod DepthLemmas
 pub mod Faults
 pub mod Decisions
 pub mod Shorter
-pub mod RestsLemmas
 pub mod Deciding
 pub mod QueriesLaws
