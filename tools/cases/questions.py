@@ -53,6 +53,26 @@ FORTY = ",".join(f"c{number}" for number in range(1, 41)) + "\n" + "".join(
     ",".join(str(row * number % 7) for number in range(1, 41)) + "\n" for row in range(1, 6)
 )
 
+def form(word, *lines):
+    """The answer of a query by regions, in a form."""
+    return Case(f"query: the form {word}", ["query", "--format", word, BY_REGION, "sales.csv"], {"sales.csv": SALES}, output="\n".join([*lines, ""]))
+
+
+FORMS = [
+    form("classic", "line 4 edition 1", "REGION | COUNT(*) | SUM(UNITS)", "NULL | 1 | 5", "'north' | 2 | 10", "'south' | 1 | -2"),
+    form("csv", "line,4,edition,1", '"REGION","COUNT(*)","SUM(UNITS)"', ",1,5", "north,2,10", "south,1,-2"),
+    form("json", '{"line":4,"edition":1,"columns":["REGION","COUNT(*)","SUM(UNITS)"],"rows":[[null,1,5],["north",2,10],["south",1,-2]]}'),
+    form(
+        "table",
+        "line 4 edition 1",
+        "REGION  COUNT(*)  SUM(UNITS)",
+        "------  --------  ----------",
+        "NULL           1           5",
+        "north          2          10",
+        "south          1          -2",
+    ),
+]
+
 FILES = [
     *both("a plain file", "sales.csv", SALES, TABLE[:-1], BY_REGION, ["REGION | COUNT(*) | SUM(UNITS)", "NULL | 1 | 5", "'north' | 2 | 10", "'south' | 1 | -2"]),
     *both(
@@ -233,6 +253,8 @@ WORDS = [
     words("two files of a schema", "schema", ["sales.csv", "more.csv"], "one FILE is wanted, and more.csv comes after it"),
     words("an option that is not there", "query", ["--strict", "Q", "sales.csv"], "there is no option '--strict'"),
     words("an option of one letter", "query", ["-d", "Q", "sales.csv"], "there is no option '-d'"),
+    words("a form of a schema", "schema", ["--format", "csv", "sales.csv"], "there is no option '--format'"),
+    words("a form that there is not", "query", ["--format=xml", "Q", "sales.csv"], "'--format' takes classic, csv, json or table"),
     words("workers of a schema", "schema", ["--workers", "2", "sales.csv"], "there is no option '--workers'"),
     words("rows of a schema", "schema", ["--rows=2", "sales.csv"], "there is no option '--rows'"),
     words("an option without a value", "query", ["Q", "sales.csv", "--null"], "'--null' takes a value"),
@@ -258,4 +280,4 @@ WORDS = [
     Case("help tells of query and schema", ["--help"], output=Text(has="\n  olap query 'SELECT ..' FILE...  answers ")),
 ]
 
-CASES = [*FILES, *FAULTS, *WORDS]
+CASES = [*FILES, *FORMS, *FAULTS, *WORDS]
