@@ -61,7 +61,7 @@ pub enum OptionFault<'w> {
     TooManyFiles(usize),
     #[error("a text of the query has a line break, which a script can't have")]
     LineBreak,
-    #[error("no memory")]
+    #[error("out of memory")]
     OutOfMemory,
 }
 
