@@ -43,12 +43,12 @@ turned_all viewing k fault watches none memory (inl late) = absurd (memory late)
 turned_all {form = form} viewing k fault watches none memory (inr says) = subst (Attend form viewing (Some k) (Turned fault)) (sym none) (turned (says []))
 
 -- they attend once they were started or turned away
-pub attended_begun : {T E : Type 0} {form : Form} (asked : Option Viewing) (viewing : Viewing) (desk : Option Editions) (k : Editions) (stage : Stage) (watches : List Watch) (result : Result T E) →
+pub attended_begun : {T E : Type 0} (form : Form) (asked : Option Viewing) (viewing : Viewing) (desk : Option Editions) (k : Editions) (stage : Stage) (watches : List Watch) (result : Result T E) →
     asked ≡ Some viewing → desk ≡ Some k → OnOk result (Attend form viewing (Some k) stage watches) → OnOk result (stage ≡ Expected → ⊥) → OnOk result (HasAttended form asked desk stage watches)
-attended_begun None viewing desk k stage watches result same there attend late = absurd cc
-attended_begun (Some other) viewing None k stage watches result same there attend late = absurd cc
-attended_begun (Some other) viewing (Some l) k stage watches (Err e) same there attend late = tt
-attended_begun {form = form} (Some other) viewing (Some l) k stage watches (Ok x) same there attend late =
+attended_begun form None viewing desk k stage watches result same there attend late = absurd cc
+attended_begun form (Some other) viewing None k stage watches result same there attend late = absurd cc
+attended_begun form (Some other) viewing (Some l) k stage watches (Err e) same there attend late = tt
+attended_begun form (Some other) viewing (Some l) k stage watches (Ok x) same there attend late =
     let one : viewing ≡ other = cc in
     let kept : k ≡ l = cc in
     record {
@@ -81,9 +81,9 @@ pub record CameBack (form : Form) (viewing : Viewing) (k : Editions) (watcher : 
   pub plan : MeansPlan (keeper.schema k) viewing.query watcher.question.plan
   pub many : length watcher.shots ≡ viewing.shots
 
-pub came_back : {form : Form} (viewing : Viewing) (k : Editions) (old new : List Watch) (result : Result Watching Want) → ComesBack old new result → AllByRecursion (IsStarted form viewing k) old →
+pub came_back : (form : Form) (viewing : Viewing) (k : Editions) (old new : List Watch) (result : Result Watching Want) → ComesBack old new result → AllByRecursion (IsStarted form viewing k) old →
     IfOk result (CameBack form viewing k)
-came_back {form = form} viewing k old new result back all =
+came_back form viewing k old new result back all =
     let started = (subst (AllByRecursion (IsStarted form viewing k)) back.first all).0 in
     IfOk-weaker result _ _ (λ watcher has. record {
       own = record { board = has.board ∙ started.board; schema = has.schema ∙ started.schema };
@@ -93,9 +93,9 @@ came_back {form = form} viewing k old new result back all =
     }) back.watched
 
 -- one fewer is left, and each of them was started
-pub left_back : {form : Form} (viewing : Viewing) (k : Editions) (old new : List Watch) (result : Result Watching Want) → ComesBack old new result → AllByRecursion (IsStarted form viewing k) old →
+pub left_back : (form : Form) (viewing : Viewing) (k : Editions) (old new : List Watch) (result : Result Watching Want) → ComesBack old new result → AllByRecursion (IsStarted form viewing k) old →
     AllByRecursion (IsStarted form viewing k) new × (length old ≡ suc (length new))
-left_back {form = form} viewing k old new result back all = ((subst (AllByRecursion (IsStarted form viewing k)) back.first all).1, ap length back.first)
+left_back form viewing k old new result back all = ((subst (AllByRecursion (IsStarted form viewing k)) back.first all).1, ap length back.first)
 
 -- blocks that any of them might have
 pub some_back : {form : Form} (givens : Givens) (before : Lines) (viewing : Viewing) (k : Editions) (old new : List Watch) (result : Result Watching Want) → Keeps givens before k → ComesBack old new result → AllByRecursion (IsStarted form viewing k) old →

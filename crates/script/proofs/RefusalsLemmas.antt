@@ -64,23 +64,29 @@ json_apart number (Part part at) rest same =
     apart_at 2 101 114 (codes ",\"edition\":" ++ rest) (codes "," ++ (fault_members (Part part at) ++ codes "}\n")) (one_rest (codes "{\"line\":") number _ _ same) refl refl (λ e. omega (arith, e))
 
 -- two forms differ in the first byte or in that behind `line`
+apart_classic : (other : Form) (number edition : ℕ) (fault : Fault) (rest : List ℕ) → heading Classic number edition ++ rest ≡ refusal other number fault → ⊥
+apart_classic Classic number edition fault rest same = classic_apart number fault ((decimal edition ++ newline) ++ rest) (sym (behind (codes "line ") number (codes " edition ") (decimal edition) newline rest) ∙ same)
+apart_classic Csv number edition fault rest same = apart_at 4 32 44 _ _ same refl refl (λ e. omega (arith, e))
+apart_classic Json number edition fault rest same = apart_at 0 108 123 _ _ same refl refl (λ e. omega (arith, e))
+apart_classic Table number edition fault rest same = classic_apart number fault ((decimal edition ++ newline) ++ rest) (sym (behind (codes "line ") number (codes " edition ") (decimal edition) newline rest) ∙ same)
+
+apart_csv : (other : Form) (number edition : ℕ) (fault : Fault) (rest : List ℕ) → heading Csv number edition ++ rest ≡ refusal other number fault → ⊥
+apart_csv Classic number edition fault rest same = apart_at 4 44 32 _ _ same refl refl (λ e. omega (arith, e))
+apart_csv Csv number edition fault rest same = csv_apart number fault ((decimal edition ++ newline) ++ rest) (sym (behind (codes "line,") number (codes ",edition,") (decimal edition) newline rest) ∙ same)
+apart_csv Json number edition fault rest same = apart_at 0 108 123 _ _ same refl refl (λ e. omega (arith, e))
+apart_csv Table number edition fault rest same = apart_at 4 44 32 _ _ same refl refl (λ e. omega (arith, e))
+
+apart_json : (other : Form) (number edition : ℕ) (fault : Fault) (rest : List ℕ) → heading Json number edition ++ rest ≡ refusal other number fault → ⊥
+apart_json Classic number edition fault rest same = apart_at 0 123 108 _ _ same refl refl (λ e. omega (arith, e))
+apart_json Csv number edition fault rest same = apart_at 0 123 108 _ _ same refl refl (λ e. omega (arith, e))
+apart_json Json number edition fault rest same = json_apart number fault ((decimal edition ++ codes ",") ++ rest) (sym (behind (codes "{\"line\":") number (codes ",\"edition\":") (decimal edition) (codes ",") rest) ∙ same)
+apart_json Table number edition fault rest same = apart_at 0 123 108 _ _ same refl refl (λ e. omega (arith, e))
+
 apart : (form other : Form) (number edition : ℕ) (fault : Fault) (rest : List ℕ) → heading form number edition ++ rest ≡ refusal other number fault → ⊥
-apart Classic Classic number edition fault rest same = classic_apart number fault ((decimal edition ++ newline) ++ rest) (sym (behind (codes "line ") number (codes " edition ") (decimal edition) newline rest) ∙ same)
-apart Classic Csv number edition fault rest same = apart_at 4 32 44 _ _ same refl refl (λ e. omega (arith, e))
-apart Classic Json number edition fault rest same = apart_at 0 108 123 _ _ same refl refl (λ e. omega (arith, e))
-apart Classic Table number edition fault rest same = classic_apart number fault ((decimal edition ++ newline) ++ rest) (sym (behind (codes "line ") number (codes " edition ") (decimal edition) newline rest) ∙ same)
-apart Csv Classic number edition fault rest same = apart_at 4 44 32 _ _ same refl refl (λ e. omega (arith, e))
-apart Csv Csv number edition fault rest same = csv_apart number fault ((decimal edition ++ newline) ++ rest) (sym (behind (codes "line,") number (codes ",edition,") (decimal edition) newline rest) ∙ same)
-apart Csv Json number edition fault rest same = apart_at 0 108 123 _ _ same refl refl (λ e. omega (arith, e))
-apart Csv Table number edition fault rest same = apart_at 4 44 32 _ _ same refl refl (λ e. omega (arith, e))
-apart Json Classic number edition fault rest same = apart_at 0 123 108 _ _ same refl refl (λ e. omega (arith, e))
-apart Json Csv number edition fault rest same = apart_at 0 123 108 _ _ same refl refl (λ e. omega (arith, e))
-apart Json Json number edition fault rest same = json_apart number fault ((decimal edition ++ codes ",") ++ rest) (sym (behind (codes "{\"line\":") number (codes ",\"edition\":") (decimal edition) (codes ",") rest) ∙ same)
-apart Json Table number edition fault rest same = apart_at 0 123 108 _ _ same refl refl (λ e. omega (arith, e))
-apart Table Classic number edition fault rest same = apart Classic Classic number edition fault rest same
-apart Table Csv number edition fault rest same = apart Classic Csv number edition fault rest same
-apart Table Json number edition fault rest same = apart Classic Json number edition fault rest same
-apart Table Table number edition fault rest same = apart Classic Classic number edition fault rest same
+apart Classic other number edition fault rest same = apart_classic other number edition fault rest same
+apart Csv other number edition fault rest same = apart_csv other number edition fault rest same
+apart Json other number edition fault rest same = apart_json other number edition fault rest same
+apart Table other number edition fault rest same = apart_classic other number edition fault rest same
 
 pub no_refusal_headed : (form : Form) (number edition : ℕ) (rest : List ℕ) → IsRefusal number (heading form number edition ++ rest) → ⊥
 no_refusal_headed form number edition rest is = apart form is.form number edition is.fault rest is.is
@@ -94,9 +100,9 @@ pub quiet_laid : {form : Form} (old new : Editions) (left : Rows) (number : ℕ)
 quiet_laid old new left number bytes (inl lays) = inl lays.nothing
 quiet_laid {form = form} old new left number bytes (inr over) = inr (record { form = form; fault = Line TooManyRows; is = over.refused })
 
-pub quiet_loaded : {form : Form} (old new : Editions) (held : Result (List RowValue) Fault) (number : ℕ) (bytes : List ℕ) → LoadsRows form old new held number bytes → IsQuiet number bytes
-quiet_loaded old new (Ok rs) number bytes loads = quiet_laid old new _ number bytes loads
-quiet_loaded {form = form} old new (Err fault) number bytes (unchanged, text) = inr (record { form = form; fault = fault; is = text })
+pub quiet_loaded : (form : Form) (old new : Editions) (held : Result (List RowValue) Fault) (number : ℕ) (bytes : List ℕ) → LoadsRows form old new held number bytes → IsQuiet number bytes
+quiet_loaded form old new (Ok rs) number bytes loads = quiet_laid old new _ number bytes loads
+quiet_loaded form old new (Err fault) number bytes (unchanged, text) = inr (record { form = form; fault = fault; is = text })
 
-pub quiet_refusal : {form : Form} (number : ℕ) (fault : Fault) (bytes : List ℕ) → bytes ≡ refusal form number fault → IsQuiet number bytes
-quiet_refusal {form = form} number fault bytes is = inr (record { form = form; fault = fault; is = is })
+pub quiet_refusal : (form : Form) (number : ℕ) (fault : Fault) (bytes : List ℕ) → bytes ≡ refusal form number fault → IsQuiet number bytes
+quiet_refusal form number fault bytes is = inr (record { form = form; fault = fault; is = is })

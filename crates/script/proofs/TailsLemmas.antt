@@ -209,9 +209,9 @@ module _ (First Second : List ℕ → Type 0) (a b c : Option (List ℕ)) where
 -- ---- how far viewers are
 
 -- they stay so as long as the keeper stays
-started_stays : {form : Form} (viewing : Viewing) (k new : Editions) (watches : List Watch) → Stays (Some k) (Some new) → AllByRecursion (IsStarted form viewing k) watches → AllByRecursion (IsStarted form viewing new) watches
-started_stays viewing k new [] stays all = tt
-started_stays viewing k new (watch ∷ more) stays (is, all) = (
+started_stays : (form : Form) (viewing : Viewing) (k new : Editions) (watches : List Watch) → Stays (Some k) (Some new) → AllByRecursion (IsStarted form viewing k) watches → AllByRecursion (IsStarted form viewing new) watches
+started_stays form viewing k new [] stays all = tt
+started_stays form viewing k new (watch ∷ more) stays (is, all) = (
   record {
     board = is.board ∙ sym stays.board;
     schema = is.schema ∙ sym stays.schema;
@@ -220,7 +220,7 @@ started_stays viewing k new (watch ∷ more) stays (is, all) = (
     none = is.none;
     count = is.count;
   },
-  started_stays viewing k new more stays all,
+  started_stays form viewing k new more stays all,
 )
 
 attend_stays : {form : Form} (viewing : Viewing) (old new : Option Editions) (stage : Stage) (watches : List Watch) → Stays old new → Attend form viewing old stage watches → Attend form viewing new stage watches
@@ -228,7 +228,7 @@ attend_stays viewing old new stage watches stays expected = expected
 attend_stays viewing (Some k) None stage watches stays (turned says) = absurd stays
 attend_stays viewing (Some k) (Some l) stage watches stays (turned {fault = fault} says) = turned (subst (λ t. Says t [] viewing.query (Err fault)) (sym stays.schema) says)
 attend_stays viewing (Some k) None stage watches stays (begun many all) = absurd stays
-attend_stays viewing (Some k) (Some l) stage watches stays (begun many all) = begun many (started_stays viewing k l watches stays all)
+attend_stays {form = form} viewing (Some k) (Some l) stage watches stays (begun many all) = begun many (started_stays form viewing k l watches stays all)
 
 pub may_attend : {form : Form} (asked : Option Viewing) (old new : Option Editions) (stage : Stage) (watches : List Watch) → Stays old new → HasAttended form asked old stage watches → MayAttend form asked new stage watches
 may_attend None old new stage watches stays has = tt
@@ -247,9 +247,9 @@ attended_none (Some viewing) desk stage watches is = absurd cc
 pub attended_late : {form : Form} (asked : Option Viewing) (desk : Option Editions) (stage : Stage) (watches : List Watch) → MayAttend form asked desk stage watches → (stage ≡ Expected → desk ≡ None) → HasAttended form asked desk stage watches
 attended_late asked desk stage watches attend late = record { attend = attend; declared = λ has is. late is }
 
-pub expected_nobody : {form : Form} (asked : Option Viewing) (viewing : Viewing) (desk : Option Editions) (stage : Stage) (watches : List Watch) → asked ≡ Some viewing → stage ≡ Expected → MayAttend form asked desk stage watches → watches ≡ []
-expected_nobody None viewing desk stage watches same is attend = absurd cc
-expected_nobody {form = form} (Some other) viewing desk stage watches same is attend = go attend is where
+pub expected_nobody : (form : Form) (asked : Option Viewing) (viewing : Viewing) (desk : Option Editions) (stage : Stage) (watches : List Watch) → asked ≡ Some viewing → stage ≡ Expected → MayAttend form asked desk stage watches → watches ≡ []
+expected_nobody form None viewing desk stage watches same is attend = absurd cc
+expected_nobody form (Some other) viewing desk stage watches same is attend = go attend is where
   go : {desk : Option Editions} {stage : Stage} {watches : List Watch} → Attend form other desk stage watches → stage ≡ Expected → watches ≡ []
   go expected is = refl
   go (turned says) is = absurd cc

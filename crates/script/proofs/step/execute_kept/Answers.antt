@@ -19,7 +19,7 @@ returns-in_ok-text-in-Ok-Load-clause-step g c =
     ap (λ t. deed (Some t) c.args.line.bytes.now) (sym c.schema.ensures) ∙ c.in-Ok-Load.ensures.exact
     ∙ ap (λ s. Ok (deed_of_statement c.schema.result.now s)) c.in-Ok-Load.field-0-is ∙ ap (λ t. Ok (Loads t c.in-Ok-Load.listing.now)) c.schema.ensures in
     rw c.quiet.ensures (steps_quiet g.H.KeyHash.hash_of given c.args.line.bytes.now c.args.line.number (Some c.args.keeper.now) (Some c.execute_load.new.keeper) c.in_ok-text-in-Ok-Load.text
-    (quiet_loaded _ _ _ c.args.line.number c.in_ok-text-in-Ok-Load.text.items c.in_ok-text-in-Ok-Load.ensures.step)
+    (quiet_loaded c.args.setup.now.form _ _ _ c.args.line.number c.in_ok-text-in-Ok-Load.text.items c.in_ok-text-in-Ok-Load.ensures.step)
     (executes_loads g.H.KeyHash.hash_of given c.args.line.bytes.now c.args.line.number c.args.keeper.now c.execute_load.new.keeper c.in-Ok-Load.listing.now c.in_ok-text-in-Ok-Load.text.items does c.later_puts_lie_over.ensures.over c.in_ok-text-in-Ok-Load.ensures.step))
 
 pub returns-in_err-text-in-Ok-Load-clause-worker : goal.returns-in_err-text-in-Ok-Load-clause-worker
@@ -93,5 +93,5 @@ pub returns-in-Err-clause-step : goal.returns-in-Err-clause-step
 returns-in-Err-clause-step g c =
     let given = givens_in c.args.setup.now.form c.args.setup.now.how.now.rows c.args.setup.now.parts.now in
     steps_as_quiet g.H.KeyHash.hash_of given c.args.line.bytes.now c.args.line.number (Some c.args.keeper.now) (Some c.args.keeper.now) c.refuse.result c.quiet_block-in-Err.result _ c.quiet_block-in-Err.ensures.found c.quiet_block-in-Err.ensures.memory
-    (IfOk-weaker c.refuse.result _ _ (λ bytes text. quiet_refusal c.args.line.number c.in-Err.fault bytes.items text) c.refuse.ensures.block)
+    (IfOk-weaker c.refuse.result _ _ (λ bytes text. quiet_refusal c.args.setup.now.form c.args.line.number c.in-Err.fault bytes.items text) c.refuse.ensures.block)
     (executes_refused_text g.H.KeyHash.hash_of given c.args.line.bytes.now c.args.line.number (Some c.args.keeper.now) c.in-Err.fault c.refuse.result (rw c.schema.ensures at c.in-Err.ensures.exact) c.refuse.ensures.memory c.refuse.ensures.block)
