@@ -145,8 +145,8 @@ CASES = [
     *refusals("csv", "line,NUMBER,refused,CODE,NAME\n"),
     *refusals("json", '{"line":NUMBER,"refused":CODE,"name":"NAME"}\n'),
     *refusals("table", "line NUMBER refused CODE\n"),
-    of_form("json", "a strict run stops", LINES, '{"line":1,"refused":1,"name":"NoTable"}\n', [PART], ("--strict",), status=1),
-    of_form("csv", "a strict run stops", LINES, "line,1,refused,1,NoTable\n", [PART], ("--strict",), status=1),
+    of_form("json", "a strict run stops", LINES, '{"line":1,"refused":1,"name":"NoTable"}\n', [PART], ("--strict",), status=1, errors="olap: stopped after a refused line\n"),
+    of_form("csv", "a strict run stops", LINES, "line,1,refused,1,NoTable\n", [PART], ("--strict",), status=1, errors="olap: stopped after a refused line\n"),
     of_form(
         "json",
         "reasons are told as ever",
