@@ -4,9 +4,9 @@ ghost use Rattle.cells.specs.declared.cell.Cell.TheVariants.{Null};
 ghost use Rattle.columns.specs.Coding.{Recode};
 
 use crate::quick_hash::quick_hash;
-use cells::{Cell, KeyHash};
+use cells::Cell;
 use std::alloc::{AllocError, Global};
-use std::marker::{Model, PhantomData};
+use std::marker::Model;
 
 /// No cell has this code.
 const NONE: u32 = u32::MAX;
@@ -50,14 +50,13 @@ impl KeptCells {
 /// Cells that come find their codes by hints, which rest on hashes. Nothing rests on the hints: a cell that they do not show
 /// may stand in the list twice.
 #[derive(Drop)]
-pub(crate) struct CellList<H: KeyHash<Cell>> {
+pub(crate) struct CellList {
     cells: Vec<Cell>,
     // codes of cells, each in one of a few slots from the one on to which its cell's hash points
     hints: Vec<u32>,
-    hash: PhantomData<H>,
 }
 
-impl<H: KeyHash<Cell>> Model for CellList<H> {
+impl Model for CellList {
     ghost use Rattle.std.specs.Prelude.{List};
     ghost use Rattle.std.specs.Coded.{codes};
     ghost use Rattle.cells.specs.Codes.{coded_cell};
@@ -70,15 +69,14 @@ impl<H: KeyHash<Cell>> Model for CellList<H> {
     ghost view = { λ l. l.cells.items };
 }
 
-impl<H: KeyHash<Cell>> CellList<H> {
+impl CellList {
     /// No cells. It takes no memory.
-    pub fn new(alloc: Global) -> CellList<H>
+    pub fn new(alloc: Global) -> CellList
         ensures { result ≡ [] }
     {
         CellList {
             cells: Vec::new(alloc),
             hints: Vec::new(alloc),
-            hash: PhantomData,
         }
     }
 

@@ -1,5 +1,5 @@
 //! One column.
-ghost use Rattle.std.specs.Prelude.{◌≡◌, ◌∷◌, ◌++◌, ◌<◌, [], List, None, Some, IfOk, OnOk, length};
+ghost use Rattle.std.specs.Prelude.{◌≡◌, ◌∷◌, ◌++◌, [], None, Some, IfOk, OnOk};
 ghost use Rattle.std.specs.Option.{option_copied};
 ghost use Rattle.columns.specs.Coding.{GivesList, Puts};
 ghost use Rattle.columns.specs.Columns.{AreCodes, cell_of, cells_of, decoded};
@@ -8,7 +8,7 @@ use crate::cell_list::CellList;
 use crate::kept_column::KeptColumn;
 use crate::number_code::{number_cell, number_code};
 use crate::span::Span;
-use cells::{Cell, KeyHash};
+use cells::Cell;
 use std::alloc::{AllocError, Global};
 use std::marker::Model;
 
@@ -19,15 +19,15 @@ const SHORT_BYTES: usize = 14;
 /// integers of 32 bits, the codes are those of [`number_cell`](crate::number_cell); from the first other cell on, a code is the index of its
 /// cell in a list of the column's different cells, of which it owns copies.
 #[derive(Drop)]
-pub struct CodeColumn<H: KeyHash<Cell>> {
+pub struct CodeColumn {
     alloc: Global,
     by_row: Vec<u32>,
-    list: Option<CellList<H>>,
+    list: Option<CellList>,
     // between which codes those of numbers lie
     numbers: Span,
 }
 
-impl<H: KeyHash<Cell>> Model for CodeColumn<H> {
+impl Model for CodeColumn {
     ghost use Rattle.std.specs.Coded.{codes};
     ghost use Rattle.cells.specs.Codes.{coded_cell};
     ghost use Rattle.columns.specs.Columns.{AreCodes, ColumnValue};
@@ -41,9 +41,9 @@ impl<H: KeyHash<Cell>> Model for CodeColumn<H> {
     ghost invariant = { λ c. AreCodes c.list c.by_row.items };
 }
 
-impl<H: KeyHash<Cell>> CodeColumn<H> {
+impl CodeColumn {
     /// No cells. It takes no memory.
-    pub fn new(alloc: Global) -> CodeColumn<H>
+    pub fn new(alloc: Global) -> CodeColumn
         ensures { result ≡ record { cells = None; by_row = [] } }
     {
         CodeColumn {
@@ -118,7 +118,7 @@ impl<H: KeyHash<Cell>> CodeColumn<H> {
 
     /// Puts the cells of another column after those that are there. Each different cell is looked up once. Errors are those
     /// of [`push`](CodeColumn::push).
-    pub fn append(&mut self, other: &CodeColumn<H>) -> Result<(), AllocError>
+    pub fn append(&mut self, other: &CodeColumn) -> Result<(), AllocError>
         ensures { OnOk result (Puts (cells_of other.now) self.old self.new) }
     {
         self.by_row.reserve(other.by_row.len())?;
@@ -225,7 +225,7 @@ impl<H: KeyHash<Cell>> CodeColumn<H> {
 
     /// The list of the different cells, which is taken out of the column, and made where there is none. Until the column has it
     /// again, its codes are not those of numbers.
-    fn take_list(&mut self) -> Result<CellList<H>, AllocError>
+    fn take_list(&mut self) -> Result<CellList, AllocError>
         ensures { IfOk result (λ list. GivesList self.old self.new list) }
     {
         self.codes_stand();
@@ -236,7 +236,7 @@ impl<H: KeyHash<Cell>> CodeColumn<H> {
     }
 
     /// A list of the different cells of a column that has none, whose codes become those of the list.
-    fn make_list(&mut self) -> Result<CellList<H>, AllocError>
+    fn make_list(&mut self) -> Result<CellList, AllocError>
         requires { self.old.cells ≡ None }
         ensures { IfOk result (λ list. GivesList self.old self.new list) }
     {
@@ -259,11 +259,7 @@ impl<H: KeyHash<Cell>> CodeColumn<H> {
 }
 
 /// Puts the code of a cell behind codes of a list, which is grown where the cell is not found.
-fn push_code_of<H: KeyHash<Cell>>(
-    list: &mut CellList<H>,
-    codes: &mut Vec<u32>,
-    cell: &Cell,
-) -> Result<(), AllocError>
+fn push_code_of(list: &mut CellList, codes: &mut Vec<u32>, cell: &Cell) -> Result<(), AllocError>
     requires { AreCodes (Some list.old) codes.old.items }
     ensures within { AreCodes (Some list.new) codes.new.items }
     ensures puts { OnOk result (decoded (Some list.new) codes.new.items ≡ decoded (Some list.old) codes.old.items ++ cell.now ∷ []) }

@@ -1,5 +1,5 @@
 //! The columns of rows.
-ghost use Rattle.std.specs.Prelude.{◌≡◌, ◌<◌, ◌∷◌, ◌++◌, ℕ, List, [], true, IfOk, IfSome, OnOk, length, slice_index_or};
+ghost use Rattle.std.specs.Prelude.{◌≡◌, ◌<◌, ◌∷◌, ◌++◌, ℕ, List, [], true, IfOk, IfSome, OnOk, length};
 ghost use Rattle.std.specs.Option.{is_some, option_copied};
 ghost use Rattle.cells.specs.Values.{RowValue};
 ghost use Rattle.columns.specs.Beside.{ArePlacesFor};
@@ -19,11 +19,11 @@ use trie::{Beside, Piece, Visitor};
 
 /// Columns of rows: those of some indexes, the others are left out. Rows come one after another. It owns copies of the cells.
 #[derive(Drop)]
-pub struct Columns<H: KeyHash<Cell>> {
-    columns: Vec<NamedColumn<H>>,
+pub struct Columns {
+    columns: Vec<NamedColumn>,
 }
 
-impl<H: KeyHash<Cell>> Model for Columns<H> {
+impl Model for Columns {
     ghost use Rattle.std.specs.Coded.{codes};
     ghost use Rattle.cells.specs.Codes.{coded_cell};
     ghost use Rattle.columns.specs.Columns.{ColumnsValue};
@@ -35,9 +35,9 @@ impl<H: KeyHash<Cell>> Model for Columns<H> {
     ghost view = { λ c. c.columns.items };
 }
 
-impl<H: KeyHash<Cell>> Columns<H> {
+impl Columns {
     /// Columns of no rows, one for each of the indexes, which may be named more than once.
-    pub fn of_named(alloc: Global, named: &[usize]) -> Result<Columns<H>, AllocError>
+    pub fn of_named(alloc: Global, named: &[usize]) -> Result<Columns, AllocError>
         ensures none { IfOk result (Hold []) }
         ensures named { IfOk result (HaveAll named.now) }
     {
@@ -51,7 +51,7 @@ impl<H: KeyHash<Cell>> Columns<H> {
     }
 
     /// The column of the index; None where it was left out. It takes no memory.
-    pub fn at(&self, index: usize) -> Option<&CodeColumn<H>>
+    pub fn at(&self, index: usize) -> Option<&CodeColumn>
         ensures there { is_some result ≡ has self.now index }
         ensures cells { (rows : List RowValue) → Hold rows self.now → IfSome (option_copied result) (λ column. cells_of column ≡ cells_at index rows) }
     {
@@ -77,7 +77,7 @@ impl<H: KeyHash<Cell>> Columns<H> {
 
     /// Puts the rows of a piece of a table behind those that are there, in the order in which they are walked. After an error,
     /// which is that a growth was refused, nothing is known of the columns.
-    pub fn take<S: Beside<Cell, Row>>(
+    pub fn take<H: KeyHash<Cell>, S: Beside<Cell, Row>>(
         &mut self,
         piece: &Piece<Cell, Row, H, S>,
     ) -> Result<(), AllocError>
@@ -90,7 +90,7 @@ impl<H: KeyHash<Cell>> Columns<H> {
 
     /// The same by the columns that lie beside the piece, where it has a place for them. Those that are not there yet are laid
     /// out, and stay beside it. It tells how many columns were laid out; where the piece has no place these are all.
-    pub fn take_kept<R: Wait>(
+    pub fn take_kept<H: KeyHash<Cell>, R: Wait>(
         &mut self,
         rt: &R,
         alloc: Global,
@@ -112,7 +112,7 @@ impl<H: KeyHash<Cell>> Columns<H> {
 
     /// These columns with the rows of other ones of the same table behind their own. A column that the other ones have not is
     /// left out. The only error is that a growth was refused.
-    pub fn with(self, alloc: Global, other: &Columns<H>) -> Result<Columns<H>, AllocError>
+    pub fn with(self, alloc: Global, other: &Columns) -> Result<Columns, AllocError>
         ensures held { (rows more : List RowValue) → Hold rows self → Hold more other.now → IfOk result (Hold (rows ++ more)) }
         ensures has { (index : ℕ) → has self index ≡ true → has other.now index ≡ true → IfOk result (λ both. has both index ≡ true) }
     {
@@ -154,7 +154,7 @@ impl<H: KeyHash<Cell>> Columns<H> {
     }
 
     /// Puts the cells of a piece's rows behind those of the column at the place, by what lies beside the piece.
-    fn take_kept_at<R: Wait>(
+    fn take_kept_at<H: KeyHash<Cell>, R: Wait>(
         &mut self,
         rt: &R,
         alloc: Global,
@@ -187,7 +187,7 @@ impl<H: KeyHash<Cell>> Columns<H> {
     }
 }
 
-impl<H: KeyHash<Cell>> Visitor<Cell, Row> for Columns<H> {
+impl Visitor<Cell, Row> for Columns {
     ghost use Rattle.std.specs.Prelude.{⊤};
     ghost use Rattle.columns.specs.Coding.{TakesRow};
 

@@ -19,15 +19,15 @@ const NEAR_CELLS: usize = 4;
 
 /// A column, and the index that it has in the rows.
 #[derive(Drop)]
-pub(crate) struct NamedColumn<H: KeyHash<Cell>> {
+pub(crate) struct NamedColumn {
     pub index: usize,
-    pub column: CodeColumn<H>,
+    pub column: CodeColumn,
     // how many cells the last row had, and what was seen of cells that were looked at; nothing rests on them
     width: usize,
     seen: u64,
 }
 
-impl<H: KeyHash<Cell>> Model for NamedColumn<H> {
+impl Model for NamedColumn {
     ghost use Rattle.std.specs.Prelude.{ℕ};
     ghost use Rattle.std.specs.Coded.{codes};
     ghost use Rattle.cells.specs.Codes.{coded_cell};
@@ -40,9 +40,9 @@ impl<H: KeyHash<Cell>> Model for NamedColumn<H> {
     ghost view = { λ c. (c.index, c.column) };
 }
 
-impl<H: KeyHash<Cell>> NamedColumn<H> {
+impl NamedColumn {
     /// No cells. It takes no memory.
-    pub fn new(alloc: Global, index: usize) -> NamedColumn<H>
+    pub fn new(alloc: Global, index: usize) -> NamedColumn
         ensures { result ≡ (index, record { cells = None; by_row = [] }) }
     {
         NamedColumn {
@@ -78,7 +78,7 @@ impl<H: KeyHash<Cell>> NamedColumn<H> {
     }
 
     /// Puts the cells of a piece's rows behind those that are there.
-    pub fn take_all<S: Beside<Cell, Row>>(
+    pub fn take_all<H: KeyHash<Cell>, S: Beside<Cell, Row>>(
         &mut self,
         piece: &Piece<Cell, Row, H, S>,
     ) -> Result<(), AllocError>
@@ -89,7 +89,7 @@ impl<H: KeyHash<Cell>> NamedColumn<H> {
     }
 
     /// The same by the column that lies beside the piece, or, where memory for that was refused, by one of its own.
-    pub fn take_kept<R: Wait>(
+    pub fn take_kept<H: KeyHash<Cell>, R: Wait>(
         &mut self,
         rt: &R,
         alloc: Global,
@@ -110,7 +110,7 @@ impl<H: KeyHash<Cell>> NamedColumn<H> {
     }
 
     /// The column with the cells of another one of the same index behind its own.
-    pub fn with(self, other: &CodeColumn<H>) -> Result<NamedColumn<H>, AllocError>
+    pub fn with(self, other: &CodeColumn) -> Result<NamedColumn, AllocError>
         ensures index { IfOk result (λ n. n.0 ≡ self.0) }
         ensures puts { (more : List RowValue) → cells_of other.now ≡ cells_at self.0 more → IfOk result (PutsFor (λ index. cells_at index more) self) }
     {
@@ -129,7 +129,7 @@ impl<H: KeyHash<Cell>> NamedColumn<H> {
     }
 }
 
-impl<H: KeyHash<Cell>> Visitor<Cell, Row> for NamedColumn<H> {
+impl Visitor<Cell, Row> for NamedColumn {
     ghost use Rattle.std.specs.Prelude.{⊤, ◌∷◌, []};
     ghost use Rattle.columns.specs.Coding.{PutsFor};
     ghost use Rattle.columns.specs.Columns.{cells_at};

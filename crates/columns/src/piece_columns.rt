@@ -179,7 +179,7 @@ pub(crate) fn laid_out<H: KeyHash<Cell>>(
     ensures { IfOk result (λ column. cells_of column ≡ cells_at index (rows_of piece.now)) }
 {
     laid.fetch_add(1, SeqCst);
-    let mut column = NamedColumn::<H>::new(alloc, index);
+    let mut column = NamedColumn::new(alloc, index);
     column.take_all(piece)?;
     Ok(column.column.kept())
 }

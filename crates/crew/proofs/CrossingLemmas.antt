@@ -4,7 +4,7 @@ use denote.Param.Send.{IsSend, IsSync, sendable}
 use denote.RattleType.{RattleType}
 use denote.Ref.{NamedLft}
 use Rattle.std.proofs.Crossing.{crosses}
-use Rattle.std.proofs.MapsCrossing.{HashMap-send, HashMap-sync}
+use Rattle.std.proofs.MapsCrossing.{HashMap-send}
 use Rattle.aggs.specs.contracts.acc.Acc as Acc
 use Rattle.aggs.specs.contracts.distinct.CountDistinct as CountDistinct
 use Rattle.cells.specs.Crossing.{cell_send, cell_sync, tuple_send}
@@ -25,6 +25,15 @@ use Rattle.trie.specs.Crossing.{node_send}
 aggregation_send : IsSend Aggregation.the_field.row
 aggregation_send = search (sendable, crosses) depth 40
 
+column_sync : IsSync CodeColumn.the_field.row
+column_sync = let cell = cell_sync in search (sendable, crosses) depth 40
+
+named_sync : IsSync NamedColumn.the_field.row
+named_sync = let column = column_sync in search (sendable, crosses) depth 40
+
+columns_sync : IsSync Columns.the_field.row
+columns_sync = let column = named_sync in search (sendable, crosses) depth 40
+
 -- ---- what is folded, and the work itself
 module _ (H : RattleType) (cells : KeyHash.Ghosts H.Denot Cell) (s : IsSend H) (y : IsSync H) where
   distinct_send : IsSend (CountDistinct.the_field H cells).row
@@ -44,15 +53,6 @@ module _ (H : RattleType) (cells : KeyHash.Ghosts H.Denot Cell) (s : IsSend H) (
 
   pub folding_send : (life : NamedLft) → IsSend (Folding.the_field life H cells).row
   folding_send life = let plan = plan_sync in let aggregation = aggregation_send in let set_bag = set_bag_send in search (sendable, crosses) depth 40
-
-  column_sync : IsSync (CodeColumn.the_field H cells).row
-  column_sync = let cell = cell_sync in search (HashMap-sync, sendable, crosses) depth 40
-
-  named_sync : IsSync (NamedColumn.the_field H cells).row
-  named_sync = let column = column_sync in search (sendable, crosses) depth 40
-
-  columns_sync : IsSync (Columns.the_field H cells).row
-  columns_sync = let column = named_sync in search (sendable, crosses) depth 40
 
   pub listing_sync : (life list : NamedLft) → IsSync (Listing.the_field life list H cells).row
   listing_sync life list = let plan = plan_sync in let columns = columns_sync in search (sendable, crosses) depth 40

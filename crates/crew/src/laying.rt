@@ -37,7 +37,7 @@ pub fn columns_of<
     named: &[usize],
     workers: u64,
     gate: &G,
-) -> Result<Columns<H>, Refused>
+) -> Result<Columns, Refused>
     requires pieces { length pieces.now ≤ piece_limit }
     ensures held { IfOk result (HoldAll (rows_in pieces.now)) }
     ensures named { IfOk result (HaveAll named.now) }
@@ -59,7 +59,7 @@ fn parts_of<'a, H: KeyHash<Cell> + Send + Sync, G: Gate, R: Threads + Wait + Syn
     alloc: Global,
     laying: &Laying<'a, H, G, R>,
     workers: u64,
-) -> Result<Vec<Columns<H>>, Refused>
+) -> Result<Vec<Columns>, Refused>
     requires pieces { length laying.now.pieces.now ≤ piece_limit }
     ensures shared { IfOk result (λ v. AreShared (λ places. LaidOut laying.now.named.now (rows_at laying.now.pieces.now places)) (length laying.now.pieces.now) v.items) }
     ensures workers { IfOk result (λ v. vec_len v ≡ min (workers_of workers) (length laying.now.pieces.now)) }
@@ -95,17 +95,17 @@ impl<'a, H: KeyHash<Cell> + Send + Sync, G: Gate, R: Wait + Sync> Task for Layin
     ghost use Rattle.crew.specs.Gathering.{rows_at};
     ghost use Rattle.crew.specs.Laying.{LaidOut};
 
-    type Made = Columns<H>;
+    type Made = Columns;
 
     ghost count = { λ l. length l.pieces.now };
 
     ghost makes = { λ l places made. LaidOut l.named.now (rows_at l.pieces.now places) made };
 
-    fn begin(&self, alloc: Global) -> Result<Columns<H>, AllocError> {
+    fn begin(&self, alloc: Global) -> Result<Columns, AllocError> {
         Columns::of_named(alloc, self.named)
     }
 
-    fn take(&self, alloc: Global, made: &mut Columns<H>, place: u64) -> Result<(), AllocError> {
+    fn take(&self, alloc: Global, made: &mut Columns, place: u64) -> Result<(), AllocError> {
         self.gate.entered(place);
         let taken = made.take_kept(self.rt, alloc, self.piece(place));
         self.gate.left(place);
@@ -120,8 +120,8 @@ impl<'a, H: KeyHash<Cell> + Send + Sync, G: Gate, R: Wait + Sync> Task for Layin
 fn appended<'a, H: KeyHash<Cell>, G, R>(
     alloc: Global,
     laying: &Laying<'a, H, G, R>,
-    parts: Vec<Columns<H>>,
-) -> Result<Columns<H>, AllocError>
+    parts: Vec<Columns>,
+) -> Result<Columns, AllocError>
     requires { AreShared (λ places. LaidOut laying.now.named.now (rows_at laying.now.pieces.now places)) (length laying.now.pieces.now) parts.items }
     ensures { IfOk result (LaidOutAll laying.now.named.now (rows_in laying.now.pieces.now)) }
 {

@@ -1,5 +1,5 @@
 //! The groups of rows whose columns are at hand, which workers gather list by list.
-ghost use Rattle.std.specs.Prelude.{◌≡◌, ◌<◌, ◌≤◌, ◌⊎◌, ◌++◌, ◌∷◌, ℕ, List, [], length, min, vec_len, IfErr, IfOk};
+ghost use Rattle.std.specs.Prelude.{◌≡◌, ◌<◌, ◌⊎◌, ◌++◌, ◌∷◌, ℕ, List, [], length, min, vec_len, IfErr, IfOk};
 ghost use Rattle.cells.specs.Values.{RowValue};
 ghost use Rattle.cells.specs.declared.refused.Refused.TheVariants as Refused;
 ghost use Rattle.columns.specs.Columns.{Hold};
@@ -20,7 +20,7 @@ use columns::Columns;
 use groups::{Dealt, Folding, deal_out};
 use query::Plan;
 use std::alloc::{AllocError, Global};
-use std::marker::Model;
+use std::marker::{Model, PhantomData};
 use std::mem;
 use std::sync::Wait;
 use std::thread::Threads;
@@ -43,7 +43,7 @@ pub fn gather_rows<'a, H: KeyHash<Cell> + KeyHash<Tuple> + Send + Sync, R: Threa
     rt: &R,
     alloc: Global,
     plan: &'a Plan,
-    columns: &Columns<H>,
+    columns: &Columns,
     count: u64,
     workers: u64,
 ) -> Result<Folding<'a, H>, Refused>
@@ -66,7 +66,7 @@ fn gather_lists<'a, H: KeyHash<Cell> + KeyHash<Tuple> + Send + Sync, R: Threads 
     rt: &R,
     alloc: Global,
     plan: &'a Plan,
-    columns: &Columns<H>,
+    columns: &Columns,
     count: u64,
     dealt: &Dealt,
     workers: u64,
@@ -85,6 +85,7 @@ fn gather_lists<'a, H: KeyHash<Cell> + KeyHash<Tuple> + Send + Sync, R: Threads 
         count,
         lists: dealt.lists.as_slice(),
         apart: dealt.apart,
+        hash: PhantomData,
     };
     let foldings = list_foldings(rt, alloc, &listing, workers)?;
     Ok(joined(alloc, plan, foldings)?)
@@ -121,12 +122,14 @@ fn list_count(count: u64, workers: u64) -> u64
 #[derive(Drop)]
 struct Listing<'a, 'l, H: KeyHash<Cell>> {
     plan: &'a Plan,
-    columns: &'l Columns<H>,
+    columns: &'l Columns,
     // how many rows the columns hold
     count: u64,
     lists: &'l [Vec<u32>],
     // whether rows of one tuple stand in one list, as far as is known
     apart: bool,
+    // by which foldings hash
+    hash: PhantomData<H>,
 }
 
 impl<'a, 'l, H: KeyHash<Cell>> Model for Listing<'a, 'l, H> {

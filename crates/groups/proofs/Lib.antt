@@ -12,6 +12,7 @@ pub mod OrderLemmas
 pub mod PartingLemmas
 pub mod NumberedLemmas
 pub mod NeededLemmas
+pub mod TakenLemmas
 pub mod TallyingLemmas
 pub mod DifferingLemmas
 pub mod ColumnarLemmas

@@ -3,7 +3,7 @@ ghost use Rattle.std.specs.Prelude.{◌≡◌, ◌<◌, ◌∷◌, [], List, tru
 ghost use Rattle.std.specs.List.{AllByRecursion};
 ghost use Rattle.cells.specs.Values.{RowValue};
 ghost use Rattle.columns.specs.Columns.{HaveAll, Hold, has};
-ghost use Rattle.groups.specs.Groups.{cell_at, is_true, tuple_of};
+ghost use Rattle.groups.specs.Groups.{cell_at, tuple_of};
 ghost use Rattle.groups.specs.Keeping.{KeptBy, truth_for};
 ghost use Rattle.groups.specs.Numbered.{HaveRows, no_row};
 ghost use Rattle.query.specs.Naming.{columns_named};
@@ -11,7 +11,7 @@ ghost use Rattle.query.specs.Naming.{columns_named};
 use crate::keeping::put_cells_for;
 use crate::needed::column_of;
 use crate::numbered::most_tuples;
-use cells::{Cell, KeyHash};
+use cells::Cell;
 use columns::Columns;
 use query::{Predicate, Truth, truth_by_columns};
 use std::alloc::{AllocError, Global};
@@ -20,16 +20,16 @@ use std::alloc::{AllocError, Global};
 const ROWS_PER_TUPLE: usize = 4;
 
 /// Whether the named columns may have more different tuples than are worth numbering for so many rows. Nothing rests on it.
-pub fn are_many<H: KeyHash<Cell>>(columns: &Columns<H>, named: &[usize], rows: usize) -> bool {
+pub fn are_many(columns: &Columns, named: &[usize], rows: usize) -> bool {
     most_tuples(columns, named) > rows / ROWS_PER_TUPLE
 }
 
 /// Those of the places whose rows the predicate is true for, which is asked of each. `named` are the columns that it names, and
 /// `width` is more than each of their indexes.
-pub fn asked_of_each<H: KeyHash<Cell>>(
+pub fn asked_of_each(
     alloc: Global,
     predicate: &Predicate<usize>,
-    columns: &Columns<H>,
+    columns: &Columns,
     named: &[usize],
     width: usize,
     places: &[u32],
@@ -70,9 +70,9 @@ fn is_true_for(
 }
 
 /// Puts the tuple of a row in the named columns in the place of all that is there.
-fn put_tuple<H: KeyHash<Cell>>(
+fn put_tuple(
     tuple: &mut Vec<Cell>,
-    columns: &Columns<H>,
+    columns: &Columns,
     named: &[usize],
     place: u32,
 ) -> Result<(), AllocError>
@@ -90,11 +90,7 @@ fn put_tuple<H: KeyHash<Cell>>(
 }
 
 /// The cell of a row in the column of the index.
-fn cell_of_row<H: KeyHash<Cell>>(
-    columns: &Columns<H>,
-    index: usize,
-    place: u32,
-) -> Result<Cell, AllocError>
+fn cell_of_row(columns: &Columns, index: usize, place: u32) -> Result<Cell, AllocError>
     requires row { HaveRows columns.now (place ∷ []) }
     requires there { has columns.now index ≡ true }
     ensures { (all : List RowValue) → Hold all columns.now →

@@ -1,6 +1,6 @@
 //! The groups of a set over rows whose columns are at hand: all rows are numbered by their groups first, and then each
 //! aggregate goes over its column (Boncz, Zukowski and Nes, MonetDB/X100, 2005).
-ghost use Rattle.std.specs.Prelude.{◌≡◌, ◌≤◌, ◌^◌, List, IfOk, ◌<◌, length, map};
+ghost use Rattle.std.specs.Prelude.{◌≡◌, List, IfOk, ◌<◌, length, map};
 ghost use Rattle.std.specs.List.{AllByRecursion, AllZip};
 ghost use Rattle.cells.specs.Values.{RowValue};
 ghost use Rattle.columns.specs.Columns.{HaveAll, Hold};
@@ -25,7 +25,7 @@ use std::alloc::{AllocError, Global};
 /// The sets of the sources, each with its bag over the rows of these indexes.
 pub fn sources_from<H: KeyHash<Cell>>(
     alloc: Global,
-    columns: &Columns<H>,
+    columns: &Columns,
     aggregations: &[Aggregation],
     rows: &[u32],
     sources: &[SetBag<H>],
@@ -49,7 +49,7 @@ pub fn sources_from<H: KeyHash<Cell>>(
 /// The bag of a set over the rows of these indexes.
 fn bag_of<H: KeyHash<Cell>>(
     alloc: Global,
-    columns: &Columns<H>,
+    columns: &Columns,
     set: &[usize],
     aggregations: &[Aggregation],
     rows: &[u32],
@@ -69,7 +69,7 @@ fn bag_of<H: KeyHash<Cell>>(
 /// The accumulators of each aggregate, in their order, for all groups.
 fn tallies<H: KeyHash<Cell>>(
     alloc: Global,
-    columns: &Columns<H>,
+    columns: &Columns,
     aggregations: &[Aggregation],
     rows: &[u32],
     groups: &NumberedRows,
@@ -91,7 +91,7 @@ fn tallies<H: KeyHash<Cell>>(
 /// The accumulators of an aggregate for all groups.
 fn tally<H: KeyHash<Cell>>(
     alloc: Global,
-    columns: &Columns<H>,
+    columns: &Columns,
     aggregation: &Aggregation,
     rows: &[u32],
     groups: &NumberedRows,

@@ -1,14 +1,12 @@
 //! Rows dealt out to lists, which workers fold side by side.
-ghost use Rattle.std.specs.Prelude.{◌≡◌, ◌<◌, ◌≤◌, ◌^◌, [], IfOk, IsPermutation, length, map, replicate};
+ghost use Rattle.std.specs.Prelude.{◌≡◌, ◌<◌, ◌≤◌, ◌^◌, [], IfOk, IsPermutation, length, replicate};
 ghost use Rattle.std.specs.List.{concat, range_with_len};
 ghost use Rattle.groups.specs.Dealing.{indexes_of};
 
 use crate::numbered::most_tuples;
-use crate::pool::SetBag;
-use crate::sources::sources_of;
-use cells::{Cell, KeyHash};
+use crate::set_columns::has_all;
 use columns::Columns;
-use query::{Item, Plan};
+use query::{GroupSet, Item, Plan};
 use std::alloc::{AllocError, Global};
 
 /// An odd number whose digits have no pattern: 2^64 over the golden ratio.
@@ -32,10 +30,10 @@ pub struct Dealt {
 /// The indexes of `count` rows, dealt out to so many lists, each to one of them. Where the plan has one grouping set, which may
 /// have many groups or counts different cells, rows are dealt by their tuples, so that what is folded of two lists has no group in
 /// common; else, or if a list would have far more than its share, in ranges. The only error is that a growth was refused.
-pub fn deal_out<H: KeyHash<Cell>>(
+pub fn deal_out(
     alloc: Global,
     plan: &Plan,
-    columns: &Columns<H>,
+    columns: &Columns,
     count: usize,
     lists: usize,
 ) -> Result<Dealt, AllocError>
@@ -45,8 +43,7 @@ pub fn deal_out<H: KeyHash<Cell>>(
     ensures long { IfOk result (λ d. length d.lists.items ≡ lists) }
 {
     let size = count.div_ceil(lists);
-    let sources = sources_of(alloc, plan.sets())?;
-    let set = set_to_deal_by(sources.as_slice(), plan, columns, count, lists);
+    let set = set_to_deal_by(plan, columns, count, lists);
     if !set.is_empty() {
         let by_tuple = Dealer { columns, set, size };
         let made = by_tuple.lists(alloc, count, lists)?;
@@ -70,17 +67,19 @@ pub fn deal_out<H: KeyHash<Cell>>(
 }
 
 /// The set by whose tuples rows are dealt out; the empty one if they are not. Nothing rests on it.
-fn set_to_deal_by<'s, H: KeyHash<Cell>>(
-    sources: &'s [SetBag<H>],
-    plan: &Plan,
-    columns: &Columns<H>,
+fn set_to_deal_by<'p>(
+    plan: &'p Plan,
+    columns: &Columns,
     count: usize,
     lists: usize,
-) -> &'s [usize] {
-    if lists < 2 || sources.len() != 1 {
+) -> &'p [usize] {
+    if lists < 2 {
         return &[];
     }
-    let set = sources[0].set.as_slice();
+    let Some(finest) = finest_set(plan.sets()) else {
+        return &[];
+    };
+    let set = finest.columns.as_slice();
     let counts_different = plan
         .items()
         .iter()
@@ -97,6 +96,16 @@ fn set_to_deal_by<'s, H: KeyHash<Cell>>(
     }
 }
 
+/// The set that has all columns of each of the sets, if one has. Nothing rests on it.
+fn finest_set(sets: &[GroupSet]) -> Option<&GroupSet> {
+    sets.iter().find(|set| is_finest(set, sets))
+}
+
+/// Whether the set has all columns of each of the sets. Nothing rests on it.
+fn is_finest(set: &GroupSet, sets: &[GroupSet]) -> bool {
+    sets.iter().all(|other| has_all(set.columns.as_slice(), other.columns.as_slice()))
+}
+
 /// Whether no list has far more rows than another. Nothing rests on it.
 fn are_even(lists: &[Vec<u32>], size: usize) -> bool {
     lists.iter().all(|list| list.len() / MOST_TO_EVEN <= size)
@@ -104,15 +113,15 @@ fn are_even(lists: &[Vec<u32>], size: usize) -> bool {
 
 /// How rows are dealt out.
 #[derive(Drop)]
-struct Dealer<'a, H: KeyHash<Cell>> {
-    columns: &'a Columns<H>,
+struct Dealer<'a> {
+    columns: &'a Columns,
     // by the tuples of which set; the empty one: in ranges
     set: &'a [usize],
     // how many rows a range has
     size: usize,
 }
 
-impl<H: KeyHash<Cell>> Dealer<'_, H> {
+impl Dealer<'_> {
     /// The indexes of `count` rows, each in one of the lists.
     fn lists(&self, alloc: Global, count: usize, lists: usize) -> Result<Vec<Vec<u32>>, AllocError>
         requires few { count ≤ 2 ^ 32 }

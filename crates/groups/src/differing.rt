@@ -22,7 +22,7 @@ pub fn tallied_different<H: KeyHash<Cell>>(
     count: usize,
     numbers: &[u32],
     rows: &[u32],
-    column: &CodeColumn<H>,
+    column: &CodeColumn,
 ) -> Result<Vec<Acc<H>>, AllocError>
     requires rows { HasRows column.now rows.now }
     requires numbers { (length numbers.now ≡ length rows.now) × AllByRecursion (λ n. n < count) numbers.now }
@@ -38,7 +38,7 @@ fn tallied_parts<H: KeyHash<Cell>>(
     alloc: Global,
     count: usize,
     parts: &[Part],
-    column: &CodeColumn<H>,
+    column: &CodeColumn,
 ) -> Result<Vec<Acc<H>>, AllocError>
     requires { AreOfGroups count parts.now }
     ensures { IfOk result (λ v. AreTallied kind.CountDistinct count (groups_of_parts parts.now) (cells_of_parts column.now.cells parts.now) v.items) }
@@ -48,11 +48,11 @@ fn tallied_parts<H: KeyHash<Cell>>(
 }
 
 /// The cells of the parts of each of `count` groups.
-fn cells_by_group<H: KeyHash<Cell>>(
+fn cells_by_group(
     alloc: Global,
     count: usize,
     parts: &[Part],
-    column: &CodeColumn<H>,
+    column: &CodeColumn,
 ) -> Result<Vec<Vec<Cell>>, AllocError>
     requires { AreOfGroups count parts.now }
     ensures { IfOk result (λ v. AreListed count (groups_of_parts parts.now) (cells_of_parts column.now.cells parts.now) (lists_of v.items)) }

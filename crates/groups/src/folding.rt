@@ -77,7 +77,7 @@ impl<'a, H: KeyHash<Cell> + KeyHash<Tuple>> Folding<'a, H> {
     pub fn of_rows(
         alloc: Global,
         plan: &'a Plan,
-        columns: &Columns<H>,
+        columns: &Columns,
         rows: &[u32],
         apart: bool,
     ) -> Result<Folding<'a, H>, AllocError>
@@ -97,7 +97,7 @@ impl<'a, H: KeyHash<Cell> + KeyHash<Tuple>> Folding<'a, H> {
     fn of_all(
         alloc: Global,
         plan: &'a Plan,
-        columns: &Columns<H>,
+        columns: &Columns,
         rows: &[u32],
         apart: bool,
     ) -> Result<Folding<'a, H>, AllocError>
@@ -208,7 +208,7 @@ fn columns_of_piece<H: KeyHash<Cell>, S: Beside<Cell, Row>>(
     alloc: Global,
     plan: &Plan,
     piece: &Piece<Cell, Row, H, S>,
-) -> Result<Columns<H>, AllocError>
+) -> Result<Columns, AllocError>
     ensures held { IfOk result (Hold (rows_of piece.now)) }
     ensures serve { IfOk result (Serve plan.now) }
 {

@@ -1,6 +1,6 @@
 //! The rows that WHERE keeps, of rows whose columns are at hand.
-ghost use Rattle.std.specs.Prelude.{◌≡◌, ◌+◌, ◌<◌, ◌≤◌, ◌^◌, List, IfOk, OnOk, length, map};
-ghost use Rattle.std.specs.List.{AllByRecursion, range_with_len};
+ghost use Rattle.std.specs.Prelude.{◌≡◌, ◌<◌, List, IfOk, OnOk, length, map};
+ghost use Rattle.std.specs.List.{AllByRecursion};
 ghost use Rattle.cells.specs.Values.{RowValue};
 ghost use Rattle.columns.specs.Columns.{HaveAll, Hold};
 ghost use Rattle.groups.specs.Groups.{cell_at_index};
@@ -12,17 +12,17 @@ ghost use Rattle.query.specs.Trees.{And, predicates_of};
 use crate::asking::{are_many, asked_of_each};
 use crate::numbered::groups_of;
 use crate::set_columns::index_in;
-use cells::{Cell, KeyHash, Tuple};
+use cells::{Cell, Tuple};
 use columns::Columns;
 use query::{Predicate, PredicateForm, Truth, truth_by_columns};
 use std::alloc::{AllocError, Global};
 
 /// Those of the places whose rows the predicate is true for. Where AND stands between predicates, each is asked of those alone
 /// that those before it leave.
-pub fn kept_by<H: KeyHash<Cell>>(
+pub fn kept_by(
     alloc: Global,
     predicate: &Predicate<usize>,
-    columns: &Columns<H>,
+    columns: &Columns,
     places: &[u32],
 ) -> Result<Vec<u32>, AllocError>
     requires rows { HaveRows columns.now places.now }
@@ -37,10 +37,10 @@ pub fn kept_by<H: KeyHash<Cell>>(
 }
 
 /// Those of the places whose rows all predicates are true for.
-fn kept_by_all<H: KeyHash<Cell>>(
+fn kept_by_all(
     alloc: Global,
     predicates: &[Predicate<usize>],
-    columns: &Columns<H>,
+    columns: &Columns,
     places: &[u32],
 ) -> Result<Vec<u32>, AllocError>
     requires rows { HaveRows columns.now places.now }
@@ -57,10 +57,10 @@ fn kept_by_all<H: KeyHash<Cell>>(
 
 /// Those of the places whose rows the predicate is true for. It is asked once for those that have the same cells in the columns
 /// that it names, unless these have about as many different ones as there are rows.
-fn chosen_by<H: KeyHash<Cell>>(
+fn chosen_by(
     alloc: Global,
     predicate: &Predicate<usize>,
-    columns: &Columns<H>,
+    columns: &Columns,
     places: &[u32],
 ) -> Result<Vec<u32>, AllocError>
     requires rows { HaveRows columns.now places.now }

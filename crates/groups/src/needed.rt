@@ -7,7 +7,6 @@ ghost use Rattle.groups.specs.Needed.{needed_by, read_by, read_by_all};
 
 use crate::aggregation::{Aggregation, aggregations};
 use aggs::Kind;
-use cells::{Cell, KeyHash};
 use columns::{CodeColumn, Columns};
 use query::{GroupSet, Plan};
 use std::alloc::{AllocError, Global};
@@ -61,7 +60,7 @@ fn add_read_by(needed: &mut Vec<usize>, aggregation: Aggregation) -> Result<(), 
 }
 
 /// The column of an index that has one. It takes no memory.
-pub(crate) fn column_of<H: KeyHash<Cell>>(columns: &Columns<H>, index: usize) -> &CodeColumn<H>
+pub(crate) fn column_of(columns: &Columns, index: usize) -> &CodeColumn
     requires { has columns.now index ≡ true }
     ensures { (rows : List RowValue) → Hold rows columns.now → cells_of result.now ≡ cells_at index rows }
 {

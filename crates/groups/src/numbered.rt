@@ -1,15 +1,13 @@
 //! Rows numbered by their groups, column by column.
-ghost use Rattle.std.specs.Prelude.{◌≡◌, ◌++◌, ◌∷◌, [], ℕ, List, IfOk, length, map, slice_index_or};
+ghost use Rattle.std.specs.Prelude.{◌≡◌, ◌++◌, ◌∷◌, [], ℕ, List, IfOk, length};
 ghost use Rattle.cells.specs.Values.{RowValue};
-ghost use Rattle.cells.specs.declared.cell.Cell.{Cell};
-ghost use Rattle.cells.specs.declared.cell.Cell.TheVariants.{Null};
 ghost use Rattle.columns.specs.Columns.{HaveAll, Hold, cell_of, cells_at, cells_of};
 ghost use Rattle.groups.specs.Numbered.{AreNumbered, HasRows, HaveRows, NumberAll, picked_rows};
 ghost use Rattle.groups.specs.Parting.{AreOfGroups, parted_tuples};
 
 use crate::needed::column_of;
 use crate::parting::{Part, Parts, parted};
-use cells::{Cell, KeyHash, Tuple};
+use cells::Tuple;
 use columns::{CodeColumn, Columns};
 use std::alloc::{AllocError, Global};
 
@@ -22,9 +20,9 @@ pub struct NumberedRows {
 }
 
 /// The groups of a set over the rows of these indexes.
-pub fn groups_of<H: KeyHash<Cell>>(
+pub fn groups_of(
     alloc: Global,
-    columns: &Columns<H>,
+    columns: &Columns,
     set: &[usize],
     rows: &[u32],
 ) -> Result<NumberedRows, AllocError>
@@ -42,7 +40,7 @@ pub fn groups_of<H: KeyHash<Cell>>(
 }
 
 /// How many different tuples the columns of a set may have, by the codes that they have. Nothing rests on it.
-pub fn most_tuples<H: KeyHash<Cell>>(columns: &Columns<H>, set: &[usize]) -> usize {
+pub fn most_tuples(columns: &Columns, set: &[usize]) -> usize {
     let mut tuples = 1usize;
     for index in set {
         if let Some(column) = columns.at(*index) {
@@ -73,10 +71,10 @@ impl NumberedRows {
     }
 
     /// The groups cut by the cells of a column, which comes after those of their set.
-    fn cut<H: KeyHash<Cell>>(
+    fn cut(
         &self,
         alloc: Global,
-        column: &CodeColumn<H>,
+        column: &CodeColumn,
         rows: &[u32],
     ) -> Result<NumberedRows, AllocError>
         requires rows { HasRows column.now rows.now }
@@ -100,11 +98,11 @@ impl NumberedRows {
     }
 
     /// The tuples of parts of the groups: each is its group's with the cell of its code behind it.
-    fn tuples_of<H: KeyHash<Cell>>(
+    fn tuples_of(
         &self,
         alloc: Global,
         parts: &[Part],
-        column: &CodeColumn<H>,
+        column: &CodeColumn,
     ) -> Result<Vec<Tuple>, AllocError>
         requires { AreOfGroups (length self.now.tuples.items) parts.now }
         ensures { IfOk result (λ v. v.items ≡ parted_tuples self.now.tuples.items column.now.cells parts.now) }
@@ -119,12 +117,7 @@ impl NumberedRows {
 }
 
 /// The tuple with the cell of a code behind its own.
-fn longer<H: KeyHash<Cell>>(
-    alloc: Global,
-    tuple: &Tuple,
-    column: &CodeColumn<H>,
-    code: u32,
-) -> Result<Tuple, AllocError>
+fn longer(alloc: Global, tuple: &Tuple, column: &CodeColumn, code: u32) -> Result<Tuple, AllocError>
     ensures { IfOk result (λ t. t ≡ tuple.now ++ cell_of column.now.cells code ∷ []) }
 {
     let cells = tuple.cells();

@@ -2,7 +2,6 @@
 ghost use Rattle.std.specs.Prelude.{◌≡◌, ◌<◌, List, true, IfOk, IfSome, length, position, slice_index_or};
 ghost use Rattle.std.specs.Option.{is_some, option_copied};
 ghost use Rattle.cells.specs.Values.{RowValue};
-ghost use Rattle.groups.specs.Coarsening.{AreIndexes};
 ghost use Rattle.groups.specs.Bags.{Covers};
 ghost use Rattle.groups.specs.Pools.{Grows, HaveFiner, HaveSetsAbove, HaveSetsOf, IsPool, MayCoarsen, MayCoarsenAll, has_all, has_finer, has_set};
 ghost use Rattle.groups.specs.declared.aggregation.Aggregation.{Aggregation};

@@ -3,7 +3,7 @@ ghost use Rattle.std.specs.Prelude.{◌≡◌, ◌≤◌, IfOk, false, length, p
 ghost use Rattle.std.specs.List.{list_any};
 ghost use Rattle.cells.specs.TotalOrder.{cell_total};
 ghost use Rattle.groups.specs.Finishing.{behind_first, first_total, left_by, row_by, value_by};
-ghost use Rattle.groups.specs.Groups.{cell_at_index, grouping, index_in, mark};
+ghost use Rattle.groups.specs.Groups.{cell_at_index, grouping, mark};
 ghost use Rattle.query.specs.Limits.{grouping_limit};
 ghost use Rattle.query.specs.Values.{is_long};
 

@@ -1,7 +1,7 @@
 //! The grouping sets that rows are folded into, from whose groups those of all others can be made.
 ghost use Rattle.std.specs.Prelude.{◌≡◌, ◌≤◌, ℕ, List, true, IfOk, length};
 ghost use Rattle.std.specs.List.{AllByRecursion};
-ghost use Rattle.groups.specs.Pools.{AddsSource, ArePlanned, AreSources, has_all, has_finer};
+ghost use Rattle.groups.specs.Pools.{AddsSource, ArePlanned, AreSources, has_finer};
 
 use crate::bag::Bag;
 use crate::pool::SetBag;

@@ -23,7 +23,7 @@ pub fn tallied<H: KeyHash<Cell>>(
     count: usize,
     numbers: &[u32],
     rows: &[u32],
-    column: &CodeColumn<H>,
+    column: &CodeColumn,
 ) -> Result<Vec<Acc<H>>, AllocError>
     requires rows { HasRows column.now rows.now }
     requires numbers { (length numbers.now ≡ length rows.now) × AllByRecursion (λ n. n < count) numbers.now }

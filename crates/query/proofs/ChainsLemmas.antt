@@ -1,5 +1,5 @@
 -- A chain of OR or of AND, predicate by predicate.
-use Rattle.std.proofs.Common.{◌≡◌, ℕ, ◌+◌, ◌<◌, ◌≤◌, Bool, true, false, ◌||◌, List, ◌∷◌, drop, get_or, length, ◌⊎◌, inl, inr, Vec, Box, Global, refl, sym, ap, ◌∙◌}
+use Rattle.std.proofs.Common.{◌≡◌, ℕ, ◌+◌, ◌<◌, ◌≤◌, Bool, true, false, ◌||◌, List, [], ◌∷◌, drop, get_or, length, ◌⊎◌, inl, inr, Vec, Box, Global, refl, sym, ap, ◌∙◌}
 use Rattle.std.proofs.lemmas.List.{at_drop_all, at_drop_more}
 use Rattle.std.proofs.lemmas.List.Folds.{list_any-append}
 use Rattle.std.specs.List.{list_any}
@@ -75,32 +75,43 @@ and_assoc Unknown Unknown True = refl
 and_assoc Unknown Unknown False = refl
 and_assoc Unknown Unknown Unknown = refl
 
+-- truths that are joined one by one, from one that changes nothing
+pub record Joins (join : Truth → Truth → Truth) (start : Truth) (values : List Total) (each : List (PredicateTree (Test ℕ)) → Truth) : Type 0 where
+  pub changes_nothing : (t : Truth) → join t start ≡ t
+  pub in_any_order : (a b c : Truth) → join a (join b c) ≡ join (join a b) c
+  pub ends : each [] ≡ start
+  pub begins : (p : PredicateTree (Test ℕ)) (ps : List (PredicateTree (Test ℕ))) → each (p ∷ ps) ≡ join (truth p values) (each ps)
+
+abbrev pub any_of : List Total → List (PredicateTree (Test ℕ)) → Truth
+any_of values ps = any_truth (value_at values) (predicates_of ps)
+
+abbrev pub all_of : List Total → List (PredicateTree (Test ℕ)) → Truth
+all_of values ps = all_truth (value_at values) (predicates_of ps)
+
+pub or_joins : (values : List Total) → Joins or_truth False values (any_of values)
+or_joins values = record { changes_nothing = or_false; in_any_order = or_assoc; ends = refl; begins = λ p ps. refl }
+
+pub and_joins : (values : List Total) → Joins and_truth True values (all_of values)
+and_joins values = record { changes_nothing = and_true; in_any_order = and_assoc; ends = refl; begins = λ p ps. refl }
+
 module _ (values : List Total) (whole : PredicateTree (Test ℕ)) where
   pub or_starts : (x : PredicateForm ℕ) (inners : Vec (Predicate ℕ) Global) (items : List (PredicateTree (Test ℕ))) → predicate_tree x ≡ whole → items ≡ inners.items → x ≡ form.Or inners
-      → truth whole values ≡ or_truth False (any_truth (value_at values) (predicates_of items))
-  or_starts x inners items view all e = ap (λ p. truth p values) (sym view ∙ ap predicate_tree e) ∙ ap (λ ps. any_truth (value_at values) (predicates_of ps)) (sym all)
+      → truth whole values ≡ or_truth False (any_of values items)
+  or_starts x inners items view all e = ap (λ p. truth p values) (sym view ∙ ap predicate_tree e) ∙ ap (any_of values) (sym all)
 
   pub and_starts : (x : PredicateForm ℕ) (inners : Vec (Predicate ℕ) Global) (items : List (PredicateTree (Test ℕ))) → predicate_tree x ≡ whole → items ≡ inners.items → x ≡ form.And inners
-      → truth whole values ≡ and_truth True (all_truth (value_at values) (predicates_of items))
-  and_starts x inners items view all e = ap (λ p. truth p values) (sym view ∙ ap predicate_tree e) ∙ ap (λ ps. all_truth (value_at values) (predicates_of ps)) (sym all)
+      → truth whole values ≡ and_truth True (all_of values items)
+  and_starts x inners items view all e = ap (λ p. truth p values) (sym view ∙ ap predicate_tree e) ∙ ap (all_of values) (sym all)
 
-  module _ (items : List (PredicateTree (Test ℕ))) (k : ℕ) (found : Truth) where
-    pub or_more : truth whole values ≡ or_truth found (any_truth (value_at values) (predicates_of (drop k items))) → k < length items → (p : PredicateTree (Test ℕ)) → p ≡ get_or items k p
-        → (one new : Truth) → one ≡ truth p values → new ≡ or_truth found one → truth whole values ≡ or_truth new (any_truth (value_at values) (predicates_of (drop (k + 1) items)))
-    or_more kept within p is one new here both =
-        let rest = any_truth (value_at values) (predicates_of (drop (k + 1) items)) in
-        kept ∙ ap (or_truth found) (at_drop_more (λ ps. any_truth (value_at values) (predicates_of ps)) items k p within ∙ ap (λ q. or_truth (truth q values) rest) (sym is) ∙ ap (λ q. or_truth q rest) (sym here))
-        ∙ or_assoc found one rest ∙ ap (λ q. or_truth q rest) (sym both)
+module _ {join : Truth → Truth → Truth} {start : Truth} {values : List Total} {each : List (PredicateTree (Test ℕ)) → Truth} (joins : Joins join start values each)
+    (whole : Truth) (items : List (PredicateTree (Test ℕ))) (k : ℕ) (found : Truth) (kept : whole ≡ join found (each (drop k items))) where
+  pub truth_more : k < length items → (p : PredicateTree (Test ℕ)) → p ≡ get_or items k p → (one new : Truth) → one ≡ truth p values → new ≡ join found one
+      → whole ≡ join new (each (drop (k + 1) items))
+  truth_more within p is one new here both =
+      let rest = drop (k + 1) items in
+      let first : each (drop k items) ≡ join one (each rest) =
+      at_drop_more each items k p within ∙ ap (λ q. each (q ∷ rest)) (sym is) ∙ joins.begins p rest ∙ ap (λ t. join t (each rest)) (sym here) in
+      kept ∙ ap (join found) first ∙ joins.in_any_order found one (each rest) ∙ ap (λ t. join t (each rest)) (sym both)
 
-    pub or_ends : truth whole values ≡ or_truth found (any_truth (value_at values) (predicates_of (drop k items))) → length items ≤ k → found ≡ truth whole values
-    or_ends kept all = sym (kept ∙ ap (or_truth found) (at_drop_all (λ ps. any_truth (value_at values) (predicates_of ps)) items k all) ∙ or_false found)
-
-    pub and_more : truth whole values ≡ and_truth found (all_truth (value_at values) (predicates_of (drop k items))) → k < length items → (p : PredicateTree (Test ℕ)) → p ≡ get_or items k p
-        → (one new : Truth) → one ≡ truth p values → new ≡ and_truth found one → truth whole values ≡ and_truth new (all_truth (value_at values) (predicates_of (drop (k + 1) items)))
-    and_more kept within p is one new here both =
-        let rest = all_truth (value_at values) (predicates_of (drop (k + 1) items)) in
-        kept ∙ ap (and_truth found) (at_drop_more (λ ps. all_truth (value_at values) (predicates_of ps)) items k p within ∙ ap (λ q. and_truth (truth q values) rest) (sym is) ∙ ap (λ q. and_truth q rest) (sym here))
-        ∙ and_assoc found one rest ∙ ap (λ q. and_truth q rest) (sym both)
-
-    pub and_ends : truth whole values ≡ and_truth found (all_truth (value_at values) (predicates_of (drop k items))) → length items ≤ k → found ≡ truth whole values
-    and_ends kept all = sym (kept ∙ ap (and_truth found) (at_drop_all (λ ps. all_truth (value_at values) (predicates_of ps)) items k all) ∙ and_true found)
+  pub truth_ends : length items ≤ k → found ≡ whole
+  truth_ends past = sym (kept ∙ ap (join found) (at_drop_all each items k past ∙ joins.ends) ∙ joins.changes_nothing found)

@@ -98,7 +98,7 @@ pub fn resolved_condition(
     match condition {
         Some(predicate) => {
             let mut names = ColumnNames { columns };
-            Ok(Some(resolved(alloc, &mut names, predicate)?))
+            resolved(alloc, &mut names, predicate).map(Some)
         }
         None => Ok(None),
     }

@@ -139,7 +139,7 @@ fn clauses(alloc: Global, tokens: &[Token]) -> Result<Clauses, Refused>
         return Err(Refused::QuerySyntax);
     };
     let (items, behind) = items_from(alloc, more)?;
-    let (table, condition, grouped) = table_and_tail(alloc, behind)?;
+    let (table, (condition, grouped)) = table_and_tail(alloc, behind)?;
     Ok(Clauses {
         items,
         table,
@@ -160,34 +160,29 @@ fn items_from(alloc: Global, tokens: &[Token]) -> Result<(Vec<Item<Text>>, &[Tok
     Ok((items, behind))
 }
 
-/// The table's name, the predicate of WHERE, where there is one, GROUP BY and HAVING.
-fn table_and_tail(
-    alloc: Global,
-    tokens: &[Token],
-) -> Result<(Text, Option<Predicate<Text>>, Grouped), Refused>
-    ensures { ReadsPhrase (λ x. (from_tree x.0 (x.1, x.2), [])) (Whole SpellsFrom tokens.now) result }
+/// The predicate of WHERE, where there is one, GROUP BY and HAVING.
+type Tail = (Option<Predicate<Text>>, Grouped);
+
+/// The table's name, and what stands after it.
+fn table_and_tail(alloc: Global, tokens: &[Token]) -> Result<(Text, Tail), Refused>
+    ensures { ReadsPhrase (λ x. (from_tree x.0 x.1, [])) (Whole SpellsFrom tokens.now) result }
 {
     let (table, behind) = Text::read(alloc, tokens)?;
-    let (condition, grouped) = tail(alloc, behind)?;
-    Ok((table, condition, grouped))
+    beside(tail(alloc, behind), table)
 }
 
-/// The predicate of WHERE, where there is one, GROUP BY and HAVING.
-fn tail(alloc: Global, tokens: &[Token]) -> Result<(Option<Predicate<Text>>, Grouped), Refused>
+/// What stands after the table's name.
+fn tail(alloc: Global, tokens: &[Token]) -> Result<Tail, Refused>
     ensures { ReadsPhrase (λ x. ((x.0, x.1), [])) (Whole SpellsTail tokens.now) result }
 {
     if let Some(more) = after_word(tokens, "WHERE") {
         return where_tail(alloc, more);
     }
-    let grouped = grouped(alloc, tokens)?;
-    Ok((None, grouped))
+    beside(grouped(alloc, tokens), None)
 }
 
 /// The predicate behind WHERE, GROUP BY and HAVING.
-fn where_tail(
-    alloc: Global,
-    tokens: &[Token],
-) -> Result<(Option<Predicate<Text>>, Grouped), Refused>
+fn where_tail(alloc: Global, tokens: &[Token]) -> Result<Tail, Refused>
     ensures { ReadsPhrase (λ x. ((x.0, x.1), [])) (Whole SpellsTail (WHERE ∷ tokens.now)) result }
 {
     let (condition, behind) = predicate(alloc, tokens)?;

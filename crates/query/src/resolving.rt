@@ -52,7 +52,7 @@ pub fn resolved<C: Drop, R: Resolver<C>>(
             let made = resolved(alloc, resolver, Box::into_inner(inner))?;
             Predicate::not(alloc, made)
         }
-        PredicateForm::Test(test) => Ok(Predicate::test(resolved_test(resolver, test)?)),
+        PredicateForm::Test(test) => resolved_test(resolver, test).map(Predicate::test),
     }
 }
 
@@ -150,7 +150,7 @@ fn resolved_operand<C: Drop, R: Resolver<C>>(
     ensures after { OnOk result (resolver.new ≡ fold R.after resolver.old (operand_leaves operand)) }
 {
     match operand {
-        Operand::Column(leaf) => Ok(Operand::Column(resolver.resolve(leaf)?)),
+        Operand::Column(leaf) => resolver.resolve(leaf).map(Operand::Column),
         Operand::Literal(literal) => Ok(Operand::Literal(literal)),
     }
 }

@@ -41,10 +41,10 @@ pub fn pair_of_both<K: Clone + Drop, V: Drop, B: Blend<V>>(
 {
     let Some(one) = first else {
         let Some(other) = second else { unreachable!() };
-        return Ok(Arc::try_clone(other)?);
+        return other.clone();
     };
     let Some(other) = second else {
-        return Ok(Arc::try_clone(one)?);
+        return one.clone();
     };
     blended_pair(alloc, blend, one, other)
 }

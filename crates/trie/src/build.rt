@@ -91,7 +91,7 @@ fn bucket_of<K: Ord + Drop, V: Drop>(
 {
     let mut rising = Vec::new(alloc);
     for one in pairs {
-        rising = placed(rising, Arc::try_clone(&one.pair)?)?;
+        rising = placed(rising, &one.pair)?;
     }
     Ok(rising)
 }
@@ -146,7 +146,7 @@ fn uncounted<K: Drop, V: Drop, S: Beside<K, V>>(
 ) -> Result<Slot<K, V, S>, AllocError>
     ensures { IfOk result (λ slot. node_of slot ≡ Some (made_of node)) }
 {
-    Ok(Some(make(alloc, node, &mut Ticks::new())?))
+    make(alloc, node, &mut Ticks::new()).map(Some)
 }
 
 /// The slot of a prefix of this depth with these pairs, which stand in the order of their digits: of pairs of one key
@@ -175,7 +175,7 @@ pub fn slot_of<K: Ord + Drop, V: Drop, H: KeyHash<K>, S: Beside<K, V>>(
     let mut made = room_for(alloc, digits_of(pairs, depth))?;
     let mut left = pairs;
     while let Some(Run { digit, pairs, rest }) = next_run(left, depth) {
-        let child = slot_of::<K, V, H, S>(alloc, pairs, depth + 1)?;
+        let child = slot_of::<K, V, H, S>(alloc, pairs, depth + 1);
         made = grown(made, digit, child)?;
         left = rest;
     }

@@ -3,7 +3,7 @@ ghost use Rattle.std.specs.Prelude.{◌+◌, ◌<◌, ◌≤◌, IfOk, None, get
 ghost use Rattle.std.specs.Map.{keys_of};
 ghost use Rattle.trie.specs.Entries.{IsRising};
 ghost use Rattle.trie.specs.Holding.{held_at, pairs_of, seen_in};
-ghost use Rattle.trie.specs.Merging.{AreBoth, CanBlend, ClonesEqual, CountsBoth, HasBucketOfBoth, IsBucketOfBoth, IsNextOrEnd, LeafMeets, Meet, Merges};
+ghost use Rattle.trie.specs.Merging.{AreBoth, CanBlend, ClonesEqual, CountsBoth, HasBucketOfBoth, IsBucketOfBoth, IsNextOfOne, IsNextOrEnd, LeafMeets, Meet, Merges};
 ghost use Rattle.trie.specs.Dense.{IsDense, slots_in};
 ghost use Rattle.trie.specs.Digits.{slot_count};
 ghost use Rattle.trie.specs.Nodes.{node_of};
@@ -27,6 +27,18 @@ use std::sync::Arc;
 /// The first entry of two rising lists together, and what is left of the first and of the second.
 type Next<'a, K, V> = (Arc<(K, V)>, &'a [Arc<(K, V)>], &'a [Arc<(K, V)>]);
 
+/// The entry, with one owner more, and what is left of both lists.
+fn next_of_one<'a, K: Drop, V: Drop>(
+    pair: &Arc<(K, V)>,
+    first: &'a [Arc<(K, V)>],
+    second: &'a [Arc<(K, V)>],
+) -> Result<Option<Next<'a, K, V>>, AllocError>
+    ensures { IfOk result (IsNextOfOne pair.now.value first.now second.now) }
+{
+    let pair = pair.clone()?;
+    Ok(Some((pair, first, second)))
+}
+
 /// The first entry of two rising lists together, or none where both have ended.
 fn next_of_both<'a, K: Ord + Clone + Drop, V: Drop, H: KeyHash<K>, B: Blend<V>>(
     alloc: Global,
@@ -44,26 +56,18 @@ fn next_of_both<'a, K: Ord + Clone + Drop, V: Drop, H: KeyHash<K>, B: Blend<V>>(
         let Some((new, newer)) = second.split_first() else {
             return Ok(None);
         };
-        let pair = Arc::try_clone(new)?;
-        return Ok(Some((pair, first, newer)));
+        return next_of_one(new, first, newer);
     };
     let Some((new, newer)) = second.split_first() else {
-        let pair = Arc::try_clone(old)?;
-        return Ok(Some((pair, older, second)));
+        return next_of_one(old, older, second);
     };
     match old.0.cmp(&new.0) {
-        Ordering::Less => {
-            let pair = Arc::try_clone(old)?;
-            Ok(Some((pair, older, second)))
-        }
+        Ordering::Less => next_of_one(old, older, second),
         Ordering::Equal => {
             let pair = blended_pair(alloc, blend, old, new)?;
             Ok(Some((pair, older, newer)))
         }
-        Ordering::Greater => {
-            let pair = Arc::try_clone(new)?;
-            Ok(Some((pair, first, newer)))
-        }
+        Ordering::Greater => next_of_one(new, first, newer),
     }
 }
 
@@ -110,7 +114,7 @@ fn bucket_of_both<K: Ord + Clone + Drop, V: Drop, H: KeyHash<K>, S: Beside<K, V>
     ensures grows { ticks.old ≤ ticks.new }
 {
     let pairs = merged_pairs::<K, V, H, B>(alloc, first, second, blend)?;
-    Ok(Some(make(alloc, Unmade::Inner(Inner::Bucket(pairs)), ticks)?))
+    make(alloc, Unmade::Inner(Inner::Bucket(pairs)), ticks).map(Some)
 }
 
 /// Two slots of one prefix of this depth, of which one is a leaf: the other with the entry of the leaf's key in both.
@@ -134,8 +138,7 @@ fn leaf_over<K: Ord + Clone + Drop, V: Drop, H: KeyHash<K>, S: Beside<K, V>, B: 
     let old = get_at::<K, V, H, S>(first, key, at);
     let new = get_at::<K, V, H, S>(second, key, at);
     let pair = pair_of_both(alloc, blend, old, new)?;
-    let node = put_at::<K, V, H, S>(alloc, other, &pair, at, ticks)?;
-    Ok(Some(node))
+    put_at::<K, V, H, S>(alloc, other, &pair, at, ticks).map(Some)
 }
 
 /// The children of a digit in two branches; None where neither has one.
@@ -192,7 +195,7 @@ pub fn merge_at<K: Ord + Clone + Drop, V: Drop, H: KeyHash<K>, S: Beside<K, V>, 
                 let Some((one, other)) = children_of_both(first, old, second, more, digit) else {
                     continue;
                 };
-                let child = merge_at::<K, V, H, S, B>(alloc, one, other, blend, depth + 1, ticks)?;
+                let child = merge_at::<K, V, H, S, B>(alloc, one, other, blend, depth + 1, ticks);
                 made = grown(made, digit, child)?;
             }
             branch_of(alloc, made, ticks)

@@ -1,6 +1,6 @@
 //! Nodes: what stands below a prefix of digits.
 ghost use Rattle.std.specs.Prelude.{◌≡◌, ◌+◌, ◌-◌, ◌<◌, ◌≤◌, ◌^◌, [], false, None, Some, IfOk, IsTrue, OnErr, OnOk, length, set};
-ghost use Rattle.std.specs.Prelude.{◌⊎◌, count_ones, get_or, slice_index_or, sum_by, vec_capacity};
+ghost use Rattle.std.specs.Prelude.{◌⊎◌, IsOkAnd, count_ones, get_or, slice_index_or, sum_by, vec_capacity};
 ghost use Rattle.std.specs.List.{flat_map};
 ghost use Rattle.trie.specs.Counts.{next_count};
 ghost use Rattle.trie.specs.Dense.{below_bit, bit_at, IsDense, slots_in};
@@ -71,14 +71,14 @@ pub struct Children<K, V, B> {
     pub children: Vec<NodeOf<K, V, B>>,
 }
 
-impl<P: Drop, I: Drop> Owner<P, I> {
-    /// The same node, with one owner more of what it has.
-    pub fn share(&self) -> Result<Self, AllocError>
-        ensures { IfOk result (λ copy. owned copy ≡ owned self.now) }
-    {
+/// The same node, with one owner more of what it has.
+impl<P: Drop, I: Drop> Clone for Owner<P, I> {
+    ghost is_clone = { λ one copy. owned copy ≡ owned one };
+
+    fn clone(&self) -> Result<Self, AllocError> {
         match self {
-            Owner::Leaf(pair) => Ok(Owner::Leaf(Arc::try_clone(pair)?)),
-            Owner::Inner(inner) => Ok(Owner::Inner(Arc::try_clone(inner)?)),
+            Owner::Leaf(pair) => Ok(Owner::Leaf(pair.clone()?)),
+            Owner::Inner(inner) => Ok(Owner::Inner(inner.clone()?)),
         }
     }
 }
@@ -196,7 +196,7 @@ pub fn shared<K: Drop, V: Drop, S: Beside<K, V>>(
 {
     match slot {
         None => Ok(None),
-        Some(node) => Ok(Some(node.share()?)),
+        Some(node) => node.clone().map(Some),
     }
 }
 
@@ -208,9 +208,7 @@ pub fn shared_children<K: Drop, V: Drop, S: Beside<K, V>>(
     ensures { IfOk result (λ copy. values copy.items ≡ values children.now.items) }
 {
     let mut copy = Vec::with_capacity(alloc, children.len() + 1)?;
-    for child in children {
-        copy.push(child.share()?)?;
-    }
+    copy.extend_with_clones(children)?;
     Ok(copy)
 }
 
@@ -325,19 +323,19 @@ pub fn either_has(first: Bitmap, second: Bitmap, digit: usize) -> bool
     has(first, digit) || has(second, digit)
 }
 
-/// These children, all of them in slots before that of the digit, with this one in its slot.
+/// These children, all of them in slots before that of the digit, with this one in its slot, if it was made.
 pub fn grown<K: Drop, V: Drop, S: Beside<K, V>>(
     made: Children<K, V, Side<K, V, S>>,
     digit: usize,
-    slot: Slot<K, V, S>,
+    slot: Result<Slot<K, V, S>, AllocError>,
 ) -> Result<Children<K, V, Side<K, V, S>>, AllocError>
     requires digit { digit < slot_count }
     requires dense { IsDense made.bitmap (length made.children.items) }
     requires before { made.bitmap < 2 ^ digit }
-    ensures written { IfOk result (IsWritten (set (slots_in made.bitmap made.children.items) digit (node_of slot))) }
+    ensures written { IfOk result (λ more. IsOkAnd slot (λ child. IsWritten (set (slots_in made.bitmap made.children.items) digit (node_of child)) more)) }
     ensures before { IfOk result (λ more. more.bitmap < 2 ^ (digit + 1)) }
 {
-    let Some(child) = slot else {
+    let Some(child) = slot? else {
         return Ok(made);
     };
     let mut children = made.children;
@@ -426,7 +424,7 @@ pub fn branch_of<K: Drop, V: Drop, S: Beside<K, V>>(
         children: made.children,
         beside,
     };
-    Ok(Some(make(alloc, Unmade::Inner(branch), ticks)?))
+    make(alloc, Unmade::Inner(branch), ticks).map(Some)
 }
 
 /// The entries below children.
@@ -465,5 +463,5 @@ fn sole<K: Drop, V: Drop, S: Beside<K, V>>(
     if children.is_empty() {
         return Ok(None);
     }
-    Ok(Some(children[0].share()?))
+    children[0].clone().map(Some)
 }

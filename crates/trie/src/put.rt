@@ -71,7 +71,7 @@ fn how_far<K: Ord + Drop, V: Drop, H: KeyHash<K>, S: Beside<K, V>>(
         View::Empty => Ok(Reach::Here(Unmade::Leaf(Arc::try_clone(pair)?))),
         View::Leaf(old) => from_leaf::<K, V, H, S>(alloc, old, pair, at),
         View::Bucket(pairs) => {
-            let pairs = with_entry(alloc, pairs, Arc::try_clone(pair)?)?;
+            let pairs = with_entry(pairs, pair)?;
             Ok(Reach::Here(Unmade::Inner(Inner::Bucket(pairs))))
         }
         View::Branch {
@@ -100,7 +100,7 @@ fn from_leaf<K: Ord + Drop, V: Drop, H: KeyHash<K>, S: Beside<K, V>>(
         return Ok(Reach::Here(Unmade::Leaf(Arc::try_clone(pair)?)));
     }
     if at.is_whole() {
-        let pairs = with_one(alloc, old, Arc::try_clone(pair)?)?;
+        let pairs = with_one(alloc, old, pair)?;
         return Ok(Reach::Here(Unmade::Inner(Inner::Bucket(pairs))));
     }
     let digit = at.next_of(H::hash(&old.0));

@@ -103,7 +103,7 @@ fn remove_from_bucket<K: Ord + Drop, V: Drop, H: KeyHash<K>, S: Beside<K, V>>(
     ensures counted { ticks.new ≤ ticks.old + 1 }
     ensures grows { ticks.old ≤ ticks.new }
 {
-    let Some(mut left) = without(alloc, pairs, key)? else {
+    let Some(mut left) = without(pairs, key)? else {
         return Ok(Removed::Missing);
     };
     if left.len() > 1 {

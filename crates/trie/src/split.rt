@@ -68,7 +68,7 @@ impl<K: Ord, V, H: KeyHash<K>, S: Beside<K, V>> Piece<K, V, H, S> {
     pub fn entries(&self, alloc: Global) -> Result<Vec<(&K, &V)>, AllocError>
         ensures { IfOk result (λ v. lent v.items ≡ self.now) }
     {
-        Ok(with_entries(Vec::new(alloc), Some(&self.node))?)
+        with_entries(Vec::new(alloc), Some(&self.node))
     }
 }
 
@@ -179,7 +179,7 @@ fn with_piece<K: Ord + Drop, V: Drop, H: KeyHash<K>, S: Beside<K, V>>(
     ensures { IfOk result (λ v. v.items ≡ list.items ++ entries (owned node.now) ∷ []) }
 {
     list.push(Piece {
-        node: node.share()?,
+        node: node.clone()?,
         hash: PhantomData,
     })?;
     Ok(list)

@@ -84,7 +84,7 @@ impl<K: Ord, V, H: KeyHash<K>, S: Beside<K, V>> Trie<K, V, H, S> {
     pub fn entries(&self, alloc: Global) -> Result<Vec<(&K, &V)>, AllocError>
         ensures { IfOk result (λ v. lent v.items ≡ self.now) }
     {
-        Ok(with_entries(Vec::new(alloc), seen(&self.root))?)
+        with_entries(Vec::new(alloc), seen(&self.root))
     }
 
     /// What is known of each map: its keys rise in digit order. It does nothing.

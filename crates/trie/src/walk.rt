@@ -44,15 +44,9 @@ pub fn walk_node<K, V, S: Beside<K, V>, W: Visitor<K, V>>(
     ensures { OnOk result (TakesAll W.takes visitor.old (entries (owned node.now)) visitor.new) }
 {
     match node {
-        Node::Leaf(pair) => {
-            visitor.visit(&pair.0, &pair.1)?;
-            Ok(())
-        }
+        Node::Leaf(pair) => visitor.visit(&pair.0, &pair.1),
         Node::Inner(inner) => match &**inner {
-            Inner::Bucket(pairs) => {
-                walk_pairs(pairs, visitor)?;
-                Ok(())
-            }
+            Inner::Bucket(pairs) => walk_pairs(pairs, visitor),
             Inner::Branch { children, .. } => {
                 look_below(children, visitor);
                 for child in children {

@@ -6,7 +6,7 @@ use Rattle.groups.proofs.asking.asked_of_each.Goals.{then-branch+in_ok-push, els
 use Rattle.groups.proofs.asking.asked_of_each.Goals as goal
 
 pub loop-place-preserved : goal.loop-place-preserved
-loop-place-preserved g c = elim c.if-branch.branch [
+loop-place-preserved c = elim c.if-branch.branch [
   | then-branch+in_ok-push w ↦ λ all held.
       asked_next c.truth_by_columns.ensures c.args.predicate.now c.args.named.now c.args.width all c.args.places.now c.loop-place.kept.items c.if-branch.kept.items c.loop-place.place-index
       c.as_slice.result.now c.put_tuple.new.tuple.items true c.requires.named c.requires.width c.loop-place-test.true (c.loop-place.invariant all held) c.as_slice.ensures.value
@@ -18,6 +18,6 @@ loop-place-preserved g c = elim c.if-branch.branch [
 ]
 
 pub returns : goal.returns
-returns g c = λ all held.
+returns c = λ all held.
     subst (λ l. KeptBy c.args.predicate.now all l c.loop-place.kept.items)
     (take_all c.loop-place.place-index c.args.places.now (omega (arith, c.loop-place-test.false, c.loop-place.auto.place-index-end))) (c.loop-place.invariant all held)

@@ -6,4 +6,4 @@ use Rattle.groups.specs.Numbered.{no_row}
 use Rattle.groups.proofs.asking.put_tuple.Given as goal
 
 abbrev pub invariant-loop-index : goal.invariant-loop-index
-invariant-loop-index g l = (all : List RowValue) → Hold all l.columns → l.tuple.items ≡ tuple_of (take l.index-index l.named) (get_or all l.place no_row)
+invariant-loop-index l = (all : List RowValue) → Hold all l.columns → l.tuple.items ≡ tuple_of (take l.index-index l.named) (get_or all l.place no_row)

@@ -14,17 +14,17 @@ use Rattle.query.specs.Names.{leaves_of}
 use Rattle.groups.proofs.keeping.chosen_by.Goals as goal
 
 pub asked_of_each-requires-clause-there : goal.asked_of_each-requires-clause-there
-asked_of_each-requires-clause-there g c =
+asked_of_each-requires-clause-there c =
     subst (λ l. HaveAll l c.args.columns.now) (sym (c.as_slice-then-are_many.ensures.value ∙ c.in_ok-named.ensures))
     (all_different (λ index. has c.args.columns.now index ≡ true) (leaves_of c.args.predicate.now) c.requires.there)
 
 pub groups_of-requires-clause-there : goal.groups_of-requires-clause-there
-groups_of-requires-clause-there g c =
+groups_of-requires-clause-there c =
     subst (λ l. HaveAll l c.args.columns.now) (sym (c.as_slice-3.ensures.value ∙ c.in_ok-named.ensures))
     (all_different (λ index. has c.args.columns.now index ≡ true) (leaves_of c.args.predicate.now) c.requires.there)
 
 pub chosen-requires-clause-one : goal.chosen-requires-clause-one
-chosen-requires-clause-one g c =
+chosen-requires-clause-one c =
     let rows = c.requires.rows.rows in
     let places = c.args.places.now in
     let all : NumberAll (length places) c.in_ok-groups.groups.numbers.items c.in_ok-groups.groups.tuples.items =
@@ -33,7 +33,7 @@ chosen-requires-clause-one g c =
     ap (λ l. length l) c.as_slice-6.ensures.value ∙ all.counted
 
 pub chosen-requires-clause-within : goal.chosen-requires-clause-within
-chosen-requires-clause-within g c =
+chosen-requires-clause-within c =
     let rows = c.requires.rows.rows in
     let places = c.args.places.now in
     let tuples = c.in_ok-groups.groups.tuples.items in
@@ -45,7 +45,7 @@ chosen-requires-clause-within g c =
     subst (λ n. AllByRecursion (λ k. k < n) c.as_slice-6.result.now) (sym long) (subst (AllByRecursion (λ k. k < length tuples)) (sym c.as_slice-6.ensures.value) all.within)
 
 pub returns : goal.returns
-returns g c = λ all held.
+returns c = λ all held.
     let named = c.in_ok-named.named.items in
     let places = c.args.places.now in
     let numbers = c.in_ok-groups.groups.numbers.items in

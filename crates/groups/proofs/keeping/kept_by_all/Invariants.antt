@@ -6,4 +6,4 @@ use Rattle.query.specs.Trees.{And, predicates_of}
 use Rattle.groups.proofs.keeping.kept_by_all.Given as goal
 
 abbrev pub invariant-loop-predicate : goal.invariant-loop-predicate
-invariant-loop-predicate g l = (all : List RowValue) → Hold all l.columns → KeptBy (And (predicates_of (take l.predicate-index l.predicates))) all l.places l.kept.items
+invariant-loop-predicate l = (all : List RowValue) → Hold all l.columns → KeptBy (And (predicates_of (take l.predicate-index l.predicates))) all l.places l.kept.items

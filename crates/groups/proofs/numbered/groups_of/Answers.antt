@@ -7,19 +7,19 @@ use Rattle.groups.proofs.TuplesLemmas.{all_at}
 use Rattle.groups.proofs.numbered.groups_of.Goals as goal
 
 pub loop-index-init : goal.loop-index-init
-loop-index-init g c = record {
+loop-index-init c = record {
   all = c.in_ok-groups.ensures.all;
   numbered = λ all held. c.in_ok-groups.ensures.one (picked_rows all c.args.rows.now) (rows_counted all c.args.rows.now);
 }
 
 pub column_of-requires : goal.column_of-requires
-column_of-requires g c = all_at (λ index. has c.args.columns.now index ≡ true) c.args.set.now c.loop-index.index-index 0 c.requires.there c.loop-index-test.true
+column_of-requires c = all_at (λ index. has c.args.columns.now index ≡ true) c.args.set.now c.loop-index.index-index 0 c.requires.there c.loop-index-test.true
 
 pub cut-requires-clause-rows : goal.cut-requires-clause-rows
-cut-requires-clause-rows g c = has_rows c.args.columns.now c.column_of.result.now _ c.args.rows.now c.requires.rows (c.column_of.ensures c.requires.rows.rows c.requires.rows.held)
+cut-requires-clause-rows c = has_rows c.args.columns.now c.column_of.result.now _ c.args.rows.now c.requires.rows (c.column_of.ensures c.requires.rows.rows c.requires.rows.held)
 
 pub loop-index-preserved : goal.loop-index-preserved
-loop-index-preserved g c = record {
+loop-index-preserved c = record {
   all = c.in_ok-finer.ensures.all;
   numbered = λ all held.
       let before : List ℕ = take c.loop-index.index-index c.args.set.now in
@@ -30,6 +30,6 @@ loop-index-preserved g c = record {
 }
 
 pub returns : goal.returns
-returns g c = λ all held.
+returns c = λ all held.
     subst (λ set. AreNumbered set (picked_rows all c.args.rows.now) c.loop-index.groups.numbers.items c.loop-index.groups.tuples.items)
     (take_all c.loop-index.index-index c.args.set.now (omega (arith, c.loop-index-test.false, c.loop-index.auto.index-index-end))) (c.loop-index.invariant.numbered all held)

@@ -2,4 +2,4 @@ use Rattle.std.proofs.Common.{◌≡◌, take}
 use Rattle.groups.proofs.numbered.longer.Given as goal
 
 abbrev pub invariant-loop-cell : goal.invariant-loop-cell
-invariant-loop-cell g l = l.all.items ≡ take l.cell-index l.cells
+invariant-loop-cell l = l.all.items ≡ take l.cell-index l.cells

@@ -38,3 +38,28 @@ returns g c =
     tallied_all c.args.kind c.args.count c.args.numbers.now (decoded (Some c.args.cells.now) (codes_at c.args.codes.now c.args.rows.now)) c.loop-at.accs.items c.loop-at.at
     (omega (arith, c.loop-at-test.false, c.loop-at.auto.at-end, c.requires.numbers.0))
     (omega (arith, c.loop-at-test.false, c.loop-at.auto.at-end, decoded_length (Some c.args.cells.now) c.args.codes.now c.args.rows.now)) c.loop-at.invariant
+
+pub loop-at-init : goal.loop-at-init
+loop-at-init g c = c.in_ok-accs.ensures
+
+pub bounds-numbers-at : goal.bounds-numbers-at
+bounds-numbers-at g c = omega (arith, c.loop-at-test.true, c.requires.numbers.0)
+
+pub bounds-rows-at : goal.bounds-rows-at
+bounds-rows-at g c = c.loop-at-test.true
+
+pub bounds-codes-rows : goal.bounds-codes-rows
+bounds-codes-rows g c = all_at (λ row. row < length c.args.codes.now) c.args.rows.now c.loop-at.at 0 c.requires.rows.within c.loop-at-test.true
+
+pub bounds-cells-codes : goal.bounds-cells-codes
+bounds-cells-codes g c =
+    all_at (λ code. code < length c.args.cells.now) c.args.codes.now (get_or c.args.rows.now c.loop-at.at 0) 0 c.requires.codes
+    (all_at (λ row. row < length c.args.codes.now) c.args.rows.now c.loop-at.at 0 c.requires.rows.within c.loop-at-test.true)
+
+pub index_mut-requires : goal.index_mut-requires
+index_mut-requires g c = omega (
+  arith,
+  all_at (λ n. n < c.args.count) c.args.numbers.now c.loop-at.at 0 c.requires.numbers.1 (omega (arith, c.loop-at-test.true, c.requires.numbers.0)),
+  c.loop-at.invariant.counted,
+  c.loop-at.accs.ok.0,
+)

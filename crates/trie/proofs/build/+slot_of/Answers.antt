@@ -9,6 +9,7 @@ use Rattle.trie.proofs.BuildLemmas.{branch_fits, branch_made, bucket_made, leaf_
 use Rattle.trie.proofs.DenseLemmas.{length-slots_of, none_dense}
 use Rattle.trie.proofs.MapsLemmas.{hashes}
 use Rattle.trie.proofs.RunsLemmas.{begun_all, begun_more, begun_none, digits_rise, rest_below, run_before, run_kept}
+use Rattle.trie.proofs.WriteLemmas.{ok_of}
 use Rattle.trie.proofs.build.+slot_of.Goals as goal
 
 pub returns-then-have_key_of : goal.returns-then-have_key_of
@@ -42,8 +43,8 @@ next_run-requires-clause-rise g t c =
     let low : c.args.depth < digit_count = omega (arith, c.requires.low) in
     digits_rise g.H.KeyHash.hash_of c.args.depth c.loop-digit.left.now c.loop-digit.invariant.left low
 
-pub slot_of-requires : goal.slot_of-requires
-slot_of-requires g t c κs within =
+pub slot_of-child-requires : goal.slot_of-child-requires
+slot_of-child-requires g t c κs within =
     let low : c.args.depth < digit_count = omega (arith, c.requires.low) in
     let run = c.in-Some-next_run.field-0 in
     let is = c.in-Some-next_run.ensures in
@@ -64,14 +65,14 @@ loop-digit-preserved g t c =
     let is = c.in-Some-next_run.ensures in
     let slots = slots_in c.loop-digit.made.bitmap c.loop-digit.made.children.items in
     let wide = length-slots_of c.loop-digit.made.bitmap (values c.loop-digit.made.children.items) in
-    let written = c.in_ok-made-2.ensures.written in
+    let child = ok_of c.slot_of-child.result _ c.in_ok-made-2.ensures.written in
     record {
       left = rest_below g.H.KeyHash.hash_of c.args.depth c.loop-digit.left.now run.pairs.now run.rest.now c.loop-digit.invariant.left is.joined;
-      begun = rw written.slots_are
+      begun = rw child.2.slots_are
           (begun_more g.H.KeyHash.hash_of g.K.Ord.cmp c.args.depth c.args.pairs.now c.loop-digit.left.now c.loop-digit.made.bitmap slots
-          c.loop-digit.invariant.begun run.digit run.pairs.now run.rest.now is c.in_ok-made-2.made.bitmap (node_of c.in_ok-child.child) wide
-          c.in_ok-child.ensures c.in_ok-made-2.ensures.before);
-      dense = written.dense;
+          c.loop-digit.invariant.begun run.digit run.pairs.now run.rest.now is c.in_ok-made-2.made.bitmap (node_of child.0) wide
+          (rw child.1 at c.slot_of-child.ensures) c.in_ok-made-2.ensures.before);
+      dense = child.2.dense;
     }
 
 pub branch_of-requires : goal.branch_of-requires

@@ -1,3 +1,4 @@
+use Rattle.std.proofs.Common.{refl}
 use Rattle.trie.specs.Holding.{pairs_of}
 use Rattle.trie.proofs.PairsLemmas.{pair_laid, pairs_laid}
 use Rattle.trie.proofs.build.bucket_of.Goals as goal
@@ -5,7 +6,7 @@ use Rattle.trie.proofs.build.bucket_of.Goals as goal
 pub loop-one-preserved : goal.loop-one-preserved
 loop-one-preserved g c =
     pair_laid g.K.Ord.cmp c.args.pairs.now c.loop-one.one-index c.one-item.result c.loop-one-test.true c.one-item.is
-    (pairs_of c.loop-one.rising.items) (pairs_of c.in_ok-rising.rising.items) c.in_ok-try_clone.field-0.value c.in_ok-try_clone.ensures
+    (pairs_of c.loop-one.rising.items) (pairs_of c.in_ok-rising.rising.items) c.one-item.result.pair.value refl
     c.in_ok-rising.ensures _ c.loop-one.invariant
 
 pub returns : goal.returns

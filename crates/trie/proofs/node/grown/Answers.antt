@@ -6,13 +6,13 @@ use Rattle.trie.proofs.node.grown.Goals as goal
 
 pub returns-in_default-clause-written : goal.returns-in_default-clause-written
 returns-in_default-clause-written g c =
-    let none : node_of c.args.slot ≡ None = ap node_of c.in_default.is in
-    rw none (written_end c.args.made.bitmap c.args.made.children c.requires.dense c.args.digit c.requires.digit c.requires.before)
+    let none : node_of c.in_ok-child.field-0 ≡ None = ap node_of c.in_default.is in
+    rw (c.in_ok-child.was, none) (written_end c.args.made.bitmap c.args.made.children c.requires.dense c.args.digit c.requires.digit c.requires.before)
 
 pub returns-clause-written : goal.returns-clause-written
 returns-clause-written g c =
-    let some : node_of c.args.slot ≡ Some (owned c.in-Some.child) = ap node_of c.in-Some.is in
-    rw some (written_last c.args.made.bitmap c.args.made.children c.requires.dense c.args.digit c.requires.digit c.requires.before
+    let some : node_of c.in_ok-child.field-0 ≡ Some (owned c.in-Some.child) = ap node_of c.in-Some.is in
+    rw (c.in_ok-child.was, some) (written_last c.args.made.bitmap c.args.made.children c.requires.dense c.args.digit c.requires.digit c.requires.before
     c.in-Some.child c.push.new.self c.in_ok-push.ensures.items _ (rw c.bit.ensures refl))
 
 pub returns-in_default-clause-before : goal.returns-in_default-clause-before

@@ -5,7 +5,7 @@ use Rattle.cells.specs.SameKeys.{same_cells}
 use Rattle.columns.proofs.cell_list.CellList.shown.Goals as goal
 
 pub returns-then-eq-clause-found : goal.returns-then-eq-clause-found
-returns-then-eq-clause-found g c =
+returns-then-eq-clause-found c =
     let items = c.self.inside.cells.items in
     let found = c.in_ok-found.found.now in
     let code = c.in_ok-code.field-0.now in

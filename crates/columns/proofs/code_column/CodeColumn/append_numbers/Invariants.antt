@@ -5,4 +5,4 @@ use Rattle.columns.specs.Columns.{decoded}
 use Rattle.columns.proofs.code_column.CodeColumn.append_numbers.Given as goal
 
 abbrev pub invariant-loop-code : goal.invariant-loop-code
-invariant-loop-code g l = Puts (decoded None (take l.code-index l.codes)) l.fn.self l.self
+invariant-loop-code l = Puts (decoded None (take l.code-index l.codes)) l.fn.self l.self

@@ -5,4 +5,4 @@ use Rattle.columns.specs.Columns.{decoded}
 use Rattle.columns.proofs.code_column.CodeColumn.make_list.Given as goal
 
 abbrev pub invariant-loop-code : goal.invariant-loop-code
-invariant-loop-code g l = Recode (take l.code-index (decoded None l.fn.self.by_row)) [] l.list l.codes.items
+invariant-loop-code l = Recode (take l.code-index (decoded None l.fn.self.by_row)) [] l.list l.codes.items

@@ -2,4 +2,4 @@ use Rattle.std.proofs.Common.{◌≡◌}
 use Rattle.columns.proofs.columns.Columns.forget_hints.Given as goal
 
 abbrev pub invariant-loop-place : goal.invariant-loop-place
-invariant-loop-place g l = l.self-inside.columns.items ≡ l.initial.self-inside.columns.items
+invariant-loop-place l = l.self-inside.columns.items ≡ l.initial.self-inside.columns.items

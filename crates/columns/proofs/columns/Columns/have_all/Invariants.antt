@@ -3,4 +3,4 @@ use Rattle.columns.specs.Columns.{HaveAll}
 use Rattle.columns.proofs.columns.Columns.have_all.Given as goal
 
 abbrev pub invariant-loop-index : goal.invariant-loop-index
-invariant-loop-index g l = HaveAll (take l.index-index l.indexes) l.self
+invariant-loop-index l = HaveAll (take l.index-index l.indexes) l.self

@@ -6,7 +6,7 @@ use Rattle.groups.proofs.PartingLemmas.{parted_by}
 use Rattle.groups.proofs.numbered.NumberedRows.cut.Goals as goal
 
 pub tuples_of-requires : goal.tuples_of-requires
-tuples_of-requires g c =
+tuples_of-requires c =
     let groups = c.args.self.now in
     let column = c.args.column.now in
     let rows : List ℕ = c.args.rows.now in
@@ -16,7 +16,7 @@ tuples_of-requires g c =
     (parts_below groups.numbers.items (codes_at column.by_row rows) finer.numbers.items finer.parts.items are (length groups.tuples.items) c.requires.all.within)
 
 pub returns-clause-all : goal.returns-clause-all
-returns-clause-all g c =
+returns-clause-all c =
     let groups = c.args.self.now in
     let column = c.args.column.now in
     let rows : List ℕ = c.args.rows.now in
@@ -26,7 +26,7 @@ returns-clause-all g c =
     c.requires.all.counted (c.in_ok-tuples.ensures ∙ ap (parted_tuples groups.tuples.items column.cells) c.as_slice-2.ensures.value)
 
 pub returns-clause-cut : goal.returns-clause-cut
-returns-clause-cut g c = λ all set index is numbered.
+returns-clause-cut c = λ all set index is numbered.
     let groups = c.args.self.now in
     let column = c.args.column.now in
     let rows : List ℕ = c.args.rows.now in
