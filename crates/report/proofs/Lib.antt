@@ -1,6 +1,8 @@
-pub mod StartedLemmas
+pub mod ArrangingLemmas
 pub mod CrossingLemmas
 pub mod PiecesLemmas
+pub mod SortingLemmas
+pub mod StartedLemmas
 pub mod WaitingLemmas
 pub mod WantsLemmas
 pub mod WatchingLemmas

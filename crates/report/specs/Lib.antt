@@ -1,3 +1,4 @@
+pub mod Arranging
 pub mod Audiences
 pub mod Laws
 pub mod Limits

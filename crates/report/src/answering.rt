@@ -9,6 +9,7 @@ ghost use Rattle.report.specs.Reports.{asked_in, classic};
 ghost use Rattle.report.specs.Standing.{AreRowsFor};
 ghost use Rattle.report.specs.Waiting.{IsReportText};
 
+use crate::arranging::{Arrangement, arrange};
 use crate::pieces::{cutting_of, pieces_of};
 use crate::printing::text_in;
 use crate::question::Question;
@@ -53,7 +54,8 @@ pub fn answer<H: KeyHash<Cell> + KeyHash<Tuple> + Send + Sync, G: Gate, R: Threa
         cutting: *cutting,
         gate,
     };
-    Ok(answering.text_in(0, snapshot, Form::Classic, plan)?)
+    let arrangement = Arrangement::none(alloc);
+    Ok(answering.text_in(0, snapshot, Form::Classic, plan, &arrangement)?)
 }
 
 /// What reports are answered with: where threads and memory come from, how many workers answer a report, how rows are cut
@@ -95,24 +97,33 @@ impl<'a, R: Threads + Wait + Sync, G: Gate> Answering<'a, R, G> {
     ) -> Result<Vec<u8>, Want>
         ensures { IfOk result (λ text. IsReportText snapshot.now.rows question.now text.items) }
     {
-        self.text_in(line, snapshot, question.form, &question.plan)
+        self.text_in(
+            line,
+            snapshot,
+            question.form,
+            &question.plan,
+            &question.arrangement,
+        )
     }
 
-    /// The same of the plan's report in this form.
+    /// The same of the plan's report in this form, of so arranged rows.
     fn text_in<H: KeyHash<Cell> + KeyHash<Tuple> + Send + Sync>(
         &self,
         line: u64,
         snapshot: &Snapshot<H>,
         form: Form,
         plan: &Plan,
+        arrangement: &Arrangement,
     ) -> Result<Vec<u8>, Want>
-        ensures { IfOk result (λ text. IsReportText snapshot.now.rows (asked_in form plan.now) text.items) }
+        ensures { IfOk result (λ text. IsReportText snapshot.now.rows (asked_in form plan.now arrangement.now) text.items) }
     {
         // These do nothing: the order of rows does not count, and a list of an edition's rows has those of its map.
         any_order::<H>();
         a_map_has_its_entries::<Cell, Row>();
-        let rows = self.rows(snapshot, plan)?;
-        let text = text_in(self.alloc, form, plan, rows.as_slice())?;
+        let mut rows = self.rows(snapshot, plan)?;
+        let headings = plan.headings();
+        arrange(self.alloc, arrangement, headings, &mut rows)?;
+        let text = text_in(self.alloc, form, headings, rows.as_slice())?;
         self.gate.reported(
             line,
             snapshot.edition(),

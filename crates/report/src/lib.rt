@@ -3,6 +3,8 @@
 #![tactic(auto)]
 
 mod answering;
+mod arranging;
+mod at_once;
 mod audience;
 mod backlog;
 mod failing;
@@ -20,6 +22,7 @@ mod want;
 mod watching;
 
 pub use answering::{Answering, answer};
+pub use arranging::{Arrangement, SortKey};
 pub use audience::Audience;
 pub use backlog::Backlog;
 pub use failing::Failing;

@@ -3,7 +3,7 @@ ghost use Rattle.std.specs.Prelude.{◌≡◌, ◌∷◌, [], ◌++◌, IfErr, I
 ghost use Rattle.std.specs.List.{flat_map, join_by};
 ghost use Rattle.forms.specs.Json.{json_row};
 ghost use Rattle.forms.specs.Tables.{table_row, widths_of};
-ghost use Rattle.report.specs.Reports.{asked_in, report_of, report_text, text_of};
+ghost use Rattle.report.specs.Reports.{report_of, report_text};
 
 use cells::{Refused, Text};
 use forms::table::Widths;
@@ -19,19 +19,18 @@ pub fn text(alloc: Global, plan: &Plan, rows: &[ReportRow]) -> Result<Vec<u8>, R
     ensures text { IfOk result (λ text. text.items ≡ report_text plan.now rows.now) }
     ensures refused { IfErr result (λ e. e ≡ Refused.OutOfMemory) }
 {
-    Ok(text_in(alloc, Form::Classic, plan, rows)?)
+    Ok(text_in(alloc, Form::Classic, plan.headings(), rows)?)
 }
 
-/// The text of a report in a form.
+/// The text of a report in a form, of whose rows each stands where it is written.
 pub(crate) fn text_in(
     alloc: Global,
     form: Form,
-    plan: &Plan,
+    headings: &[Text],
     rows: &[ReportRow],
 ) -> Result<Vec<u8>, AllocError>
-    ensures { IfOk result (λ text. text.items ≡ text_of (asked_in form plan.now) rows.now) }
+    ensures { IfOk result (λ text. text.items ≡ report_of form headings.now rows.now) }
 {
-    let headings = plan.headings();
     match form {
         Form::Classic => classic_text(alloc, headings, rows),
         Form::Csv => csv_text(alloc, headings, rows),

@@ -1,6 +1,7 @@
-use Rattle.std.proofs.Common.{ap, ◌∙◌}
+use Rattle.std.proofs.Common.{ap₂, ◌∙◌}
 use Rattle.report.proofs.PiecesLemmas.{listed_as}
-use Rattle.report.specs.Reports.{asked_in, text_of}
+use Rattle.report.specs.Arranging.{arranged}
+use Rattle.report.specs.Reports.{report_of}
 use Rattle.report.proofs.answering.Answering.text_in.Goals as goal
 
 pub returns : goal.returns
@@ -9,5 +10,7 @@ returns g c = record {
       let plan = c.args.plan.now in
       let all = c.in_ok-rows.ensures in
       let moved = listed_as c.a_map_has_its_entries.ensures _ _ rs all.all left same in
-      c.in_ok-text.ensures ∙ ap (text_of (asked_in c.args.form plan)) (c.as_slice.ensures.value ∙ all.are ∙ c.any_order.ensures.report plan _ rs moved);
+      let came = all.are ∙ c.any_order.ensures.report plan _ rs moved in
+      c.in_ok-text.ensures
+      ∙ ap₂ (report_of c.args.form) c.headings-headings.ensures (c.as_slice.ensures.value ∙ c.in_ok-arrange.ensures ∙ ap₂ (arranged c.args.arrangement.now) c.headings-headings.ensures came);
 }
