@@ -61,7 +61,7 @@ fn narrowed(kind: ColumnType, field: &[u8]) -> ColumnType
 }
 
 /// Whether a field is NULL or spells an integer.
-fn fits_int(field: &[u8]) -> bool
+pub(crate) fn fits_int(field: &[u8]) -> bool
     ensures { result ≡ fits_int field.now }
 {
     field.is_empty() || integer_in(field).is_some()

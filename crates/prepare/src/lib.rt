@@ -15,6 +15,7 @@ mod place;
 mod record;
 mod records;
 mod rows;
+mod texts;
 mod words;
 
 pub use choice::{Choice, Chosen};
@@ -26,4 +27,5 @@ pub use listed::{ListFault, columns_of, first_again, header_of, listed_columns, 
 pub use part::{MadePart, prepared};
 pub use place::line_of;
 pub use records::Records;
+pub use texts::{TextField, first_text};
 pub use words::{name_of, word};
