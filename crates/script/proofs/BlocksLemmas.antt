@@ -40,8 +40,8 @@ module _ (each : EachAnswered) (hash : Cell → ℕ) (givens : Givens) where
   pub some_output : (script : List ℕ) → (bytes : List ℕ) × IsOutput hash givens script bytes
   some_output script = go (cases_lt script_limit (length script)) (cases_lt part_limit (length givens.parts)) where
     go : (script_limit < length script) ⊎ (length script ≤ script_limit) → (part_limit < length givens.parts) ⊎ (length givens.parts ≤ part_limit) → (bytes : List ℕ) × IsOutput hash givens script bytes
-    go (inl long) few = (refusal givens.form 0 (Line Limit), too_much (inl long))
-    go (inr short) (inl many) = (refusal givens.form 0 (Line Limit), too_much (inr many))
+    go (inl long) few = (refusal givens.manner.form 0 (Line Limit), too_much (inl long))
+    go (inr short) (inl many) = (refusal givens.manner.form 0 (Line Limit), too_much (inr many))
     go (inr short) (inr few) = let (bytes, are) = some_blocks (lines script) [] in (bytes, of_lines short few are)
 
 -- ---- and no other

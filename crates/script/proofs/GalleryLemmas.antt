@@ -7,8 +7,6 @@ use Rattle.board.specs.Editions.{Editions}
 use Rattle.board.specs.Editions as keeper
 use Rattle.cells.specs.declared.refused.Refused.{Refused}
 use Rattle.cells.specs.declared.refused.Refused.TheVariants as refused
-use Rattle.forms.specs.declared.form.Form.{Form}
-use Rattle.query.specs.Plans.{PlanTree}
 use Rattle.report.specs.Laws.{takes_nothing}
 use Rattle.report.specs.declared.want.Want.{Want}
 use Rattle.report.specs.Watching.{ComesBack, GoUpTo, IsOf, Sight, Watch, Watching}
@@ -17,11 +15,12 @@ use Rattle.script.specs.Desks.{Keeps}
 use Rattle.script.specs.Endings.{BeginsToWrite, Delivers}
 use Rattle.script.specs.Givens.{Givens}
 use Rattle.script.specs.Output.{edition, editions}
-use Rattle.script.specs.Says.{IsRefused, MeansPlan}
+use Rattle.script.specs.Says.{IsRefused}
 use Rattle.script.specs.Tails.{AreViewers, AreViews, Viewing}
-use Rattle.script.specs.Viewers.{Attend, HasAttended, HasViewers, IsStarted, begun, turned, view_block}
+use Rattle.script.specs.Viewers.{Attend, HasAttended, HasViewers, IsAskedSo, IsStarted, begun, turned, view_block}
 use Rattle.script.specs.declared.ended.Ended.{Ended}
 use Rattle.script.specs.declared.ended.Ended.TheVariants.{WriteFailed}
+use Rattle.script.specs.declared.manner.Manner.{Manner}
 use Rattle.script.specs.declared.stage.Stage.{Stage}
 use Rattle.script.specs.declared.stage.Stage.TheVariants.{Begun, Expected, Turned}
 use Rattle.script.proofs.TailsLemmas.{SoFar, begins_more, some_view, some_viewers, views_of}
@@ -32,27 +31,27 @@ Lines = List (List ℕ)
 -- ---- how they are started
 
 -- all viewers were started
-pub begun_all : {form : Form} (viewing : Viewing) (k : Editions) (watches : List Watch) (plans : List PlanTree) → length watches ≡ length plans → length plans ≡ viewing.viewers → AllByRecursion (IsStarted form viewing k) watches →
-    Attend form viewing (Some k) Begun watches
-begun_all viewing k watches plans many all started = begun (many ∙ all) started
+pub begun_all : {manner : Manner} (viewing : Viewing) (k : Editions) (watches : List Watch) (questions : List Question) → length watches ≡ length questions → length questions ≡ viewing.viewers → AllByRecursion (IsStarted manner viewing k) watches →
+    Attend manner viewing (Some k) Begun watches
+begun_all viewing k watches questions many all started = begun (many ∙ all) started
 
 -- their query is refused
-pub turned_all : {form : Form} (viewing : Viewing) (k : Editions) (fault : Refused) (watches : List Watch) → watches ≡ [] → (fault ≡ refused.OutOfMemory → ⊥) → IsRefused (keeper.schema k) viewing.query fault →
-    Attend form viewing (Some k) (Turned fault) watches
+pub turned_all : {manner : Manner} (viewing : Viewing) (k : Editions) (fault : Refused) (watches : List Watch) → watches ≡ [] → (fault ≡ refused.OutOfMemory → ⊥) → IsRefused (keeper.schema k) viewing.query fault →
+    Attend manner viewing (Some k) (Turned fault) watches
 turned_all viewing k fault watches none memory (inl late) = absurd (memory late)
-turned_all {form = form} viewing k fault watches none memory (inr says) = subst (Attend form viewing (Some k) (Turned fault)) (sym none) (turned (says []))
+turned_all {manner = manner} viewing k fault watches none memory (inr says) = subst (Attend manner viewing (Some k) (Turned fault)) (sym none) (turned (says []))
 
 -- they attend once they were started or turned away
-pub attended_begun : {T E : Type 0} (form : Form) (asked : Option Viewing) (viewing : Viewing) (desk : Option Editions) (k : Editions) (stage : Stage) (watches : List Watch) (result : Result T E) →
-    asked ≡ Some viewing → desk ≡ Some k → OnOk result (Attend form viewing (Some k) stage watches) → OnOk result (stage ≡ Expected → ⊥) → OnOk result (HasAttended form asked desk stage watches)
-attended_begun form None viewing desk k stage watches result same there attend late = absurd cc
-attended_begun form (Some other) viewing None k stage watches result same there attend late = absurd cc
-attended_begun form (Some other) viewing (Some l) k stage watches (Err e) same there attend late = tt
-attended_begun form (Some other) viewing (Some l) k stage watches (Ok x) same there attend late =
+pub attended_begun : {T E : Type 0} (manner : Manner) (asked : Option Viewing) (viewing : Viewing) (desk : Option Editions) (k : Editions) (stage : Stage) (watches : List Watch) (result : Result T E) →
+    asked ≡ Some viewing → desk ≡ Some k → OnOk result (Attend manner viewing (Some k) stage watches) → OnOk result (stage ≡ Expected → ⊥) → OnOk result (HasAttended manner asked desk stage watches)
+attended_begun manner None viewing desk k stage watches result same there attend late = absurd cc
+attended_begun manner (Some other) viewing None k stage watches result same there attend late = absurd cc
+attended_begun manner (Some other) viewing (Some l) k stage watches (Err e) same there attend late = tt
+attended_begun manner (Some other) viewing (Some l) k stage watches (Ok x) same there attend late =
     let one : viewing ≡ other = cc in
     let kept : k ≡ l = cc in
     record {
-      attend = subst (λ v. Attend form v (Some l) stage watches) one (subst (λ n. Attend form viewing (Some n) stage watches) kept attend);
+      attend = subst (λ v. Attend manner v (Some l) stage watches) one (subst (λ n. Attend manner viewing (Some n) stage watches) kept attend);
       declared = λ has is. absurd (late is);
     }
 
@@ -63,62 +62,59 @@ has_viewers (Some other) viewing same = tt
 -- ---- how one is written
 
 -- the blocks of the reports up to the last edition
-pub blocks_of : (form : Form) (givens : Givens) (before : Lines) (k : Editions) (query : List ℕ) (question : Question) (viewer count n : ℕ) (shots : List Sight) (text : List ℕ) → question.form ≡ form →
-    MeansPlan (keeper.schema k) query question.plan → Keeps givens before k → n ≡ count → GoUpTo (keeper.history k) question (keeper.edition k) 0 n shots → text ≡ flat_map (view_block form viewer) shots →
-    AreViews form (keeper.schema k) (editions givens before) query (keeper.edition k) viewer 0 count text
-blocks_of form givens before k query question viewer count n shots text same means keeps many up is =
-    subst (AreViews form (keeper.schema k) (editions givens before) query (keeper.edition k) viewer 0 count) (sym is)
-    (subst (λ m. AreViews form (keeper.schema k) (editions givens before) query (keeper.edition k) viewer 0 m (flat_map (view_block form viewer) shots)) many
-    (subst (λ f. AreViews f (keeper.schema k) (editions givens before) query (keeper.edition k) viewer 0 n (flat_map (view_block f viewer) shots)) same
-    (views_of givens before k query question means keeps.history viewer up)))
+pub blocks_of : (manner : Manner) (givens : Givens) (before : Lines) (k : Editions) (query : List ℕ) (question : Question) (viewer count n : ℕ) (shots : List Sight) (text : List ℕ) →
+    IsAskedSo manner (keeper.schema k) query question → Keeps givens before k → n ≡ count → GoUpTo (keeper.history k) question (keeper.edition k) 0 n shots → text ≡ flat_map (view_block manner.form viewer) shots →
+    AreViews manner (keeper.schema k) (editions givens before) query (keeper.edition k) viewer 0 count text
+blocks_of manner givens before k query question viewer count n shots text asked keeps many up is =
+    subst (AreViews manner (keeper.schema k) (editions givens before) query (keeper.edition k) viewer 0 count) (sym is)
+    (subst (λ m. AreViews manner (keeper.schema k) (editions givens before) query (keeper.edition k) viewer 0 m (flat_map (view_block manner.form viewer) shots)) many
+    (views_of manner givens before k query question asked keeps.history viewer up))
 
 -- ---- how they come back
 
 -- a viewer of the keeper, which answers the query and made all its reports
-pub record CameBack (form : Form) (viewing : Viewing) (k : Editions) (watcher : Watching) : Type 0 where
+pub record CameBack (manner : Manner) (viewing : Viewing) (k : Editions) (watcher : Watching) : Type 0 where
   pub own : IsOf k watcher.viewer
-  pub form_is : watcher.question.form ≡ form
-  pub plan : MeansPlan (keeper.schema k) viewing.query watcher.question.plan
+  pub asked : IsAskedSo manner (keeper.schema k) viewing.query watcher.question
   pub many : length watcher.shots ≡ viewing.shots
 
-pub came_back : (form : Form) (viewing : Viewing) (k : Editions) (old new : List Watch) (result : Result Watching Want) → ComesBack old new result → AllByRecursion (IsStarted form viewing k) old →
-    IfOk result (CameBack form viewing k)
-came_back form viewing k old new result back all =
-    let started = (subst (AllByRecursion (IsStarted form viewing k)) back.first all).0 in
+pub came_back : (manner : Manner) (viewing : Viewing) (k : Editions) (old new : List Watch) (result : Result Watching Want) → ComesBack old new result → AllByRecursion (IsStarted manner viewing k) old →
+    IfOk result (CameBack manner viewing k)
+came_back manner viewing k old new result back all =
+    let started = (subst (AllByRecursion (IsStarted manner viewing k)) back.first all).0 in
     IfOk-weaker result _ _ (λ watcher has. record {
       own = record { board = has.board ∙ started.board; schema = has.schema ∙ started.schema };
-      form_is = ap (λ (q : Question). q.form) has.question ∙ started.form_is;
-      plan = subst (λ (q : Question). MeansPlan (keeper.schema k) viewing.query q.plan) (sym has.question) started.plan;
+      asked = subst (IsAskedSo manner (keeper.schema k) viewing.query) (sym has.question) started.asked;
       many = omega (arith, has.many, ap length started.none, started.count);
     }) back.watched
 
 -- one fewer is left, and each of them was started
-pub left_back : (form : Form) (viewing : Viewing) (k : Editions) (old new : List Watch) (result : Result Watching Want) → ComesBack old new result → AllByRecursion (IsStarted form viewing k) old →
-    AllByRecursion (IsStarted form viewing k) new × (length old ≡ suc (length new))
-left_back form viewing k old new result back all = ((subst (AllByRecursion (IsStarted form viewing k)) back.first all).1, ap length back.first)
+pub left_back : (manner : Manner) (viewing : Viewing) (k : Editions) (old new : List Watch) (result : Result Watching Want) → ComesBack old new result → AllByRecursion (IsStarted manner viewing k) old →
+    AllByRecursion (IsStarted manner viewing k) new × (length old ≡ suc (length new))
+left_back manner viewing k old new result back all = ((subst (AllByRecursion (IsStarted manner viewing k)) back.first all).1, ap length back.first)
 
 -- blocks that any of them might have
-pub some_back : {form : Form} (givens : Givens) (before : Lines) (viewing : Viewing) (k : Editions) (old new : List Watch) (result : Result Watching Want) → Keeps givens before k → ComesBack old new result → AllByRecursion (IsStarted form viewing k) old →
-    (viewer count : ℕ) → (bytes : List ℕ) × AreViewers form (keeper.schema k) (editions givens before) (keeper.edition k) viewing viewer count bytes
-some_back {form = form} givens before viewing k old new result keeps back all =
+pub some_back : {manner : Manner} (givens : Givens) (before : Lines) (viewing : Viewing) (k : Editions) (old new : List Watch) (result : Result Watching Want) → Keeps givens before k → ComesBack old new result → AllByRecursion (IsStarted manner viewing k) old →
+    (viewer count : ℕ) → (bytes : List ℕ) × AreViewers manner (keeper.schema k) (editions givens before) (keeper.edition k) viewing viewer count bytes
+some_back {manner = manner} givens before viewing k old new result keeps back all =
     let plan = back.watch.before.question.plan in
-    let means = (subst (AllByRecursion (IsStarted form viewing k)) back.first all).0.plan in
-    subst (λ last. (viewer count : ℕ) → (bytes : List ℕ) × AreViewers form (keeper.schema k) (editions givens before) last viewing viewer count bytes) (sym keeps.edition)
-    (some_viewers form (keeper.schema k) (editions givens before) (edition givens before) viewing (some_view form givens before (keeper.schema k) viewing plan means))
+    let means = (subst (AllByRecursion (IsStarted manner viewing k)) back.first all).0.asked.plan in
+    subst (λ last. (viewer count : ℕ) → (bytes : List ℕ) × AreViewers manner (keeper.schema k) (editions givens before) last viewing viewer count bytes) (sym keeps.edition)
+    (some_viewers manner (keeper.schema k) (editions givens before) (edition givens before) viewing (some_view manner givens before (keeper.schema k) viewing plan means))
 
 -- one of them ended the run behind a beginning of its blocks
-pub delivers_more : {W S T : Type 0} {form : Form} (taken : W → Option (List ℕ)) (faults : W → ℕ) (old middle new : W) (givens : Givens) (before : Lines) (viewing : Viewing) (k : Editions) (number many left : ℕ) (e : Ended) (one : Result S Ended) (result : Result T Ended) →
-    SoFar form (taken old) (taken middle) (keeper.schema k) (editions givens before) (keeper.edition k) viewing number left many → (fewer : ℕ) → left ≡ suc fewer →
-    ((viewer count : ℕ) → (bytes : List ℕ) × AreViewers form (keeper.schema k) (editions givens before) (keeper.edition k) viewing viewer count bytes) → faults middle ≡ faults old →
-    one ≡ Err e → Delivers taken faults middle new (AreViews form (keeper.schema k) (editions givens before) viewing.query (keeper.edition k) (number + 1) 0 viewing.shots) one → result ≡ Err e →
-    Delivers taken faults old new (AreViewers form (keeper.schema k) (editions givens before) (keeper.edition k) viewing 1 many) result
-delivers_more {S = S} {form = form} taken faults old middle new givens before viewing k number many left e one result so_far fewer is some sound met one_is ended =
-    let d : Delivers {T = S} taken faults middle new (AreViews form (keeper.schema k) (editions givens before) viewing.query (keeper.edition k) (number + 1) 0 viewing.shots) (Err e) =
-    subst (Delivers taken faults middle new (AreViews form (keeper.schema k) (editions givens before) viewing.query (keeper.edition k) (number + 1) 0 viewing.shots)) met one_is in
-    subst (Delivers taken faults old new (AreViewers form (keeper.schema k) (editions givens before) (keeper.edition k) viewing 1 many)) (sym ended) (record {
+pub delivers_more : {W S T : Type 0} {manner : Manner} (taken : W → Option (List ℕ)) (faults : W → ℕ) (old middle new : W) (givens : Givens) (before : Lines) (viewing : Viewing) (k : Editions) (number many left : ℕ) (e : Ended) (one : Result S Ended) (result : Result T Ended) →
+    SoFar manner (taken old) (taken middle) (keeper.schema k) (editions givens before) (keeper.edition k) viewing number left many → (fewer : ℕ) → left ≡ suc fewer →
+    ((viewer count : ℕ) → (bytes : List ℕ) × AreViewers manner (keeper.schema k) (editions givens before) (keeper.edition k) viewing viewer count bytes) → faults middle ≡ faults old →
+    one ≡ Err e → Delivers taken faults middle new (AreViews manner (keeper.schema k) (editions givens before) viewing.query (keeper.edition k) (number + 1) 0 viewing.shots) one → result ≡ Err e →
+    Delivers taken faults old new (AreViewers manner (keeper.schema k) (editions givens before) (keeper.edition k) viewing 1 many) result
+delivers_more {S = S} {manner = manner} taken faults old middle new givens before viewing k number many left e one result so_far fewer is some sound met one_is ended =
+    let d : Delivers {T = S} taken faults middle new (AreViews manner (keeper.schema k) (editions givens before) viewing.query (keeper.edition k) (number + 1) 0 viewing.shots) (Err e) =
+    subst (Delivers taken faults middle new (AreViews manner (keeper.schema k) (editions givens before) viewing.query (keeper.edition k) (number + 1) 0 viewing.shots)) met one_is in
+    subst (Delivers taken faults old new (AreViewers manner (keeper.schema k) (editions givens before) (keeper.edition k) viewing 1 many)) (sym ended) (record {
       output = tt;
       beginning = begins_more (taken old) (taken middle) (keeper.schema k) (editions givens before) (keeper.edition k) viewing number many (taken new) fewer
-          (subst (λ n. SoFar form (taken old) (taken middle) (keeper.schema k) (editions givens before) (keeper.edition k) viewing number n many) is so_far) some d.beginning;
+          (subst (λ n. SoFar manner (taken old) (taken middle) (keeper.schema k) (editions givens before) (keeper.edition k) viewing number n many) is so_far) some d.beginning;
       fault = λ late. let writer : e ≡ WriteFailed = cc in let failed = d.fault (ap Err writer) in omega (arith, failed, sound);
       sound = tt;
     })

@@ -8,6 +8,7 @@ pub mod ListingsLemmas
 pub mod ProgressLemmas
 pub mod RefusalsLemmas
 pub mod SaysLemmas
+pub mod SessionsLemmas
 pub mod StatementsLemmas
 pub mod StepsLemmas
 pub mod StopsLemmas

@@ -16,7 +16,7 @@ use Rattle.script.specs.Endings.{AsksForWorkers, BeginsToWrite, Delivers, HasWor
 use Rattle.script.specs.Givens.{Givens, givens}
 use Rattle.script.specs.Limits.{script_limit}
 use Rattle.script.specs.Output.{IsBlock, deed_behind, edition, is_publish}
-use Rattle.script.specs.Stops.{AreBlocksUpTo, GoesOver, HoweverFinished, StopsAfter, Tells, last_line, line_first, no_line, stops}
+use Rattle.script.specs.Stops.{AreBlocksUpTo, GoesOver, HoweverFinished, IsRefusedLine, StopsAfter, last_line, line_first, no_line, stops}
 use Rattle.script.specs.Desks.{Publishable, IsBehind, schema_of_desk}
 use Rattle.script.specs.declared.block.Block.{Block}
 use Rattle.script.specs.declared.ended.Ended.{Ended}
@@ -24,7 +24,7 @@ use Rattle.script.specs.declared.finish.Finish.{Finish}
 use Rattle.script.specs.declared.finish.Finish.TheVariants.{Stopped, Through}
 use Rattle.script.specs.declared.on_refusal.OnRefusal.{OnRefusal}
 use Rattle.script.proofs.BlocksLemmas.{reversed_onto}
-use Rattle.script.proofs.SaysLemmas.{EachAnswered}
+use Rattle.script.proofs.SaysLemmas.{EachAnswered, OneAnswer}
 use Rattle.script.proofs.StepsLemmas.{does_so}
 use Rattle.script.proofs.StopsLemmas.{goes_after, some_blocks_up_to, stops_after, stops_or_goes}
 use Rattle.report.specs.Laws.{takes_beginning, takes_last, takes_more}
@@ -88,21 +88,17 @@ module _ (old new : Option (List ℕ)) (hash : Cell → ℕ) (givens : Givens) (
 
   module _ {H : Type 0} (line : List ℕ) (rest : List (List ℕ)) (after : Option Editions) (block : Block H) (is : left ≡ line ∷ rest) (steps : Steps hash givens line (number + 1) desk after block) where
     -- what the line's block will be
-    pub told : Foretells (number + 1) (IsBlock hash givens before line) block
+    pub told : Foretells (IsBlock hash givens before line) (IsRefusedLine givens before line) block
     told = steps.foretells before reached.stands (ap (λ n. n + 1) reached.number_is)
 
-    -- whether it is refused
-    told_refused : Tells (is_refused block) (length before + 1) told.text
-    told_refused = subst (λ n. Tells (is_refused block) n told.text) (ap (λ n. n + 1) reached.number_is) told.tells
-
     -- it comes next
-    next_text : (StopsAfter on (length before + 1) told.text → ⊥) → (finish : Finish) (bytes : List ℕ) → AreBlocksUpTo hash givens on (line ∷ before) rest finish bytes →
+    next_text : (StopsAfter on (IsRefusedLine givens before line) → ⊥) → (finish : Finish) (bytes : List ℕ) → AreBlocksUpTo hash givens on (line ∷ before) rest finish bytes →
         AreBlocksUpTo hash givens on [] script finish (reached.front ++ (reached.waiting ++ (told.text ++ bytes)))
     next_text goes finish bytes are =
         reached.blocks finish (told.text ++ bytes) (subst (λ ls. AreBlocksUpTo hash givens on before ls finish (told.text ++ bytes)) (sym is) (line_first told.text bytes told.is goes are))
 
     -- or it is the last one
-    last_text : StopsAfter on (length before + 1) told.text → AreBlocksUpTo hash givens on [] script Stopped (reached.front ++ (reached.waiting ++ told.text))
+    last_text : StopsAfter on (IsRefusedLine givens before line) → AreBlocksUpTo hash givens on [] script Stopped (reached.front ++ (reached.waiting ++ told.text))
     last_text stop = reached.blocks Stopped told.text (subst (λ ls. AreBlocksUpTo hash givens on before ls Stopped told.text) (sym is) (last_line told.is stop))
 
     -- a line whose report, or an earlier one, wants a worker
@@ -128,7 +124,7 @@ module _ (old new : Option (List ℕ)) (hash : Cell → ℕ) (givens : Givens) (
                 (ap (λ t. reached.front ++ t)
                 (sym (append_assoc reached.waiting told.text bytes) ∙ ap (λ t. t ++ bytes) p.whole_is ∙ append_assoc p.front goes_on.front.rest bytes)
                 ∙ sym (append_assoc reached.front p.front (goes_on.front.rest ++ bytes)))
-                (next_text (goes_after on (is_refused block) (length before + 1) told.text goes told_refused) finish bytes are);
+                (next_text (goes_after on (is_refused block) (IsRefusedLine givens before line) goes told.tells) finish bytes are);
             stands = steps.stands before reached.stands;
             number_is = omega (arith, reached.number_is);
             short = omega (arith, reached.short, ap length is);
@@ -145,15 +141,15 @@ module _ (old new : Option (List ℕ)) (hash : Cell → ℕ) (givens : Givens) (
             awaits = goes_on.front.awaits;
             blocks = subst (AreBlocksUpTo hash givens on [] script Stopped)
                 (ap (λ t. reached.front ++ t) p.whole_is ∙ sym (append_assoc reached.front p.front goes_on.front.rest))
-                (last_text (stops_after on (is_refused block) (length before + 1) told.text stop told_refused));
+                (last_text (stops_after on (is_refused block) (IsRefusedLine givens before line) stop told.tells));
             asked = asked_more;
             stands = λ through. absurd cc;
           }
 
     -- a beginning of what comes next
-    pub reached_beginning : EachAnswered → (newer : Option (List ℕ)) → TakesBeginning new newer (reached.waiting ++ told.text) → BeginsToWrite (HoweverFinished (AreBlocksUpTo hash givens on [] script)) old newer
-    reached_beginning each newer beginning = go (stops_or_goes on (is_refused block) (length before + 1) told.text told_refused) where
-      go : StopsAfter on (length before + 1) told.text ⊎ (StopsAfter on (length before + 1) told.text → ⊥) → BeginsToWrite (HoweverFinished (AreBlocksUpTo hash givens on [] script)) old newer
+    pub reached_beginning : EachAnswered → OneAnswer → (newer : Option (List ℕ)) → TakesBeginning new newer (reached.waiting ++ told.text) → BeginsToWrite (HoweverFinished (AreBlocksUpTo hash givens on [] script)) old newer
+    reached_beginning each law newer beginning = go (stops_or_goes on (is_refused block) (IsRefusedLine givens before line) told.tells) where
+      go : StopsAfter on (IsRefusedLine givens before line) ⊎ (StopsAfter on (IsRefusedLine givens before line) → ⊥) → BeginsToWrite (HoweverFinished (AreBlocksUpTo hash givens on [] script)) old newer
       go (inl stop) =
           let whole = reached.front ++ (reached.waiting ++ told.text) in
           record {
@@ -162,7 +158,7 @@ module _ (old new : Option (List ℕ)) (hash : Cell → ℕ) (givens : Givens) (
             beginning = takes_last old new newer whole (reached.waiting ++ told.text) (record { front = reached.front; whole_is = refl; taken = reached.taken }) beginning;
           }
       go (inr goes) =
-          let some = some_blocks_up_to each hash givens on rest (line ∷ before) in
+          let some = some_blocks_up_to each law hash givens on rest (line ∷ before) in
           let whole = reached.front ++ (reached.waiting ++ (told.text ++ some.bytes)) in
           record {
             whole = whole;
@@ -172,9 +168,9 @@ module _ (old new : Option (List ℕ)) (hash : Cell → ℕ) (givens : Givens) (
           }
 
   -- what was written so far
-  pub reached_so_far : EachAnswered → BeginsToWrite (HoweverFinished (AreBlocksUpTo hash givens on [] script)) old new
-  reached_so_far each =
-      let some = some_blocks_up_to each hash givens on left before in
+  pub reached_so_far : EachAnswered → OneAnswer → BeginsToWrite (HoweverFinished (AreBlocksUpTo hash givens on [] script)) old new
+  reached_so_far each law =
+      let some = some_blocks_up_to each law hash givens on left before in
       record {
         whole = reached.front ++ (reached.waiting ++ some.bytes);
         is_whole = record { finish = some.finish; is = reached.blocks some.finish some.bytes some.are };
@@ -266,7 +262,7 @@ one_more true m n h = omega arith
 one_more false m n h = omega arith
 
 -- there are no more publishes than lines
-edition-le : (givens : Givens) (before : List (List ℕ)) → edition givens before ≤ length before
+pub edition-le : (givens : Givens) (before : List (List ℕ)) → edition givens before ≤ length before
 edition-le givens [] = omega arith
 edition-le givens (line ∷ before) = let h = one_more (is_publish (deed_behind givens before line)) (edition givens before) (length before) (edition-le givens before) in omega (arith, h)
 

@@ -1,22 +1,25 @@
--- Which texts are refusals.
-use Rattle.std.proofs.Common.{◌≡◌, ◌∙◌, ◌<◌, ℕ, Result, Ok, Err, List, [], ◌++◌, get_or, inl, inr, sym, ap, refl, append_assoc, arith}
-use Rattle.std.proofs.lemmas.List.{append_cancel_left}
-use Rattle.std.specs.Prelude.{codes, decimal}
+-- Which texts are refusals, and which lines are refused.
+use Rattle.std.proofs.Common.{◌≡◌, ◌∙◌, ◌+◌, ℕ, Bool, true, false, cond, Result, Ok, Err, List, [], get_or, inl, inr, length, sym, ap, refl, arith}
+use Rattle.std.specs.Prelude.{⊤}
 use Rattle.cells.specs.Tables.{Rows}
-use Rattle.cells.specs.Values.{RowValue}
+use Rattle.cells.specs.Updates.{Update, puts}
+use Rattle.cells.specs.Values.{RowValue, Table as TableValue}
+use Rattle.cells.specs.declared.cell.Cell.{Cell}
 use Rattle.cells.specs.declared.refused.Refused.TheVariants.{TooManyRows}
 use Rattle.forms.specs.declared.form.Form.{Form}
 use Rattle.forms.specs.declared.form.Form.TheVariants.{Classic, Csv, Json, Table}
 use Rattle.board.specs.Editions.{Editions}
-use Rattle.script.specs.ClassicSpelling.{newline}
-use Rattle.script.specs.CsvSpelling.{fault_fields}
+use Rattle.script.specs.Deeds.{Declares, Deed, Loads, Nothing, Publishes, Reports, Shapes, Updates}
 use Rattle.script.specs.Desks.{LaysOrOverflows, LoadsRows}
-use Rattle.script.specs.Faults.{fault_text}
-use Rattle.script.specs.JsonSpelling.{fault_members}
-use Rattle.script.specs.Spelling.{heading, refusal, shape_body, shape_text}
-use Rattle.script.specs.Stops.{IsQuiet, IsRefusal}
+use Rattle.script.specs.Givens.{Givens}
+use Rattle.script.specs.Listings.{rows_loaded}
+use Rattle.script.specs.Output.{IsAnswer, IsReport, edition, is_overfull, loaded, published, report, updates}
+use Rattle.script.specs.Spelling.{refusal}
+use Rattle.script.specs.Stops.{AsksWrongly, IsQuiet, IsRefusal, IsRefusedDeed, is_refused_load}
 use Rattle.script.specs.declared.fault.Fault.{Fault}
-use Rattle.script.specs.declared.fault.Fault.TheVariants.{Line, Part}
+use Rattle.script.specs.declared.fault.Fault.TheVariants.{Line}
+use Rattle.script.specs.declared.manner.Manner.{Manner}
+use Rattle.script.proofs.SaysLemmas.{OneAnswer, says_one}
 
 -- texts that differ at a place are two
 apart_at : (k a b : ℕ) (xs ys : List ℕ) → xs ≡ ys → get_or xs k 0 ≡ a → get_or ys k 0 ≡ b → (a ≡ b → ⊥) → ⊥
@@ -32,67 +35,89 @@ some_text Table number fault same = apart_at 0 0 108 [] (refusal Table number fa
 pub no_refusal : (number : ℕ) (bytes : List ℕ) → bytes ≡ [] → IsRefusal number bytes → ⊥
 no_refusal number bytes none is = some_text is.form number is.fault (sym none ∙ is.is)
 
--- ---- what says `edition` behind the number of its line does not say `refused` there
+-- ---- what the block of a line says of it that is no report and no shape
 
--- a beginning, a number and a rest
-abbrev numbered : List ℕ → ℕ → List ℕ → List ℕ
-numbered front number rest = front ++ (decimal number ++ rest)
+-- the line does neither
+abbrev pub IsPlain : Result Deed Fault → Type 0
+IsPlain (Ok Nothing) = ⊤
+IsPlain (Ok (Declares t)) = ⊤
+IsPlain (Ok (Loads t listing)) = ⊤
+IsPlain (Ok (Updates more)) = ⊤
+IsPlain (Ok Publishes) = ⊤
+IsPlain (Ok (Reports t query)) = ⊥
+IsPlain (Ok Shapes) = ⊥
+IsPlain (Err fault) = ⊤
 
--- two such texts with one beginning have one rest
-one_rest : (front : List ℕ) (number : ℕ) (xs ys : List ℕ) → numbered front number xs ≡ numbered front number ys → xs ≡ ys
-one_rest front number xs ys same = append_cancel_left (decimal number) xs ys (append_cancel_left front _ _ same)
+full_refused : (form : Form) (number n : ℕ) (full : Bool) (bytes : List ℕ) → bytes ≡ cond full (refusal form number (Line TooManyRows)) [] → IsRefusal n bytes → full ≡ true
+full_refused form number n true bytes is refused = refl
+full_refused form number n false bytes is refused = absurd (no_refusal n bytes is refused)
 
--- a text behind all that
-behind : (front : List ℕ) (number : ℕ) (word more end rest : List ℕ) → numbered front number (word ++ (more ++ end)) ++ rest ≡ numbered front number (word ++ ((more ++ end) ++ rest))
-behind front number word more end rest =
-    append_assoc front (decimal number ++ (word ++ (more ++ end))) rest
-    ∙ ap (λ t. front ++ t) (append_assoc (decimal number) (word ++ (more ++ end)) rest
-    ∙ ap (λ t. decimal number ++ t) (append_assoc word (more ++ end) rest))
+full_accepted : (form : Form) (number : ℕ) (full : Bool) (bytes : List ℕ) → bytes ≡ cond full (refusal form number (Line TooManyRows)) [] → bytes ≡ [] → full ≡ true → ⊥
+full_accepted form number true bytes is none full = some_text form number (Line TooManyRows) (sym none ∙ is)
+full_accepted form number false bytes is none full = absurd cc
 
-classic_apart : (number : ℕ) (fault : Fault) (rest : List ℕ) → numbered (codes "line ") number (codes " edition " ++ rest) ≡ refusal Classic number fault → ⊥
-classic_apart number fault rest same =
-    apart_at 1 101 114 (codes " edition " ++ rest) (codes " refused " ++ (fault_text fault ++ newline)) (one_rest (codes "line ") number _ _ same) refl refl (λ e. omega (arith, e))
+load_refused : (form : Form) (number n limit : ℕ) (us : List Update) (held : Result (List RowValue) Fault) (bytes : List ℕ) → bytes ≡ loaded form number limit us held → IsRefusal n bytes →
+    is_refused_load limit us held ≡ true
+load_refused form number n limit us (Ok rs) bytes is refused = full_refused form number n (is_overfull limit us (puts rs)) bytes is refused
+load_refused form number n limit us (Err fault) bytes is refused = refl
 
-csv_apart : (number : ℕ) (fault : Fault) (rest : List ℕ) → numbered (codes "line,") number (codes ",edition," ++ rest) ≡ refusal Csv number fault → ⊥
-csv_apart number fault rest same =
-    apart_at 1 101 114 (codes ",edition," ++ rest) (codes ",refused," ++ (fault_fields fault ++ newline)) (one_rest (codes "line,") number _ _ same) refl refl (λ e. omega (arith, e))
+load_accepted : (form : Form) (number limit : ℕ) (us : List Update) (held : Result (List RowValue) Fault) (bytes : List ℕ) → bytes ≡ loaded form number limit us held → bytes ≡ [] →
+    is_refused_load limit us held ≡ true → ⊥
+load_accepted form number limit us (Ok rs) bytes is none refused = full_accepted form number (is_overfull limit us (puts rs)) bytes is none refused
+load_accepted form number limit us (Err fault) bytes is none refused = some_text form number fault (sym none ∙ is)
 
-json_apart : (number : ℕ) (fault : Fault) (rest : List ℕ) → numbered (codes "{\"line\":") number (codes ",\"edition\":" ++ rest) ≡ refusal Json number fault → ⊥
-json_apart number (Line rule) rest same =
-    apart_at 2 101 114 (codes ",\"edition\":" ++ rest) (codes "," ++ (fault_members (Line rule) ++ codes "}\n")) (one_rest (codes "{\"line\":") number _ _ same) refl refl (λ e. omega (arith, e))
-json_apart number (Part part at) rest same =
-    apart_at 2 101 114 (codes ",\"edition\":" ++ rest) (codes "," ++ (fault_members (Part part at) ++ codes "}\n")) (one_rest (codes "{\"line\":") number _ _ same) refl refl (λ e. omega (arith, e))
+-- it is refused where its block is a refusal
+pub refused_by_text : (hash : Cell → ℕ) (givens : Givens) (before : List (List ℕ)) (r : Result Deed Fault) (n : ℕ) (bytes : List ℕ) → IsPlain r → IsAnswer hash givens before r bytes → IsRefusal n bytes →
+    IsRefusedDeed givens before r
+refused_by_text hash givens before (Ok Nothing) n bytes plain is refused = no_refusal n bytes is refused
+refused_by_text hash givens before (Ok (Declares t)) n bytes plain is refused = no_refusal n bytes is refused
+refused_by_text hash givens before (Ok (Loads t listing)) n bytes plain is refused =
+    load_refused givens.manner.form (length before + 1) n givens.limit (updates givens before) (rows_loaded t givens.parts listing) bytes is refused
+refused_by_text hash givens before (Ok (Updates more)) n bytes plain is refused = full_refused givens.manner.form (length before + 1) n (is_overfull givens.limit (updates givens before) more) bytes is refused
+refused_by_text hash givens before (Ok Publishes) n bytes plain is refused = no_refusal n bytes is refused
+refused_by_text hash givens before (Ok (Reports t query)) n bytes plain is refused = absurd plain
+refused_by_text hash givens before (Ok Shapes) n bytes plain is refused = absurd plain
+refused_by_text hash givens before (Err fault) n bytes plain is refused = tt
 
--- two forms differ in the first byte or in that behind `line`
-apart_classic : (other : Form) (number edition : ℕ) (fault : Fault) (rest : List ℕ) → heading Classic number edition ++ rest ≡ refusal other number fault → ⊥
-apart_classic Classic number edition fault rest same = classic_apart number fault ((decimal edition ++ newline) ++ rest) (sym (behind (codes "line ") number (codes " edition ") (decimal edition) newline rest) ∙ same)
-apart_classic Csv number edition fault rest same = apart_at 4 32 44 _ _ same refl refl (λ e. omega (arith, e))
-apart_classic Json number edition fault rest same = apart_at 0 108 123 _ _ same refl refl (λ e. omega (arith, e))
-apart_classic Table number edition fault rest same = classic_apart number fault ((decimal edition ++ newline) ++ rest) (sym (behind (codes "line ") number (codes " edition ") (decimal edition) newline rest) ∙ same)
+-- and not where it is no text
+pub accepted_by_text : (hash : Cell → ℕ) (givens : Givens) (before : List (List ℕ)) (r : Result Deed Fault) (bytes : List ℕ) → IsPlain r → IsAnswer hash givens before r bytes → bytes ≡ [] →
+    IsRefusedDeed givens before r → ⊥
+accepted_by_text hash givens before (Ok Nothing) bytes plain is none refused = refused
+accepted_by_text hash givens before (Ok (Declares t)) bytes plain is none refused = refused
+accepted_by_text hash givens before (Ok (Loads t listing)) bytes plain is none refused =
+    load_accepted givens.manner.form (length before + 1) givens.limit (updates givens before) (rows_loaded t givens.parts listing) bytes is none refused
+accepted_by_text hash givens before (Ok (Updates more)) bytes plain is none refused = full_accepted givens.manner.form (length before + 1) (is_overfull givens.limit (updates givens before) more) bytes is none refused
+accepted_by_text hash givens before (Ok Publishes) bytes plain is none refused = refused
+accepted_by_text hash givens before (Ok (Reports t query)) bytes plain is none refused = plain
+accepted_by_text hash givens before (Ok Shapes) bytes plain is none refused = plain
+accepted_by_text hash givens before (Err fault) bytes plain is none refused = some_text givens.manner.form (length before + 1) fault (sym none ∙ is)
 
-apart_csv : (other : Form) (number edition : ℕ) (fault : Fault) (rest : List ℕ) → heading Csv number edition ++ rest ≡ refusal other number fault → ⊥
-apart_csv Classic number edition fault rest same = apart_at 4 44 32 _ _ same refl refl (λ e. omega (arith, e))
-apart_csv Csv number edition fault rest same = csv_apart number fault ((decimal edition ++ newline) ++ rest) (sym (behind (codes "line,") number (codes ",edition,") (decimal edition) newline rest) ∙ same)
-apart_csv Json number edition fault rest same = apart_at 0 108 123 _ _ same refl refl (λ e. omega (arith, e))
-apart_csv Table number edition fault rest same = apart_at 4 44 32 _ _ same refl refl (λ e. omega (arith, e))
+-- ---- a refused line has a refusal
 
-apart_json : (other : Form) (number edition : ℕ) (fault : Fault) (rest : List ℕ) → heading Json number edition ++ rest ≡ refusal other number fault → ⊥
-apart_json Classic number edition fault rest same = apart_at 0 123 108 _ _ same refl refl (λ e. omega (arith, e))
-apart_json Csv number edition fault rest same = apart_at 0 123 108 _ _ same refl refl (λ e. omega (arith, e))
-apart_json Json number edition fault rest same = json_apart number fault ((decimal edition ++ codes ",") ++ rest) (sym (behind (codes "{\"line\":") number (codes ",\"edition\":") (decimal edition) (codes ",") rest) ∙ same)
-apart_json Table number edition fault rest same = apart_at 0 123 108 _ _ same refl refl (λ e. omega (arith, e))
+full_told : (form : Form) (number : ℕ) (full : Bool) (bytes : List ℕ) → bytes ≡ cond full (refusal form number (Line TooManyRows)) [] → full ≡ true → IsRefusal number bytes
+full_told form number true bytes is full = record { form = form; fault = Line TooManyRows; is = is }
+full_told form number false bytes is full = absurd cc
 
-apart : (form other : Form) (number edition : ℕ) (fault : Fault) (rest : List ℕ) → heading form number edition ++ rest ≡ refusal other number fault → ⊥
-apart Classic other number edition fault rest same = apart_classic other number edition fault rest same
-apart Csv other number edition fault rest same = apart_csv other number edition fault rest same
-apart Json other number edition fault rest same = apart_json other number edition fault rest same
-apart Table other number edition fault rest same = apart_classic other number edition fault rest same
+load_told : (form : Form) (number limit : ℕ) (us : List Update) (held : Result (List RowValue) Fault) (bytes : List ℕ) → bytes ≡ loaded form number limit us held → is_refused_load limit us held ≡ true →
+    IsRefusal number bytes
+load_told form number limit us (Ok rs) bytes is refused = full_told form number (is_overfull limit us (puts rs)) bytes is refused
+load_told form number limit us (Err fault) bytes is refused = record { form = form; fault = fault; is = is }
 
-pub no_refusal_headed : (form : Form) (number edition : ℕ) (rest : List ℕ) → IsRefusal number (heading form number edition ++ rest) → ⊥
-no_refusal_headed form number edition rest is = apart form is.form number edition is.fault rest is.is
+report_told : OneAnswer → (manner : Manner) (number edition : ℕ) (t : TableValue) (rs : List RowValue) (query bytes : List ℕ) → IsReport manner number edition t rs query bytes → AsksWrongly t rs query → IsRefusal number bytes
+report_told law manner number edition t rs query bytes is wrong =
+    record { form = manner.form; fault = Line wrong.fault; is = is.is ∙ ap (report manner number edition) (says_one law is.says wrong.says) }
 
-pub no_refusal_shape : (form : Form) (number edition : ℕ) (prefixes : List (List ℕ × ℕ)) → IsRefusal number (shape_text form number edition prefixes) → ⊥
-no_refusal_shape form number edition prefixes is = no_refusal_headed form number edition (shape_body form prefixes) is
+pub refusal_told : OneAnswer → (hash : Cell → ℕ) (givens : Givens) (before : List (List ℕ)) (r : Result Deed Fault) (bytes : List ℕ) → IsAnswer hash givens before r bytes → IsRefusedDeed givens before r →
+    IsRefusal (length before + 1) bytes
+refusal_told law hash givens before (Ok Nothing) bytes is refused = absurd refused
+refusal_told law hash givens before (Ok (Declares t)) bytes is refused = absurd refused
+refusal_told law hash givens before (Ok (Loads t listing)) bytes is refused =
+    load_told givens.manner.form (length before + 1) givens.limit (updates givens before) (rows_loaded t givens.parts listing) bytes is refused
+refusal_told law hash givens before (Ok (Updates more)) bytes is refused = full_told givens.manner.form (length before + 1) (is_overfull givens.limit (updates givens before) more) bytes is refused
+refusal_told law hash givens before (Ok Publishes) bytes is refused = absurd refused
+refusal_told law hash givens before (Ok (Reports t query)) bytes is refused = report_told law givens.manner (length before + 1) (edition givens before) t (published givens before) query bytes is refused
+refusal_told law hash givens before (Ok Shapes) bytes is refused = absurd refused
+refusal_told law hash givens before (Err fault) bytes is refused = record { form = givens.manner.form; fault = fault; is = is }
 
 -- ---- lines that write nothing or are refused
 

@@ -8,16 +8,15 @@ use Rattle.cells.specs.declared.refused.Refused.{Refused}
 use Rattle.cells.specs.declared.refused.Refused.TheVariants.{OutOfMemory}
 use Rattle.board.specs.Editions.{Editions}
 use Rattle.board.specs.Editions as keeper
-use Rattle.forms.specs.declared.form.Form.{Form}
 use Rattle.script.specs.Blocks.{WillReport, WillReportPlan}
 use Rattle.script.specs.Output.{IsReport, report}
-use Rattle.script.specs.Says.{Answer, GivesPlan, IsRefused, MeansPlan, Says, answer, answer_of, no_plan, no_query, spelt}
+use Rattle.script.specs.Says.{Answer, GivesPlan, IsRefused, MeansPlan, Says, answer, answer_of, no_plan, no_query}
 use Rattle.script.specs.Spelling.{refusal}
 use Rattle.script.specs.declared.block.Block.{Block}
 use Rattle.script.specs.declared.block.Block.TheVariants.{Refusal}
 use Rattle.script.specs.declared.fault.Fault.TheVariants.{Line}
-use Rattle.script.specs.Stops.{Tells}
-use Rattle.script.proofs.RefusalsLemmas.{no_refusal_headed}
+use Rattle.script.specs.declared.manner.Manner.{Manner}
+use Rattle.script.specs.Stops.{AsksWrongly, Tells}
 use Rattle.query.specs.Checks.{fault_of}
 use Rattle.query.specs.Plans.{PlanTree, checked, checked_by, plan_of}
 use Rattle.query.specs.Queries.{FirstFault, IsAnswered, IsQuery, a_fault, a_query}
@@ -52,7 +51,7 @@ same_fault : OneAnswer → (t : Table) (text : List ℕ) (q p : QueryTree) → I
 same_fault law t text q p h k = ap (fault_of t) (law.one_query text q p h k)
 
 module _ (law : OneAnswer) {t : Table} {rs : List RowValue} {text : List ℕ} where
-  says_one : {r s : Result Answer Refused} → Says t rs text r → Says t rs text s → r ≡ s
+  pub says_one : {r s : Result Answer Refused} → Says t rs text r → Says t rs text s → r ≡ s
   says_one (no_query {fault = e} h) (no_query {fault = f} k) = ap Err (law.one_fault text e f h k)
   says_one (no_query {fault = e} h) (no_plan {q = q} k f) = absurd (law.no_both text q e k h)
   says_one (no_query {fault = e} h) (answer {q = q} k f) = absurd (law.no_both text q e k h)
@@ -68,14 +67,14 @@ module _ (law : OneAnswer) {t : Table} {rs : List RowValue} {text : List ℕ} wh
 
 -- ---- and a report has one block
 
-pub some_report : EachAnswered → (form : Form) (number edition : ℕ) (t : Table) (rs : List RowValue) (query : List ℕ) → (bytes : List ℕ) × IsReport form number edition t rs query bytes
-some_report each form number edition t rs query =
+pub some_report : EachAnswered → (manner : Manner) (number edition : ℕ) (t : Table) (rs : List RowValue) (query : List ℕ) → (bytes : List ℕ) × IsReport manner number edition t rs query bytes
+some_report each manner number edition t rs query =
     let (said, says) = says_some each t rs query in
-    (report form number edition said, record { said = said; says = says; is = refl })
+    (report manner number edition said, record { said = said; says = says; is = refl })
 
-pub one_report : OneAnswer → (form : Form) (number edition : ℕ) (t : Table) (rs : List RowValue) (query bytes others : List ℕ) →
-    IsReport form number edition t rs query bytes → IsReport form number edition t rs query others → bytes ≡ others
-one_report law form number edition t rs query bytes others a b = a.is ∙ ap (report form number edition) (says_one law a.says b.says) ∙ sym b.is
+pub one_report : OneAnswer → (manner : Manner) (number edition : ℕ) (t : Table) (rs : List RowValue) (query bytes others : List ℕ) →
+    IsReport manner number edition t rs query bytes → IsReport manner number edition t rs query others → bytes ≡ others
+one_report law manner number edition t rs query bytes others a b = a.is ∙ ap (report manner number edition) (says_one law a.says b.says) ∙ sym b.is
 
 -- ---- what the code answers
 
@@ -95,22 +94,26 @@ checked_text t text q result is reads = go (fault_of t q) refl result reads wher
   go (Some first) e (Err fault) (inl wanting) = inl wanting
   go (Some first) e (Err fault) (inr said) = inr (λ rs. let same : first ≡ fault = cc in no_plan is (e ∙ ap Some same))
 
+-- a text that says an answer asks rightly
+pub never_wrong : OneAnswer → {t : Table} {rs : List RowValue} {query : List ℕ} {told : Answer} → Says t rs query (Ok told) → AsksWrongly t rs query → ⊥
+never_wrong law says wrong = let both = says_one law says wrong.says in absurd cc
+
 -- the block of a refused report
-pub answers_refused : {H : Type 0} {form : Form} (k : Editions) (number : ℕ) (query : List ℕ) (fault : Refused) (bytes : Vec ℕ Global) →
-    IsRefused (keeper.schema k) query fault → (Line fault ≡ Line OutOfMemory → false ≡ true) → bytes.items ≡ refusal form number (Line fault) → WillReport {H = H} form k number query (Refusal bytes)
+pub answers_refused : {H : Type 0} {manner : Manner} (k : Editions) (number : ℕ) (query : List ℕ) (fault : Refused) (bytes : Vec ℕ Global) →
+    IsRefused (keeper.schema k) query fault → (Line fault ≡ Line OutOfMemory → false ≡ true) → bytes.items ≡ refusal manner.form number (Line fault) → WillReport {H = H} manner k number query (Refusal bytes)
 answers_refused k number query fault bytes (inl wanting) memory is = absurd (let bad : false ≡ true = memory (ap Line wanting) in cc)
-answers_refused {form = form} k number query fault bytes (inr says) memory is = record {
-  is = λ rs left same. record { text = refusal form number (Line fault); is = record { said = Err fault; says = says rs; is = refl }; will = is; tells = record { form = form; fault = Line fault; is = refl } };
+answers_refused {manner = manner} k number query fault bytes (inr says) memory is = record {
+  is = λ rs left same. record { text = refusal manner.form number (Line fault); is = record { said = Err fault; says = says rs; is = refl }; will = is; tells = record { fault = fault; says = says rs } };
 }
 
 -- the block of a report that is answered
-pub answers_plan : {H : Type 0} {form : Form} (k : Editions) (number : ℕ) (query : List ℕ) (plan : PlanTree) (block : Block H) →
-    MeansPlan (keeper.schema k) query plan → WillReportPlan form k number plan block → WillReport form k number query block
-answers_plan {form = form} k number query plan block asks answers = record {
+pub answers_plan : {H : Type 0} {manner : Manner} → OneAnswer → (k : Editions) (number : ℕ) (query : List ℕ) (plan : PlanTree) (block : Block H) →
+    MeansPlan (keeper.schema k) query plan → WillReportPlan manner k number plan block → WillReport manner k number query block
+answers_plan {manner = manner} law k number query plan block asks answers = record {
   is = λ rs left same. record {
-    text = report form number (keeper.edition k) (Ok (answer_of plan rs));
+    text = report manner number (keeper.edition k) (Ok (answer_of plan rs));
     is = record { said = Ok (answer_of plan rs); says = asks rs; is = refl };
     will = answers.is rs left same;
-    tells = subst (λ b. Tells b number (report form number (keeper.edition k) (Ok (answer_of plan rs)))) (sym answers.accepted) (no_refusal_headed form number (keeper.edition k) (spelt form (answer_of plan rs)));
+    tells = subst (λ b. Tells b (AsksWrongly (keeper.schema k) rs query)) (sym answers.accepted) (never_wrong law (asks rs));
   };
 }

@@ -18,23 +18,23 @@ use Rattle.board.specs.Editions.{Begins, ChangesDraft, Editions}
 use Rattle.board.specs.Editions as keeper
 use Rattle.forms.specs.declared.form.Form.{Form}
 use Rattle.forms.specs.declared.form.Form.TheVariants.{Classic, Csv, Json, Table as TableForm}
-use Rattle.script.specs.Blocks.{WillReport, Steps, quiet, quiet_by}
+use Rattle.script.specs.Blocks.{Steps, WillReport, is_refused, quiet, quiet_by}
 use Rattle.script.specs.Deeds.{Declares, Deed, Loads, Nothing, Publishes, Reports, Shapes, Updates, deed, deed_of, declares, is_comment, command_of}
 use Rattle.script.specs.Endings.{HasWorkers, reports}
 use Rattle.script.specs.Givens.{Givens}
 use Rattle.script.specs.Listings.{rows_loaded}
-use Rattle.script.specs.Output.{IsAnswer, IsBlock, IsReport, added, declared, declared_by, edition, editions, is_overfull, is_publish, loaded, published, updated, updates, within, within_loaded}
+use Rattle.script.specs.Output.{IsAnswer, IsBlock, IsReport, added, declared, declared_by, deed_behind, edition, editions, is_overfull, is_publish, loaded, published, updated, updates, within, within_loaded}
 use Rattle.script.specs.Output.{keys as keys_of_rows}
 use Rattle.script.specs.Spelling.{refusal, shape_text}
 use Rattle.script.specs.Desks.{Executes, Keeps, LaysOrOverflows, LoadsRows, PutsRow, IsBehind, Stays, schema_of_desk}
 use Rattle.script.specs.declared.block.Block.{Block}
-use Rattle.script.specs.Stops.{IsQuiet, IsRefusal}
+use Rattle.script.specs.Stops.{IsQuiet, IsRefusedDeed, IsRefusedLine, Tells}
 use Rattle.script.specs.declared.block.Block.TheVariants.{Refusal, Text}
 use Rattle.script.specs.declared.command.Command.{Command}
 use Rattle.script.specs.declared.command.Command.TheVariants as command
 use Rattle.script.specs.declared.fault.Fault.{Fault}
 use Rattle.script.specs.declared.fault.Fault.TheVariants.{Line}
-use Rattle.script.proofs.RefusalsLemmas.{no_refusal}
+use Rattle.script.proofs.RefusalsLemmas.{IsPlain, accepted_by_text, refused_by_text}
 
 abbrev Lines : Type 0
 Lines = List (List ℕ)
@@ -118,9 +118,9 @@ pub executes_nothing : (hash : Cell → ℕ) (givens : Givens) (line : List ℕ)
 executes_nothing hash givens line number desk bytes does none = executes_quiet hash givens line number desk (Ok Nothing) bytes does (λ earlier. refl) (λ us. refl) refl (λ before stands n. none)
 
 pub executes_refused : (hash : Cell → ℕ) (givens : Givens) (line : List ℕ) (number : ℕ) (desk : Option Editions) (fault : Fault) (bytes : List ℕ)
-    → deed (schema_of_desk desk) line ≡ Err fault → bytes ≡ refusal givens.form number fault → Executes hash givens line number desk desk bytes
+    → deed (schema_of_desk desk) line ≡ Err fault → bytes ≡ refusal givens.manner.form number fault → Executes hash givens line number desk desk bytes
 executes_refused hash givens line number desk fault bytes does text =
-    executes_quiet hash givens line number desk (Err fault) bytes does (λ earlier. refl) (λ us. refl) refl (λ before stands n. text ∙ ap (λ m. refusal givens.form m fault) n)
+    executes_quiet hash givens line number desk (Err fault) bytes does (λ earlier. refl) (λ us. refl) refl (λ before stands n. text ∙ ap (λ m. refusal givens.manner.form m fault) n)
 
 -- some updates left the published rows
 left_published : (givens : Givens) (before : Lines) → AreLeft (published givens before)
@@ -132,9 +132,9 @@ left_published givens (line ∷ before) = either (is_publish (deed (declared giv
 
 -- an accepted line whose block is this text
 pub steps_text : {H : Type 0} (hash : Cell → ℕ) (givens : Givens) (line : List ℕ) (number : ℕ) (old new : Option Editions) (bytes : Vec ℕ Global)
-    → (IsRefusal number bytes.items → ⊥) → Executes hash givens line number old new bytes.items → Steps {H = H} hash givens line number old new (Text bytes)
+    → ((before : Lines) → IsBehind givens before old → IsBlock hash givens before line bytes.items → IsRefusedLine givens before line → ⊥) → Executes hash givens line number old new bytes.items → Steps {H = H} hash givens line number old new (Text bytes)
 steps_text hash givens line number old new bytes accepted executes = record {
-  foretells = λ before stands n. record { text = bytes.items; is = executes.block before stands n; will = refl; tells = accepted };
+  foretells = λ before stands n. let is = executes.block before stands n in record { text = bytes.items; is = is; will = refl; tells = accepted before stands is };
   stands = executes.stands;
   stays = executes.stays;
   asks = λ asked. absurd asked;
@@ -142,9 +142,9 @@ steps_text hash givens line number old new bytes accepted executes = record {
 
 -- a refused one
 steps_refusal : {H : Type 0} (hash : Cell → ℕ) (givens : Givens) (line : List ℕ) (number : ℕ) (old new : Option Editions) (bytes : Vec ℕ Global)
-    → IsRefusal number bytes.items → Executes hash givens line number old new bytes.items → Steps {H = H} hash givens line number old new (Refusal bytes)
+    → ((before : Lines) → IsBehind givens before old → IsBlock hash givens before line bytes.items → IsRefusedLine givens before line) → Executes hash givens line number old new bytes.items → Steps {H = H} hash givens line number old new (Refusal bytes)
 steps_refusal hash givens line number old new bytes refused executes = record {
-  foretells = λ before stands n. record { text = bytes.items; is = executes.block before stands n; will = refl; tells = refused };
+  foretells = λ before stands n. let is = executes.block before stands n in record { text = bytes.items; is = is; will = refl; tells = refused before stands is };
   stands = executes.stands;
   stays = executes.stays;
   asks = λ asked. absurd asked;
@@ -160,32 +160,69 @@ quiet_refused bytes number Csv fault is = ap (λ t. quiet_by t bytes) is
 quiet_refused bytes number Json fault is = ap (λ t. quiet_by t bytes) is
 quiet_refused bytes number TableForm fault is = ap (λ t. quiet_by t bytes) is
 
+-- a line is plain at its desk, and so behind the lines before
+plain_behind : (givens : Givens) (before : Lines) (line : List ℕ) (desk : Option Editions) → IsBehind givens before desk → IsPlain (deed (schema_of_desk desk) line) → IsPlain (deed_behind givens before line)
+plain_behind givens before line desk stands plain = subst (λ t. IsPlain (deed t line)) (sym (declared_is givens before desk stands)) plain
+
 pub steps_quiet : {H : Type 0} (hash : Cell → ℕ) (givens : Givens) (line : List ℕ) (number : ℕ) (old new : Option Editions) (bytes : Vec ℕ Global)
-    → IsQuiet number bytes.items → Executes hash givens line number old new bytes.items → Steps {H = H} hash givens line number old new (quiet bytes)
-steps_quiet {H} hash givens line number old new bytes (inl none) executes =
-    subst (λ b. Steps {H = H} hash givens line number old new b) (sym (quiet_nothing bytes none)) (steps_text hash givens line number old new bytes (no_refusal number bytes.items none) executes)
-steps_quiet {H} hash givens line number old new bytes (inr refused) executes =
-    subst (λ b. Steps {H = H} hash givens line number old new b) (sym (quiet_refused bytes number refused.form refused.fault refused.is)) (steps_refusal hash givens line number old new bytes refused executes)
+    → IsPlain (deed (schema_of_desk old) line) → IsQuiet number bytes.items → Executes hash givens line number old new bytes.items → Steps {H = H} hash givens line number old new (quiet bytes)
+steps_quiet {H} hash givens line number old new bytes plain (inl none) executes =
+    subst (λ b. Steps {H = H} hash givens line number old new b) (sym (quiet_nothing bytes none)) (steps_text hash givens line number old new bytes
+    (λ before stands is. accepted_by_text hash givens before (deed_behind givens before line) bytes.items (plain_behind givens before line old stands plain) is none) executes)
+steps_quiet {H} hash givens line number old new bytes plain (inr refused) executes =
+    subst (λ b. Steps {H = H} hash givens line number old new b) (sym (quiet_refused bytes number refused.form refused.fault refused.is)) (steps_refusal hash givens line number old new bytes
+    (λ before stands is. refused_by_text hash givens before (deed_behind givens before line) number bytes.items (plain_behind givens before line old stands plain) is refused) executes)
+
+-- a line with no desk yet is no report and no shape
+plain_declares : (o : Option Table) → IsPlain (declares o)
+plain_declares None = tt
+plain_declares (Some t) = tt
+
+plain_of : (o : Option (Command × List ℕ)) → IsPlain (deed_of None o)
+plain_of None = tt
+plain_of (Some (command.Table, rest)) = plain_declares _
+plain_of (Some (command.Load, rest)) = tt
+plain_of (Some (command.Put, rest)) = tt
+plain_of (Some (command.Delete, rest)) = tt
+plain_of (Some (command.Publish, rest)) = tt
+plain_of (Some (command.Report, rest)) = tt
+plain_of (Some (command.Shape, rest)) = tt
+
+plain_first : (line : List ℕ) → IsPlain (deed None line)
+plain_first line = elim (cases_Bool (is_comment line)) [ inl nothing ↦ rw nothing tt | inr some ↦ rw some (plain_of (command_of line)) ]
+
+pub steps_first : {H : Type 0} (hash : Cell → ℕ) (givens : Givens) (line : List ℕ) (number : ℕ) (old new : Option Editions) (bytes : Vec ℕ Global)
+    → old ≡ None → IsQuiet number bytes.items → Executes hash givens line number old new bytes.items → Steps {H = H} hash givens line number old new (quiet bytes)
+steps_first hash givens line number old new bytes none silent executes =
+    steps_quiet hash givens line number old new bytes (subst (λ desk. IsPlain (deed (schema_of_desk desk) line)) (sym none) (plain_first line)) silent executes
 
 pub steps_nothing : {H : Type 0} (hash : Cell → ℕ) (givens : Givens) (line : List ℕ) (number : ℕ) (desk : Option Editions) (bytes : Vec ℕ Global)
     → deed (schema_of_desk desk) line ≡ Ok Nothing → bytes.items ≡ [] → Steps {H = H} hash givens line number desk desk (Text bytes)
 steps_nothing hash givens line number desk bytes does none =
-    steps_text hash givens line number desk desk bytes (no_refusal number bytes.items none) (executes_nothing hash givens line number desk bytes.items does none)
+    steps_text hash givens line number desk desk bytes (λ before stands is refused. subst (IsRefusedDeed givens before) (does_so givens before line desk (Ok Nothing) stands does) refused)
+    (executes_nothing hash givens line number desk bytes.items does none)
 
--- the same where the text may be wanting
-pub steps_as_text : {H E F : Type 0} (hash : Cell → ℕ) (givens : Givens) (line : List ℕ) (number : ℕ) (old new : Option Editions) (text : Result (Vec ℕ Global) E) (block : Result (Block H) F) (f : F)
-    → IfOk text (λ bytes. block ≡ Ok (Text bytes)) → IfErr text (λ _. block ≡ Err f) → IfOk text (λ bytes. IsRefusal number bytes.items → ⊥) → IfOk text (λ bytes. Executes hash givens line number old new bytes.items)
-    → IfOk block (Steps {H = H} hash givens line number old new)
-steps_as_text {H} hash givens line number old new (Ok bytes) block f is same accepted executes =
-    subst (λ b. IfOk b (Steps {H = H} hash givens line number old new)) (sym is) (steps_text hash givens line number old new bytes accepted executes)
-steps_as_text {H} hash givens line number old new (Err e) block f is same accepted executes = subst (λ b. IfOk b (Steps {H = H} hash givens line number old new)) (sym same) tt
+-- that of a shape, whose text may be wanting
+pub steps_shape : {H E F : Type 0} (hash : Cell → ℕ) (givens : Givens) (line : List ℕ) (number : ℕ) (desk : Option Editions) (text : Result (Vec ℕ Global) E) (block : Result (Block H) F) (f : F)
+    → IfOk text (λ bytes. block ≡ Ok (Text bytes)) → IfErr text (λ _. block ≡ Err f) → deed (schema_of_desk desk) line ≡ Ok Shapes → IfOk text (λ bytes. Executes hash givens line number desk desk bytes.items)
+    → IfOk block (Steps {H = H} hash givens line number desk desk)
+steps_shape {H} hash givens line number desk (Ok bytes) block f is same does executes =
+    subst (λ b. IfOk b (Steps {H = H} hash givens line number desk desk)) (sym is) (steps_text hash givens line number desk desk bytes
+    (λ before stands so refused. subst (IsRefusedDeed givens before) (does_so givens before line desk (Ok Shapes) stands does) refused) executes)
+steps_shape {H} hash givens line number desk (Err e) block f is same does executes = subst (λ b. IfOk b (Steps {H = H} hash givens line number desk desk)) (sym same) tt
 
 pub steps_as_quiet : {H E F : Type 0} (hash : Cell → ℕ) (givens : Givens) (line : List ℕ) (number : ℕ) (old new : Option Editions) (text : Result (Vec ℕ Global) E) (block : Result (Block H) F) (f : F)
-    → IfOk text (λ bytes. block ≡ Ok (quiet bytes)) → IfErr text (λ _. block ≡ Err f) → IfOk text (λ bytes. IsQuiet number bytes.items) → IfOk text (λ bytes. Executes hash givens line number old new bytes.items)
+    → IfOk text (λ bytes. block ≡ Ok (quiet bytes)) → IfErr text (λ _. block ≡ Err f) → ((IsErr text → ⊥) → IsPlain (deed (schema_of_desk old) line)) → IfOk text (λ bytes. IsQuiet number bytes.items) → IfOk text (λ bytes. Executes hash givens line number old new bytes.items)
     → IfOk block (Steps {H = H} hash givens line number old new)
-steps_as_quiet {H} hash givens line number old new (Ok bytes) block f is same silent executes =
-    subst (λ b. IfOk b (Steps {H = H} hash givens line number old new)) (sym is) (steps_quiet hash givens line number old new bytes silent executes)
-steps_as_quiet {H} hash givens line number old new (Err e) block f is same silent executes = subst (λ b. IfOk b (Steps {H = H} hash givens line number old new)) (sym same) tt
+steps_as_quiet {H} hash givens line number old new (Ok bytes) block f is same plain silent executes =
+    subst (λ b. IfOk b (Steps {H = H} hash givens line number old new)) (sym is) (steps_quiet hash givens line number old new bytes (plain (λ (bad : false ≡ true). absurd cc)) silent executes)
+steps_as_quiet {H} hash givens line number old new (Err e) block f is same plain silent executes = subst (λ b. IfOk b (Steps {H = H} hash givens line number old new)) (sym same) tt
+
+-- a refused line is plain, where its block is there
+pub plain_refused : {T E : Type 0} (desk : Option Editions) (line : List ℕ) (fault : Fault) (text : Result T E) → (fault ≡ Line OutOfMemory) ⊎ (deed (schema_of_desk desk) line ≡ Err fault)
+    → (fault ≡ Line OutOfMemory → IsErr text) → (IsErr text → ⊥) → IsPlain (deed (schema_of_desk desk) line)
+plain_refused desk line fault text (inl wanting) memory found = absurd (found (memory wanting))
+plain_refused desk line fault text (inr does) memory found = subst IsPlain (sym does) tt
 
 -- what an answer has where it is Ok, and what it tells then
 pub both_ok : {T E : Type 0} (r : Result T E) (A : Type 0) (B C : T → Type 0) → ((x : T) → A → B x → C x) → OnOk r A → IfOk r B → IfOk r C
@@ -195,23 +232,23 @@ both_ok (Err e) A B C f a b = tt
 -- the block of a refused line; want of memory is no block
 pub executes_refused_text : {E : Type 0} (hash : Cell → ℕ) (givens : Givens) (line : List ℕ) (number : ℕ) (desk : Option Editions) (fault : Fault) (text : Result (Vec ℕ Global) E)
     → (fault ≡ Line OutOfMemory) ⊎ (deed (schema_of_desk desk) line ≡ Err fault) → (fault ≡ Line OutOfMemory → IsErr text)
-    → IfOk text (λ bytes. bytes.items ≡ refusal givens.form number fault) → IfOk text (λ bytes. Executes hash givens line number desk desk bytes.items)
+    → IfOk text (λ bytes. bytes.items ≡ refusal givens.manner.form number fault) → IfOk text (λ bytes. Executes hash givens line number desk desk bytes.items)
 executes_refused_text hash givens line number desk fault (Ok bytes) (inl wanting) memory is = absurd (let bad : false ≡ true = memory wanting in cc)
 executes_refused_text hash givens line number desk fault (Ok bytes) (inr does) memory is = executes_refused hash givens line number desk fault bytes.items does is
 executes_refused_text hash givens line number desk fault (Err e) asks memory is = tt
 
 pub steps_report : {H : Type 0} (hash : Cell → ℕ) (givens : Givens) (line : List ℕ) (number : ℕ) (k : Editions) (query : List ℕ) (block : Block H)
-    → deed (Some (keeper.schema k)) line ≡ Ok (Reports (keeper.schema k) query) → WillReport givens.form k number query block → Steps hash givens line number (Some k) (Some k) block
+    → deed (Some (keeper.schema k)) line ≡ Ok (Reports (keeper.schema k) query) → WillReport givens.manner k number query block → Steps hash givens line number (Some k) (Some k) block
 steps_report hash givens line number k query block does answers =
     let r = Ok (Reports (keeper.schema k) query) in record {
       foretells = λ before stands n.
           let told = answers.is (published givens before) (left_published givens before) stands.published in record {
             text = told.text;
             is = block_by givens before line r (does_so givens before line (Some k) r stands does) hash told.text
-                (subst (λ m. IsReport givens.form m (edition givens before) (keeper.schema k) (published givens before) query told.text) n
-                (subst (λ e. IsReport givens.form number e (keeper.schema k) (published givens before) query told.text) stands.edition told.is));
+                (subst (λ m. IsReport givens.manner m (edition givens before) (keeper.schema k) (published givens before) query told.text) n
+                (subst (λ e. IsReport givens.manner number e (keeper.schema k) (published givens before) query told.text) stands.edition told.is));
             will = told.will;
-            tells = told.tells;
+            tells = subst (λ d. Tells (is_refused block) (IsRefusedDeed givens before d)) (sym (does_so givens before line (Some k) r stands does)) told.tells;
           };
       stands = λ before stands. stands_left givens before line (Some k) (leaves_at givens before line r (does_so givens before line (Some k) r stands does) refl refl refl) stands;
       stays = same_stays (Some k);
@@ -224,7 +261,7 @@ HaveShapes hash = (rs : List RowValue) → AreLeft rs → shape_of hash (keys (t
 
 pub executes_shape : (hash : Cell → ℕ) (givens : Givens) (line : List ℕ) (number : ℕ) (k : Editions) (bytes : List ℕ)
     → deed (Some (keeper.schema k)) line ≡ Ok Shapes → HaveShapes hash
-    → bytes ≡ shape_text givens.form number (keeper.edition k) (shape_of hash (keys (keeper.published k))) → Executes hash givens line number (Some k) (Some k) bytes
+    → bytes ≡ shape_text givens.manner number (keeper.edition k) (shape_of hash (keys (keeper.published k))) → Executes hash givens line number (Some k) (Some k) bytes
 executes_shape hash givens line number k bytes does law text =
     executes_quiet hash givens line number (Some k) (Ok Shapes) bytes does (λ earlier. refl) (λ us. refl) refl (λ before stands n.
     let shape : shape_of hash (keys (keeper.published k)) ≡ shape_of hash (keys_of_rows (published givens before)) =
@@ -239,7 +276,7 @@ record Adds (hash : Cell → ℕ) (givens : Givens) (r : Result Deed Fault) (mor
   declares : (before : Lines) → declared_by (declared givens before) r ≡ declared givens before
   adds : (us : List Update) → added givens us r ≡ within givens.limit us more
   quiet : is_publish r ≡ false
-  writes : (before : Lines) (bytes : List ℕ) → bytes ≡ updated givens.form (length before + 1) givens.limit (updates givens before) more → IsAnswer hash givens before r bytes
+  writes : (before : Lines) (bytes : List ℕ) → bytes ≡ updated givens.manner.form (length before + 1) givens.limit (updates givens before) more → IsAnswer hash givens before r bytes
 
 adds_updates : (hash : Cell → ℕ) (givens : Givens) (more : List Update) → Adds hash givens (Ok (Updates more)) more
 adds_updates hash givens more = record { declares = λ before. refl; adds = λ us. refl; quiet = refl; writes = λ before bytes is. is }
@@ -249,7 +286,7 @@ adds_rows hash givens t listing rs hold = record {
   declares = λ before. refl;
   adds = λ us. ap (within_loaded givens.limit us) hold;
   quiet = refl;
-  writes = λ before bytes is. is ∙ sym (ap (loaded givens.form (length before + 1) givens.limit (updates givens before)) hold);
+  writes = λ before bytes is. is ∙ sym (ap (loaded givens.manner.form (length before + 1) givens.limit (updates givens before)) hold);
 }
 
 fits : (m n l : ℕ) → m ≡ n → n ≤ l → nat_lt l m ≡ false
@@ -271,7 +308,7 @@ module _ (hash : Cell → ℕ) (givens : Givens) (line : List ℕ) (number : ℕ
   executes_laid new bytes changes room none = record {
     block = λ before stands n.
         block_by givens before line r (does_so givens before line (Some k) r stands does) hash bytes
-        (adds.writes before bytes (none ∙ sym (ap (λ b. cond b (refusal givens.form (length before + 1) (Line TooManyRows)) []) (fitting before stands))));
+        (adds.writes before bytes (none ∙ sym (ap (λ b. cond b (refusal givens.manner.form (length before + 1) (Line TooManyRows)) []) (fitting before stands))));
     stands = λ before stands.
         let so = does_so givens before line (Some k) r stands does in
         record {
@@ -297,12 +334,12 @@ module _ (hash : Cell → ℕ) (givens : Givens) (line : List ℕ) (number : ℕ
         ∙ ap (λ us. updates givens before ++ us) (adds.adds (updates givens before) ∙ ap (λ b. cond b [] more) (fitting before stands))
 
   -- there is none
-  executes_overfull : (bytes : List ℕ) → keeper.limit k < len left → bytes ≡ refusal givens.form number (Line TooManyRows) → Executes hash givens line number (Some k) (Some k) bytes
+  executes_overfull : (bytes : List ℕ) → keeper.limit k < len left → bytes ≡ refusal givens.manner.form number (Line TooManyRows) → Executes hash givens line number (Some k) (Some k) bytes
   executes_overfull bytes full text = record {
     block = λ before stands n.
         block_by givens before line r (does_so givens before line (Some k) r stands does) hash bytes
         (adds.writes before bytes
-        (text ∙ ap (λ m. refusal givens.form m (Line TooManyRows)) n ∙ sym (ap (λ b. cond b (refusal givens.form (length before + 1) (Line TooManyRows)) []) (exceeding before stands))));
+        (text ∙ ap (λ m. refusal givens.manner.form m (Line TooManyRows)) n ∙ sym (ap (λ b. cond b (refusal givens.manner.form (length before + 1) (Line TooManyRows)) []) (exceeding before stands))));
     stands = λ before stands.
         stands_left givens before line (Some k)
         (leaves_at givens before line r (does_so givens before line (Some k) r stands does) (adds.declares before)
@@ -314,13 +351,13 @@ module _ (hash : Cell → ℕ) (givens : Givens) (line : List ℕ) (number : ℕ
     exceeding before stands = exceeds _ _ givens.limit (many before stands) (subst (λ l. l < len left) stands.same_limit full)
 
   -- there is, or there is not
-  executes_either : (new : Editions) (bytes : List ℕ) → LaysOrOverflows givens.form k new left number bytes → Executes hash givens line number (Some k) (Some new) bytes
+  executes_either : (new : Editions) (bytes : List ℕ) → LaysOrOverflows givens.manner.form k new left number bytes → Executes hash givens line number (Some k) (Some new) bytes
   executes_either new bytes (inl lays) = executes_laid new bytes lays.draft (λ before stands. subst (λ l. len left ≤ l) stands.same_limit lays.within) lays.nothing
   executes_either new bytes (inr over) = rw over.unchanged (executes_overfull bytes over.full over.refused)
 
 -- what a put writes is the line's block, whether the row was laid or refused
 pub executes_put : (hash : Cell → ℕ) (givens : Givens) (line : List ℕ) (number : ℕ) (k new : Editions) (row : RowValue) (bytes : List ℕ)
-    → deed (Some (keeper.schema k)) line ≡ Ok (Updates (Put row ∷ [])) → PutsRow givens.form k new row number bytes → Executes hash givens line number (Some k) (Some new) bytes
+    → deed (Some (keeper.schema k)) line ≡ Ok (Updates (Put row ∷ [])) → PutsRow givens.manner.form k new row number bytes → Executes hash givens line number (Some k) (Some new) bytes
 executes_put hash givens line number k new row bytes does puts =
     executes_either hash givens line number k (Ok (Updates (Put row ∷ []))) (Put row ∷ []) does (adds_updates hash givens (Put row ∷ [])) (insert (keeper.draft k) row.key row)
     (λ us is. table_rows_put us row ∙ ap (λ d. insert d row.key row) (sym is)) new bytes puts
@@ -343,7 +380,7 @@ abbrev LieOver : Type 0
 LieOver = (us : List Update) (rs : List RowValue) → table (rows (us ++ puts rs)) ≡ laid_over (table (rows (puts rs))) (table (rows us))
 
 executes_load : LieOver → (hash : Cell → ℕ) (givens : Givens) (line : List ℕ) (number : ℕ) (k new : Editions) (listing bytes : List ℕ) (held : Result (List RowValue) Fault)
-    → rows_loaded (keeper.schema k) givens.parts listing ≡ held → deed (Some (keeper.schema k)) line ≡ Ok (Loads (keeper.schema k) listing) → LoadsRows givens.form k new held number bytes
+    → rows_loaded (keeper.schema k) givens.parts listing ≡ held → deed (Some (keeper.schema k)) line ≡ Ok (Loads (keeper.schema k) listing) → LoadsRows givens.manner.form k new held number bytes
     → Executes hash givens line number (Some k) (Some new) bytes
 executes_load law hash givens line number k new listing bytes (Ok rs) hold does loads =
     executes_either hash givens line number k (Ok (Loads (keeper.schema k) listing)) (puts rs) does (adds_rows hash givens (keeper.schema k) listing rs hold)
@@ -351,7 +388,7 @@ executes_load law hash givens line number k new listing bytes (Ok rs) hold does 
 executes_load law hash givens line number k new listing bytes (Err fault) hold does (unchanged, text) = rw unchanged (record {
   block = λ before stands n.
       block_by givens before line r (does_so givens before line (Some k) r stands does) hash bytes
-      (text ∙ ap (λ m. refusal givens.form m fault) n ∙ sym (ap (loaded givens.form (length before + 1) givens.limit (updates givens before)) hold));
+      (text ∙ ap (λ m. refusal givens.manner.form m fault) n ∙ sym (ap (loaded givens.manner.form (length before + 1) givens.limit (updates givens before)) hold));
   stands = λ before stands.
       stands_left givens before line (Some k)
       (leaves_at givens before line r (does_so givens before line (Some k) r stands does) refl (ap (within_loaded givens.limit (updates givens before)) hold) refl) stands;
@@ -363,7 +400,7 @@ executes_load law hash givens line number k new listing bytes (Err fault) hold d
 -- what a load writes is the line's block, by that law
 pub executes_loads : (hash : Cell → ℕ) (givens : Givens) (line : List ℕ) (number : ℕ) (k new : Editions) (listing bytes : List ℕ)
     → deed (Some (keeper.schema k)) line ≡ Ok (Loads (keeper.schema k) listing) → LieOver
-    → LoadsRows givens.form k new (rows_loaded (keeper.schema k) givens.parts listing) number bytes → Executes hash givens line number (Some k) (Some new) bytes
+    → LoadsRows givens.manner.form k new (rows_loaded (keeper.schema k) givens.parts listing) number bytes → Executes hash givens line number (Some k) (Some new) bytes
 executes_loads hash givens line number k new listing bytes does law loads =
     executes_load law hash givens line number k new listing bytes (rows_loaded (keeper.schema k) givens.parts listing) refl does loads
 

@@ -16,13 +16,13 @@ use Rattle.cells.specs.Values.{RowValue, Table}
 use Rattle.cells.specs.declared.cell.Cell.{Cell}
 use Rattle.cells.specs.declared.refused.Refused.{Refused}
 use Rattle.cells.specs.declared.refused.Refused.TheVariants.{Limit, NoTable}
-use Rattle.forms.specs.declared.form.Form.{Form}
+use Rattle.groups.specs.Groups.{report_rows}
 use Rattle.query.specs.Checks.{fault_of}
 use Rattle.query.specs.Plans.{PlanTree, plan_of}
 use Rattle.query.specs.Queries.{IsAnswered, IsQuery, a_fault, a_query}
 use Rattle.query.specs.Values.{QueryTree}
 use Rattle.report.specs.Laws.{takes_beginning, takes_last, takes_more, takes_start}
-use Rattle.report.specs.Reports.{asked_in}
+use Rattle.report.specs.Reports.{text_of}
 use Rattle.report.specs.Taken.{TakesBeginning}
 use Rattle.report.specs.Watching.{GoUpTo, IsShot, Sight, Watch, at_last, before_last, watch_from}
 use Rattle.report.specs.declared.question.Question.{Question}
@@ -37,12 +37,13 @@ use Rattle.script.specs.Spelling.{refusal, view_heading, viewers_refused}
 use Rattle.script.specs.Tails.{AreViewers, AreViews, IsTailBehind, IsView, Viewing, last_view, no_viewer, turned_away, undeclared, view_first, viewed, viewer_first}
 use Rattle.script.specs.Desks.{IsBehind, Keeps, Stays}
 use Rattle.script.specs.Stops.{AreBlocksUpTo, HoweverFinished, finish_of_refused}
-use Rattle.script.specs.Viewers.{AreWritten, Attend, EndsBy, EndsLines, EndsRun, EndsSo, HasAttended, HasViewers, IsRunBy, IsStarted, IsStrict, IsTailAfter, IsTailOf, IsWritten, MayAttend, MayWant, begun, expected, too_much_by, too_much_text, turned, view_block}
+use Rattle.script.specs.Viewers.{AreWritten, Attend, EndsBy, EndsLines, EndsRun, EndsSo, HasAttended, HasViewers, IsAskedSo, IsRunBy, IsStarted, IsStrict, IsTailAfter, IsTailOf, IsWritten, MayAttend, MayWant, begun, expected, too_much_by, too_much_text, turned, view_block}
 use Rattle.script.specs.Viewers.{of_lines as strict_of_lines, too_much as strict_too_much}
 use Rattle.script.specs.declared.ended.Ended.{Ended}
 use Rattle.script.specs.declared.ended.Ended.TheVariants.{NoWorker, NotShown, WriteFailed}
 use Rattle.script.specs.declared.finish.Finish.{Finish}
 use Rattle.script.specs.declared.finish.Finish.TheVariants.{Stopped, Through}
+use Rattle.script.specs.declared.manner.Manner.{Manner}
 use Rattle.script.specs.declared.on_refusal.OnRefusal.{OnRefusal}
 use Rattle.script.specs.declared.on_refusal.OnRefusal.TheVariants.{GoesOn, Stops}
 use Rattle.script.specs.declared.fault.Fault.TheVariants.{Line}
@@ -105,36 +106,36 @@ left_at givens before number list e =
 
 -- ---- the blocks of viewers
 
-module _ (givens : Givens) (before : Lines) (k : Editions) (query : List ℕ) (question : Question) (means : MeansPlan (keeper.schema k) query question.plan)
+module _ (manner : Manner) (givens : Givens) (before : Lines) (k : Editions) (query : List ℕ) (question : Question) (asked : IsAskedSo manner (keeper.schema k) query question)
     (history : keeper.history k ≡ map table (editions givens before)) (viewer : ℕ) where
-  view_of : (shot : Sight) → IsShot (keeper.history k) question shot → IsView question.form (keeper.schema k) (editions givens before) query viewer shot.edition (view_block question.form viewer shot)
+  view_of : (shot : Sight) → IsShot (keeper.history k) question shot → IsView manner (keeper.schema k) (editions givens before) query viewer shot.edition (view_block manner.form viewer shot)
   view_of shot is =
       let lists = lists_at (editions givens before) shot.edition is.rows (subst (λ h. slice_get h shot.edition ≡ Some is.rows) history is.at) in
-      let text = is.is.is lists.list (left_at givens before shot.edition lists.list lists.at) lists.same in
+      let text = is.is.is lists.list (left_at givens before shot.edition lists.list lists.at) lists.same ∙ ap (λ q. text_of q (report_rows question.plan lists.list)) asked.is in
       record {
         rows = lists.list;
         answer = answer_of question.plan lists.list;
         at = lists.at;
-        says = means lists.list;
-        is = ap (λ t. view_heading question.form viewer shot.edition ++ t) text;
+        says = asked.plan lists.list;
+        is = ap (λ t. view_heading manner.form viewer shot.edition ++ t) text;
       }
 
   pub views_of : {last least count : ℕ} {shots : List Sight} → GoUpTo (keeper.history k) question last least count shots →
-      AreViews question.form (keeper.schema k) (editions givens before) query last viewer least count (flat_map (view_block question.form viewer) shots)
-  views_of (at_last {shot = shot} low same is) = rw append-nil (last_view low (subst (λ n. IsView question.form (keeper.schema k) (editions givens before) query viewer n (view_block question.form viewer shot)) same (view_of shot is)))
-  views_of (before_last {shot = shot} {more = more} low is up) = view_first (view_block question.form viewer shot) (flat_map (view_block question.form viewer) more) low (view_of shot is) (views_of up)
+      AreViews manner (keeper.schema k) (editions givens before) query last viewer least count (flat_map (view_block manner.form viewer) shots)
+  views_of (at_last {shot = shot} low same is) = rw append-nil (last_view low (subst (λ n. IsView manner (keeper.schema k) (editions givens before) query viewer n (view_block manner.form viewer shot)) same (view_of shot is)))
+  views_of (before_last {shot = shot} {more = more} low is up) = view_first (view_block manner.form viewer shot) (flat_map (view_block manner.form viewer) more) low (view_of shot is) (views_of up)
 
 -- ---- some tail
 
-module _ (form : Form) (t : Table) (all : List (List RowValue)) (last : ℕ) (viewing : Viewing) (some : (viewer : ℕ) → (bytes : List ℕ) × IsView form t all viewing.query viewer last bytes) where
-  some_views : (viewer least count : ℕ) → least ≤ last → (bytes : List ℕ) × AreViews form t all viewing.query last viewer least count bytes
+module _ (manner : Manner) (t : Table) (all : List (List RowValue)) (last : ℕ) (viewing : Viewing) (some : (viewer : ℕ) → (bytes : List ℕ) × IsView manner t all viewing.query viewer last bytes) where
+  some_views : (viewer least count : ℕ) → least ≤ last → (bytes : List ℕ) × AreViews manner t all viewing.query last viewer least count bytes
   some_views viewer least zero low = let (bytes, is) = some viewer in (bytes, last_view low is)
   some_views viewer least (suc count) low =
       let (bytes, is) = some viewer in
       let (rest, are) = some_views viewer last count (omega arith) in
       (bytes ++ rest, view_first bytes rest low is are)
 
-  pub some_viewers : (viewer count : ℕ) → (bytes : List ℕ) × AreViewers form t all last viewing viewer count bytes
+  pub some_viewers : (viewer count : ℕ) → (bytes : List ℕ) × AreViewers manner t all last viewing viewer count bytes
   some_viewers viewer zero = ([], no_viewer)
   some_viewers viewer (suc count) =
       let (bytes, are) = some_views viewer 0 viewing.shots (omega arith) in
@@ -142,12 +143,12 @@ module _ (form : Form) (t : Table) (all : List (List RowValue)) (last : ℕ) (vi
       (bytes ++ rest, viewer_first bytes rest are more)
 
 -- what a plan of the query answers on the last edition
-pub some_view : (form : Form) (givens : Givens) (before : Lines) (t : Table) (viewing : Viewing) (plan : PlanTree) → MeansPlan t viewing.query plan → (viewer : ℕ) →
-    (bytes : List ℕ) × IsView form t (editions givens before) viewing.query viewer (edition givens before) bytes
-some_view form givens before t viewing plan means viewer =
+pub some_view : (manner : Manner) (givens : Givens) (before : Lines) (t : Table) (viewing : Viewing) (plan : PlanTree) → MeansPlan t viewing.query plan → (viewer : ℕ) →
+    (bytes : List ℕ) × IsView manner t (editions givens before) viewing.query viewer (edition givens before) bytes
+some_view manner givens before t viewing plan means viewer =
     let all = editions givens before in
     let list = get_or all (edition givens before) [] in (
-      view_heading form viewer (edition givens before) ++ spelt form (answer_of plan list),
+      view_heading manner.form viewer (edition givens before) ++ spelt manner (answer_of plan list),
       record {
         rows = list;
         answer = answer_of plan list;
@@ -161,17 +162,17 @@ pub some_tail : EachAnswered → (givens : Givens) (before : Lines) (asked : Opt
 some_tail each givens before None = ([], refl)
 some_tail each givens before (Some viewing) = by_table (declared givens before) refl where
   by_fault : (t : Table) → declared givens before ≡ Some t → (q : QueryTree) → IsQuery viewing.query q → (o : Option Refused) → fault_of t q ≡ o → (bytes : List ℕ) × IsTailBehind givens viewing before bytes
-  by_fault t is q spelt (Some fault) e = (viewers_refused givens.form fault, turned_away is (no_plan spelt e))
+  by_fault t is q spelt (Some fault) e = (viewers_refused givens.manner.form fault, turned_away is (no_plan spelt e))
   by_fault t is q spelt None e =
-      let (bytes, are) = some_viewers givens.form t (editions givens before) (edition givens before) viewing (some_view givens.form givens before t viewing (plan_of t q) (λ rs. answer spelt e)) 1 viewing.viewers in
+      let (bytes, are) = some_viewers givens.manner t (editions givens before) (edition givens before) viewing (some_view givens.manner givens before t viewing (plan_of t q) (λ rs. answer spelt e)) 1 viewing.viewers in
       (bytes, viewed is are)
 
   by_text : (t : Table) → declared givens before ≡ Some t → IsAnswered viewing.query → (bytes : List ℕ) × IsTailBehind givens viewing before bytes
   by_text t is (a_query q spelt) = by_fault t is q spelt (fault_of t q) refl
-  by_text t is (a_fault fault first) = (viewers_refused givens.form fault, turned_away is (no_query first))
+  by_text t is (a_fault fault first) = (viewers_refused givens.manner.form fault, turned_away is (no_query first))
 
   by_table : (o : Option Table) → declared givens before ≡ o → (bytes : List ℕ) × IsTailBehind givens viewing before bytes
-  by_table None is = (viewers_refused givens.form NoTable, undeclared is)
+  by_table None is = (viewers_refused givens.manner.form NoTable, undeclared is)
   by_table (Some t) is = by_text t is (each viewing.query)
 
 -- ---- errors of results of two types
@@ -209,48 +210,47 @@ module _ (First Second : List ℕ → Type 0) (a b c : Option (List ℕ)) where
 -- ---- how far viewers are
 
 -- they stay so as long as the keeper stays
-started_stays : (form : Form) (viewing : Viewing) (k new : Editions) (watches : List Watch) → Stays (Some k) (Some new) → AllByRecursion (IsStarted form viewing k) watches → AllByRecursion (IsStarted form viewing new) watches
-started_stays form viewing k new [] stays all = tt
-started_stays form viewing k new (watch ∷ more) stays (is, all) = (
+started_stays : (manner : Manner) (viewing : Viewing) (k new : Editions) (watches : List Watch) → Stays (Some k) (Some new) → AllByRecursion (IsStarted manner viewing k) watches → AllByRecursion (IsStarted manner viewing new) watches
+started_stays manner viewing k new [] stays all = tt
+started_stays manner viewing k new (watch ∷ more) stays (is, all) = (
   record {
     board = is.board ∙ sym stays.board;
     schema = is.schema ∙ sym stays.schema;
-    form_is = is.form_is;
-    plan = subst (λ t. MeansPlan t viewing.query watch.before.question.plan) (sym stays.schema) is.plan;
+    asked = subst (λ t. IsAskedSo manner t viewing.query watch.before.question) (sym stays.schema) is.asked;
     none = is.none;
     count = is.count;
   },
-  started_stays form viewing k new more stays all,
+  started_stays manner viewing k new more stays all,
 )
 
-attend_stays : {form : Form} (viewing : Viewing) (old new : Option Editions) (stage : Stage) (watches : List Watch) → Stays old new → Attend form viewing old stage watches → Attend form viewing new stage watches
+attend_stays : {manner : Manner} (viewing : Viewing) (old new : Option Editions) (stage : Stage) (watches : List Watch) → Stays old new → Attend manner viewing old stage watches → Attend manner viewing new stage watches
 attend_stays viewing old new stage watches stays expected = expected
 attend_stays viewing (Some k) None stage watches stays (turned says) = absurd stays
 attend_stays viewing (Some k) (Some l) stage watches stays (turned {fault = fault} says) = turned (subst (λ t. Says t [] viewing.query (Err fault)) (sym stays.schema) says)
 attend_stays viewing (Some k) None stage watches stays (begun many all) = absurd stays
-attend_stays {form = form} viewing (Some k) (Some l) stage watches stays (begun many all) = begun many (started_stays form viewing k l watches stays all)
+attend_stays {manner = manner} viewing (Some k) (Some l) stage watches stays (begun many all) = begun many (started_stays manner viewing k l watches stays all)
 
-pub may_attend : {form : Form} (asked : Option Viewing) (old new : Option Editions) (stage : Stage) (watches : List Watch) → Stays old new → HasAttended form asked old stage watches → MayAttend form asked new stage watches
+pub may_attend : {manner : Manner} (asked : Option Viewing) (old new : Option Editions) (stage : Stage) (watches : List Watch) → Stays old new → HasAttended manner asked old stage watches → MayAttend manner asked new stage watches
 may_attend None old new stage watches stays has = tt
 may_attend (Some viewing) old new stage watches stays has = attend_stays viewing old new stage watches stays has.attend
 
 -- nobody was started yet
-pub first_attended : {form : Form} (asked : Option Viewing) (desk : Option Editions) (stage : Stage) (watches : List Watch) → desk ≡ None → stage ≡ Expected → watches ≡ [] → HasAttended form asked desk stage watches
+pub first_attended : {manner : Manner} (asked : Option Viewing) (desk : Option Editions) (stage : Stage) (watches : List Watch) → desk ≡ None → stage ≡ Expected → watches ≡ [] → HasAttended manner asked desk stage watches
 first_attended None desk stage watches fresh is none = record { attend = tt; declared = λ has late. absurd has }
 first_attended (Some viewing) desk stage watches fresh is none = record { attend = rw (is, none) expected; declared = λ has late. fresh }
 
 -- a run has no viewers, they were started or turned away, or there is no table
-pub attended_none : {form : Form} (asked : Option Viewing) (desk : Option Editions) (stage : Stage) (watches : List Watch) → asked ≡ None → HasAttended form asked desk stage watches
+pub attended_none : {manner : Manner} (asked : Option Viewing) (desk : Option Editions) (stage : Stage) (watches : List Watch) → asked ≡ None → HasAttended manner asked desk stage watches
 attended_none None desk stage watches is = record { attend = tt; declared = λ has late. absurd has }
 attended_none (Some viewing) desk stage watches is = absurd cc
 
-pub attended_late : {form : Form} (asked : Option Viewing) (desk : Option Editions) (stage : Stage) (watches : List Watch) → MayAttend form asked desk stage watches → (stage ≡ Expected → desk ≡ None) → HasAttended form asked desk stage watches
+pub attended_late : {manner : Manner} (asked : Option Viewing) (desk : Option Editions) (stage : Stage) (watches : List Watch) → MayAttend manner asked desk stage watches → (stage ≡ Expected → desk ≡ None) → HasAttended manner asked desk stage watches
 attended_late asked desk stage watches attend late = record { attend = attend; declared = λ has is. late is }
 
-pub expected_nobody : (form : Form) (asked : Option Viewing) (viewing : Viewing) (desk : Option Editions) (stage : Stage) (watches : List Watch) → asked ≡ Some viewing → stage ≡ Expected → MayAttend form asked desk stage watches → watches ≡ []
-expected_nobody form None viewing desk stage watches same is attend = absurd cc
-expected_nobody form (Some other) viewing desk stage watches same is attend = go attend is where
-  go : {desk : Option Editions} {stage : Stage} {watches : List Watch} → Attend form other desk stage watches → stage ≡ Expected → watches ≡ []
+pub expected_nobody : (manner : Manner) (asked : Option Viewing) (viewing : Viewing) (desk : Option Editions) (stage : Stage) (watches : List Watch) → asked ≡ Some viewing → stage ≡ Expected → MayAttend manner asked desk stage watches → watches ≡ []
+expected_nobody manner None viewing desk stage watches same is attend = absurd cc
+expected_nobody manner (Some other) viewing desk stage watches same is attend = go attend is where
+  go : {desk : Option Editions} {stage : Stage} {watches : List Watch} → Attend manner other desk stage watches → stage ≡ Expected → watches ≡ []
   go expected is = refl
   go (turned says) is = absurd cc
   go (begun many all) is = absurd cc
@@ -359,34 +359,34 @@ so_stopped taken faults old new hash givens on asked script result wrote sound m
 
 -- ---- what a run writes as a whole
 
-module _ (hash : Cell → ℕ) (form : Form) (rows : ℕ) (parts : List (Vec ℕ Global)) (script : List ℕ) (asked : Option Viewing) where
-  counted : length (givens_in form rows parts).parts ≡ length parts
+module _ (hash : Cell → ℕ) (manner : Manner) (rows : ℕ) (parts : List (Vec ℕ Global)) (script : List ℕ) (asked : Option Viewing) where
+  counted : length (givens_in manner rows parts).parts ≡ length parts
   counted = length-map parts (λ p. p.items)
 
-  beyond : (script_limit < length script) ⊎ (part_limit < length parts) → IsTooMuch (givens_in form rows parts) script
+  beyond : (script_limit < length script) ⊎ (part_limit < length parts) → IsTooMuch (givens_in manner rows parts) script
   beyond (inl long) = inl long
   beyond (inr many) = inr (omega (arith, many, counted))
 
   -- a script beyond a limit
-  too_much_written : IsTooMuch (givens_in form rows parts) script → (asked : Option Viewing) (bytes : List ℕ) → bytes ≡ too_much_text form asked → IsWritten hash (givens_in form rows parts) asked script bytes
-  too_much_written much None bytes is = subst (IsOutput hash (givens_in form rows parts) script) (sym is) (output_too_much much)
+  too_much_written : IsTooMuch (givens_in manner rows parts) script → (asked : Option Viewing) (bytes : List ℕ) → bytes ≡ too_much_text manner.form asked → IsWritten hash (givens_in manner rows parts) asked script bytes
+  too_much_written much None bytes is = subst (IsOutput hash (givens_in manner rows parts) script) (sym is) (output_too_much much)
   too_much_written much (Some viewing) bytes is = record {
-    first = refusal form 0 (Line Limit);
-    second = viewers_refused form NoTable;
+    first = refusal manner.form 0 (Line Limit);
+    second = viewers_refused manner.form NoTable;
     is_first = output_too_much much;
     is_second = tail_too_much much;
     joined = is;
   }
 
-  pub too_much_by_run : (on : OnRefusal) → (script_limit < length script) ⊎ (part_limit < length parts) → (bytes : List ℕ) → bytes ≡ too_much_by form on asked →
-      IsRunBy on hash (givens_in form rows parts) asked script (finish_of_refused on) bytes
+  pub too_much_by_run : (on : OnRefusal) → (script_limit < length script) ⊎ (part_limit < length parts) → (bytes : List ℕ) → bytes ≡ too_much_by manner.form on asked →
+      IsRunBy on hash (givens_in manner rows parts) asked script (finish_of_refused on) bytes
   too_much_by_run GoesOn much bytes is = too_much_written (beyond much) asked bytes is
-  too_much_by_run Stops much bytes is = subst (IsStrict hash (givens_in form rows parts) asked script Stopped) (sym is) (strict_too_much (beyond much))
+  too_much_by_run Stops much bytes is = subst (IsStrict hash (givens_in manner rows parts) asked script Stopped) (sym is) (strict_too_much (beyond much))
 
   -- one within them
-  all_written : length script ≤ script_limit → length (givens_in form rows parts).parts ≤ part_limit → (asked : Option Viewing) (finish : Finish) (bytes : List ℕ) →
-      AreWritten hash (givens_in form rows parts) GoesOn asked (lines script) finish bytes → IsRunBy GoesOn hash (givens_in form rows parts) asked script finish bytes
-  all_written short few None Through bytes two = subst (IsOutput hash (givens_in form rows parts) script) (sym (two.joined ∙ ap (λ t. two.first ++ t) two.is_second ∙ append-nil two.first))
+  all_written : length script ≤ script_limit → length (givens_in manner rows parts).parts ≤ part_limit → (asked : Option Viewing) (finish : Finish) (bytes : List ℕ) →
+      AreWritten hash (givens_in manner rows parts) GoesOn asked (lines script) finish bytes → IsRunBy GoesOn hash (givens_in manner rows parts) asked script finish bytes
+  all_written short few None Through bytes two = subst (IsOutput hash (givens_in manner rows parts) script) (sym (two.joined ∙ ap (λ t. two.first ++ t) two.is_second ∙ append-nil two.first))
       (output_of_lines short few (all_blocks two.is_first).1)
   all_written short few (Some viewing) Through bytes two = record {
     first = two.first;
@@ -398,13 +398,13 @@ module _ (hash : Cell → ℕ) (form : Form) (rows : ℕ) (parts : List (Vec ℕ
   all_written short few asked Stopped bytes two = let bad : Stopped ≡ Through = (all_blocks two.is_first).0 in absurd cc
 
   pub written_by_run : (on : OnRefusal) → length script ≤ script_limit → length parts ≤ part_limit → (finish : Finish) (bytes : List ℕ) →
-      AreWritten hash (givens_in form rows parts) on asked (lines script) finish bytes → IsRunBy on hash (givens_in form rows parts) asked script finish bytes
+      AreWritten hash (givens_in manner rows parts) on asked (lines script) finish bytes → IsRunBy on hash (givens_in manner rows parts) asked script finish bytes
   written_by_run GoesOn short few finish bytes two = all_written short (omega (arith, few, counted)) asked finish bytes two
   written_by_run Stops short few finish bytes two = strict_of_lines short (omega (arith, few, counted)) two
 
   module _ {W : Type 0} (taken : W → Option (List ℕ)) (faults : W → ℕ) (old new : W) (result : Result Finish Ended) (on : OnRefusal) where
-    pub ends_too_much : (script_limit < length script) ⊎ (part_limit < length parts) → Ends taken faults old new (λ bytes. bytes ≡ too_much_by form on asked) ⊥ ⊥ result → IfOk result (λ finish. finish ≡ finish_of_refused on) →
-        EndsBy on hash taken faults old new (givens_in form rows parts) asked script result
+    pub ends_too_much : (script_limit < length script) ⊎ (part_limit < length parts) → Ends taken faults old new (λ bytes. bytes ≡ too_much_by manner.form on asked) ⊥ ⊥ result → IfOk result (λ finish. finish ≡ finish_of_refused on) →
+        EndsBy on hash taken faults old new (givens_in manner rows parts) asked script result
     ends_too_much much ends finish = record {
       ends = record {
         delivered = delivers_as taken faults old new _ _ result (λ bytes is. record { finish = finish_of_refused on; is = too_much_by_run on much bytes is }) ends.delivered;
@@ -413,13 +413,13 @@ module _ (hash : Cell → ℕ) (form : Form) (rows : ℕ) (parts : List (Vec ℕ
       };
       wrote = wrote result ends.delivered.output finish;
     } where
-      wrote : (r : Result Finish Ended) → OnOk r (Writes (λ bytes. bytes ≡ too_much_by form on asked) (taken old) (taken new)) → IfOk r (λ finish. finish ≡ finish_of_refused on) →
-          IfOk r (λ finish. Writes (IsRunBy on hash (givens_in form rows parts) asked script finish) (taken old) (taken new))
+      wrote : (r : Result Finish Ended) → OnOk r (Writes (λ bytes. bytes ≡ too_much_by manner.form on asked) (taken old) (taken new)) → IfOk r (λ finish. finish ≡ finish_of_refused on) →
+          IfOk r (λ finish. Writes (IsRunBy on hash (givens_in manner rows parts) asked script finish) (taken old) (taken new))
       wrote (Ok finish) w is = rw is (record { whole = w.whole; is_whole = too_much_by_run on much w.whole w.is_whole; taken = w.taken })
       wrote (Err e) w is = tt
 
-    pub ends_within : length script ≤ script_limit → length parts ≤ part_limit → EndsLines on hash taken faults old new (givens_in form rows parts) asked (lines script) result →
-        EndsBy on hash taken faults old new (givens_in form rows parts) asked script result
+    pub ends_within : length script ≤ script_limit → length parts ≤ part_limit → EndsLines on hash taken faults old new (givens_in manner rows parts) asked (lines script) result →
+        EndsBy on hash taken faults old new (givens_in manner rows parts) asked script result
     ends_within short few ends = ends_so_as taken faults old new _ _ result _ _ (written_by_run on short few) ends
 
 -- a run that goes on writes what the script does
@@ -476,93 +476,92 @@ module _ {W T : Type 0} (taken : W → Option (List ℕ)) (faults : W → ℕ) (
   }
 
 -- where all viewers were started, each answers the query on the keeper's board
-pub all_begun : {form : Form} (asked : Option Viewing) (viewing : Viewing) (k : Editions) (stage : Stage) (watches : List Watch) → asked ≡ Some viewing → stage ≡ Begun → HasAttended form asked (Some k) stage watches →
-    AllByRecursion (IsStarted form viewing k) watches × (length watches ≡ viewing.viewers)
+pub all_begun : {manner : Manner} (asked : Option Viewing) (viewing : Viewing) (k : Editions) (stage : Stage) (watches : List Watch) → asked ≡ Some viewing → stage ≡ Begun → HasAttended manner asked (Some k) stage watches →
+    AllByRecursion (IsStarted manner viewing k) watches × (length watches ≡ viewing.viewers)
 all_begun None viewing k stage watches same is has = absurd cc
-all_begun {form = form} (Some other) viewing k stage watches same is has = go has.attend is where
+all_begun {manner = manner} (Some other) viewing k stage watches same is has = go has.attend is where
   one : other ≡ viewing
   one = cc
 
-  go : {stage : Stage} {watches : List Watch} → Attend form other (Some k) stage watches → stage ≡ Begun → AllByRecursion (IsStarted form viewing k) watches × (length watches ≡ viewing.viewers)
+  go : {stage : Stage} {watches : List Watch} → Attend manner other (Some k) stage watches → stage ≡ Begun → AllByRecursion (IsStarted manner viewing k) watches × (length watches ≡ viewing.viewers)
   go expected is = absurd cc
   go (turned says) is = absurd cc
-  go (begun {watches = watches} many all) is = (subst (λ v. AllByRecursion (IsStarted form v k) watches) one all, many ∙ ap (λ v. v.viewers) one)
+  go (begun {watches = watches} many all) is = (subst (λ v. AllByRecursion (IsStarted manner v k) watches) one all, many ∙ ap (λ v. v.viewers) one)
 
 -- the tails of a run that asks for viewers
 module _ {W T : Type 0} (taken : W → Option (List ℕ)) (faults : W → ℕ) (old new : W) (givens : Givens) (before : Lines) (result : Result T Ended) (viewing : Viewing) where
   pub delivers_undeclared : (asked : Option Viewing) (desk : Option Editions) → asked ≡ Some viewing → desk ≡ None → IsBehind givens before desk →
-      Delivers taken faults old new (λ bytes. bytes ≡ viewers_refused givens.form NoTable) result → Delivers taken faults old new (IsTailOf givens asked before) result
+      Delivers taken faults old new (λ bytes. bytes ≡ viewers_refused givens.manner.form NoTable) result → Delivers taken faults old new (IsTailOf givens asked before) result
   delivers_undeclared None desk same none stands d = absurd cc
   delivers_undeclared (Some other) None same none stands d =
       delivers_as taken faults old new _ _ result (λ bytes is. subst (IsTailBehind givens other before) (sym is) (undeclared stands)) d
   delivers_undeclared (Some other) (Some k) same none stands d = absurd cc
 
-  pub delivers_turned : (asked : Option Viewing) (k : Editions) (stage : Stage) (watches : List Watch) (fault : Refused) → asked ≡ Some viewing → stage ≡ Turned fault → HasAttended givens.form asked (Some k) stage watches →
-      IsBehind givens before (Some k) → Delivers taken faults old new (λ bytes. bytes ≡ viewers_refused givens.form fault) result → Delivers taken faults old new (IsTailOf givens asked before) result
+  pub delivers_turned : (asked : Option Viewing) (k : Editions) (stage : Stage) (watches : List Watch) (fault : Refused) → asked ≡ Some viewing → stage ≡ Turned fault → HasAttended givens.manner asked (Some k) stage watches →
+      IsBehind givens before (Some k) → Delivers taken faults old new (λ bytes. bytes ≡ viewers_refused givens.manner.form fault) result → Delivers taken faults old new (IsTailOf givens asked before) result
   delivers_turned None k stage watches fault same is has stands d = absurd cc
   delivers_turned (Some other) k stage watches fault same is has stands d = go has.attend is where
-    go : {stage : Stage} {watches : List Watch} → Attend givens.form other (Some k) stage watches → stage ≡ Turned fault → Delivers taken faults old new (IsTailBehind givens other before) result
+    go : {stage : Stage} {watches : List Watch} → Attend givens.manner other (Some k) stage watches → stage ≡ Turned fault → Delivers taken faults old new (IsTailBehind givens other before) result
     go expected is = absurd cc
     go (turned {fault = first} says) is =
         let one : first ≡ fault = cc in
         delivers_as taken faults old new _ _ result (λ bytes text. subst (IsTailBehind givens other before) (sym text) (turned_away stands.schema (subst (λ f. Says (keeper.schema k) [] other.query (Err f)) one says))) d
     go (begun many all) is = absurd cc
 
-  pub delivers_viewed : (asked : Option Viewing) (k : Editions) (stage : Stage) (watches : List Watch) → asked ≡ Some viewing → stage ≡ Begun → HasAttended givens.form asked (Some k) stage watches →
-      Keeps givens before k → Delivers taken faults old new (AreViewers givens.form (keeper.schema k) (editions givens before) (keeper.edition k) viewing 1 (length watches)) result →
+  pub delivers_viewed : (asked : Option Viewing) (k : Editions) (stage : Stage) (watches : List Watch) → asked ≡ Some viewing → stage ≡ Begun → HasAttended givens.manner asked (Some k) stage watches →
+      Keeps givens before k → Delivers taken faults old new (AreViewers givens.manner (keeper.schema k) (editions givens before) (keeper.edition k) viewing 1 (length watches)) result →
       Delivers taken faults old new (IsTailOf givens asked before) result
   delivers_viewed None k stage watches same is has stands d = absurd cc
   delivers_viewed (Some other) k stage watches same is has stands d =
       let one : other ≡ viewing = cc in
       let many = (all_begun (Some other) viewing k stage watches same is has).1 in
       rw one (delivers_as taken faults old new _ _ result
-      (λ bytes are. viewed stands.schema (subst (λ n. AreViewers givens.form (keeper.schema k) (editions givens before) n viewing 1 viewing.viewers bytes) stands.edition
-      (subst (λ n. AreViewers givens.form (keeper.schema k) (editions givens before) (keeper.edition k) viewing 1 n bytes) many are)))
+      (λ bytes are. viewed stands.schema (subst (λ n. AreViewers givens.manner (keeper.schema k) (editions givens before) n viewing 1 viewing.viewers bytes) stands.edition
+      (subst (λ n. AreViewers givens.manner (keeper.schema k) (editions givens before) (keeper.edition k) viewing 1 n bytes) many are)))
       d)
 
 -- one viewer more was started
-pub started_more : (form : Form) (viewing : Viewing) (k : Editions) (watches : List Watch) (number : ℕ) (viewer : Known) (plan : PlanTree) → AllByRecursion (IsStarted form viewing k) watches →
-    viewer.board ≡ keeper.board k → viewer.schema ≡ keeper.schema k → MeansPlan (keeper.schema k) viewing.query plan →
-    AllByRecursion (IsStarted form viewing k) (watches ++ watch_from number viewer (asked_in form plan) viewing.shots ∷ [])
-started_more form viewing k watches number viewer plan all board schema means = all_more (IsStarted form viewing k) watches (watch_from number viewer (asked_in form plan) viewing.shots) all (record {
+pub started_more : (manner : Manner) (viewing : Viewing) (k : Editions) (watches : List Watch) (number : ℕ) (viewer : Known) (question : Question) → AllByRecursion (IsStarted manner viewing k) watches →
+    viewer.board ≡ keeper.board k → viewer.schema ≡ keeper.schema k → IsAskedSo manner (keeper.schema k) viewing.query question →
+    AllByRecursion (IsStarted manner viewing k) (watches ++ watch_from number viewer question viewing.shots ∷ [])
+started_more manner viewing k watches number viewer question all board schema asked = all_more (IsStarted manner viewing k) watches (watch_from number viewer question viewing.shots) all (record {
   board = board;
   schema = schema;
-  form_is = refl;
-  plan = means;
+  asked = asked;
   none = refl;
   count = refl;
 })
 
 -- blocks that a viewer might have
-pub some_blocks_of : (form : Form) (givens : Givens) (before : Lines) (k : Editions) (viewing : Viewing) (plan : PlanTree) → Keeps givens before k → MeansPlan (keeper.schema k) viewing.query plan → (viewer : ℕ) →
-    (bytes : List ℕ) × AreViews form (keeper.schema k) (editions givens before) viewing.query (keeper.edition k) viewer 0 viewing.shots bytes
-some_blocks_of form givens before k viewing plan keeps means viewer =
-    rw keeps.edition (some_views form (keeper.schema k) (editions givens before) (edition givens before) viewing (some_view form givens before (keeper.schema k) viewing plan means) viewer 0 viewing.shots (omega arith))
+pub some_blocks_of : (manner : Manner) (givens : Givens) (before : Lines) (k : Editions) (viewing : Viewing) (plan : PlanTree) → Keeps givens before k → MeansPlan (keeper.schema k) viewing.query plan → (viewer : ℕ) →
+    (bytes : List ℕ) × AreViews manner (keeper.schema k) (editions givens before) viewing.query (keeper.edition k) viewer 0 viewing.shots bytes
+some_blocks_of manner givens before k viewing plan keeps means viewer =
+    rw keeps.edition (some_views manner (keeper.schema k) (editions givens before) (edition givens before) viewing (some_view manner givens before (keeper.schema k) viewing plan means) viewer 0 viewing.shots (omega arith))
 
 -- ---- the blocks of viewers that came back, before those of the others
 
-pub record SoFar (form : Form) (old new : Option (List ℕ)) (t : Table) (all : List (List RowValue)) (last : ℕ) (viewing : Viewing) (number left many : ℕ) : Type 0 where
+pub record SoFar (manner : Manner) (old new : Option (List ℕ)) (t : Table) (all : List (List RowValue)) (last : ℕ) (viewing : Viewing) (number left many : ℕ) : Type 0 where
   pub front : List ℕ
   pub taken : Appends old new front
-  pub goes_on : (rest : List ℕ) → AreViewers form t all last viewing (number + 1) left rest → AreViewers form t all last viewing 1 many (front ++ rest)
+  pub goes_on : (rest : List ℕ) → AreViewers manner t all last viewing (number + 1) left rest → AreViewers manner t all last viewing 1 many (front ++ rest)
 
-pub none_so_far : {form : Form} (told : Option (List ℕ)) (t : Table) (all : List (List RowValue)) (last : ℕ) (viewing : Viewing) (many : ℕ) → SoFar form told told t all last viewing 0 many many
+pub none_so_far : {manner : Manner} (told : Option (List ℕ)) (t : Table) (all : List (List RowValue)) (last : ℕ) (viewing : Viewing) (many : ℕ) → SoFar manner told told t all last viewing 0 many many
 none_so_far told t all last viewing many = record { front = []; taken = Appends-nil told; goes_on = λ rest are. are }
 
-module _ {form : Form} (old new : Option (List ℕ)) (t : Table) (all : List (List RowValue)) (last : ℕ) (viewing : Viewing) (number many : ℕ) where
+module _ {manner : Manner} (old new : Option (List ℕ)) (t : Table) (all : List (List RowValue)) (last : ℕ) (viewing : Viewing) (number many : ℕ) where
   -- one viewer more
-  pub more_so_far : (newer : Option (List ℕ)) (left : ℕ) → SoFar form old new t all last viewing number (suc left) many →
-      Writes (AreViews form t all viewing.query last (number + 1) 0 viewing.shots) new newer → SoFar form old newer t all last viewing (number + 1) left many
+  pub more_so_far : (newer : Option (List ℕ)) (left : ℕ) → SoFar manner old new t all last viewing number (suc left) many →
+      Writes (AreViews manner t all viewing.query last (number + 1) 0 viewing.shots) new newer → SoFar manner old newer t all last viewing (number + 1) left many
   more_so_far newer left so_far wrote = record {
     front = so_far.front ++ wrote.whole;
     taken = Appends-trans old new newer so_far.front wrote.whole so_far.taken wrote.taken;
-    goes_on = λ rest are. subst (AreViewers form t all last viewing 1 many) (sym (append_assoc so_far.front wrote.whole rest))
+    goes_on = λ rest are. subst (AreViewers manner t all last viewing 1 many) (sym (append_assoc so_far.front wrote.whole rest))
         (so_far.goes_on (wrote.whole ++ rest) (viewer_first wrote.whole rest wrote.is_whole are));
   }
 
   -- nothing more, behind what might follow
-  pub begins_so_far : (left : ℕ) → SoFar form old new t all last viewing number left many → ((viewer count : ℕ) → (bytes : List ℕ) × AreViewers form t all last viewing viewer count bytes) →
-      BeginsToWrite (AreViewers form t all last viewing 1 many) old new
+  pub begins_so_far : (left : ℕ) → SoFar manner old new t all last viewing number left many → ((viewer count : ℕ) → (bytes : List ℕ) × AreViewers manner t all last viewing viewer count bytes) →
+      BeginsToWrite (AreViewers manner t all last viewing 1 many) old new
   begins_so_far left so_far some =
       let (rest, are) = some (number + 1) left in
       record {
@@ -572,8 +571,8 @@ module _ {form : Form} (old new : Option (List ℕ)) (t : Table) (all : List (Li
       }
 
   -- a beginning of the blocks of one more
-  pub begins_more : (newer : Option (List ℕ)) (left : ℕ) → SoFar form old new t all last viewing number (suc left) many → ((viewer count : ℕ) → (bytes : List ℕ) × AreViewers form t all last viewing viewer count bytes) →
-      BeginsToWrite (AreViews form t all viewing.query last (number + 1) 0 viewing.shots) new newer → BeginsToWrite (AreViewers form t all last viewing 1 many) old newer
+  pub begins_more : (newer : Option (List ℕ)) (left : ℕ) → SoFar manner old new t all last viewing number (suc left) many → ((viewer count : ℕ) → (bytes : List ℕ) × AreViewers manner t all last viewing viewer count bytes) →
+      BeginsToWrite (AreViews manner t all viewing.query last (number + 1) 0 viewing.shots) new newer → BeginsToWrite (AreViewers manner t all last viewing 1 many) old newer
   begins_more newer left so_far some p =
       let (rest, are) = some (number + 1 + 1) left in
       let whole = so_far.front ++ (p.whole ++ rest) in
@@ -584,7 +583,7 @@ module _ {form : Form} (old new : Option (List ℕ)) (t : Table) (all : List (Li
       }
 
   -- all of them
-  pub whole_so_far : SoFar form old new t all last viewing number 0 many → Writes (AreViewers form t all last viewing 1 many) old new
+  pub whole_so_far : SoFar manner old new t all last viewing number 0 many → Writes (AreViewers manner t all last viewing 1 many) old new
   whole_so_far so_far = record {
     whole = so_far.front;
     is_whole = rw append-nil at (so_far.goes_on [] no_viewer);

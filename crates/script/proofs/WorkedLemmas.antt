@@ -3,7 +3,7 @@ use Rattle.std.proofs.Common.{◌≡◌, ℕ, List, [], ◌∷◌, None, Ok, sub
 use Rattle.std.proofs.lemmas.List.{append-nil}
 use Rattle.cells.specs.Values.{RowValue, Table}
 use Rattle.cells.specs.declared.cell.Cell.{Cell}
-use Rattle.forms.specs.declared.form.Form.{Form}
+use Rattle.script.specs.declared.manner.Manner.{Manner}
 use Rattle.script.specs.Givens.{Givens}
 use Rattle.script.specs.Output.{AreBlocks, IsBlock, IsReport, line_first, no_line, report}
 use Rattle.script.specs.Says.{answer, answer_of}
@@ -22,6 +22,6 @@ pub last : (hash : Cell → ℕ) (givens : Givens) (before : List (List ℕ)) (l
 last hash givens before line bytes is = subst (AreBlocks hash givens before (line ∷ [])) (append-nil bytes) (line_first bytes [] is no_line)
 
 -- an accepted report
-pub reported : {form : Form} (number edition : ℕ) (t : Table) (rs : List RowValue) (query : List ℕ) (q : QueryTree) (bytes : List ℕ) → IsQuery query q → fault_of t q ≡ None →
-    bytes ≡ report form number edition (Ok (answer_of (plan_of t q) rs)) → IsReport form number edition t rs query bytes
+pub reported : {manner : Manner} (number edition : ℕ) (t : Table) (rs : List RowValue) (query : List ℕ) (q : QueryTree) (bytes : List ℕ) → IsQuery query q → fault_of t q ≡ None →
+    bytes ≡ report manner number edition (Ok (answer_of (plan_of t q) rs)) → IsReport manner number edition t rs query bytes
 reported number edition t rs query q bytes is fits text = record { said = Ok (answer_of (plan_of t q) rs); says = answer is fits; is = text }

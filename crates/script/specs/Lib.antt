@@ -11,9 +11,11 @@ pub mod JsonSpelling
 pub mod Keys
 pub mod Limits
 pub mod Listings
+pub mod Manners
 pub mod Output
 pub mod Refusals
 pub mod Says
+pub mod Sessions
 pub mod Spelling
 pub mod Statements
 pub mod Stops

@@ -14,9 +14,10 @@ use Rattle.script.specs.Givens.{Givens}
 use Rattle.script.specs.Listings.{rows_loaded}
 use Rattle.script.specs.Limits.{part_limit, script_limit}
 use Rattle.script.specs.Says.{Answer, Says, spelt}
-use Rattle.script.specs.Spelling.{heading, refusal, shape_text}
+use Rattle.script.specs.Spelling.{opening, refusal, shape_text}
 use Rattle.script.specs.declared.fault.Fault.{Fault}
 use Rattle.script.specs.declared.fault.Fault.TheVariants.{Line}
+use Rattle.script.specs.declared.manner.Manner.{Manner}
 
 -- the table of the accepted `table` line
 abbrev pub declared_by : Option Table → Result Deed Fault → Option Table
@@ -107,16 +108,16 @@ abbrev pub loaded : Form → ℕ → ℕ → List Update → Result (List RowVal
 loaded form number limit us (Ok rs) = updated form number limit us (puts rs)
 loaded form number limit us (Err fault) = refusal form number fault
 
--- the block of a report: its heading and its answer, or its refusal
-abbrev pub report : Form → ℕ → ℕ → Result Answer Refused → List ℕ
-report form number edition (Ok told) = heading form number edition ++ spelt form told
-report form number edition (Err fault) = refusal form number (Line fault)
+-- the block of a report: its opening and its answer, or its refusal
+abbrev pub report : Manner → ℕ → ℕ → Result Answer Refused → List ℕ
+report manner number edition (Ok told) = opening manner number edition ++ spelt manner told
+report manner number edition (Err fault) = refusal manner.form number (Line fault)
 
 -- the bytes are the block of a report: what its text says over these rows
-pub record IsReport (form : Form) (number edition : ℕ) (t : Table) (rs : List RowValue) (query bytes : List ℕ) : Type 0 where
+pub record IsReport (manner : Manner) (number edition : ℕ) (t : Table) (rs : List RowValue) (query bytes : List ℕ) : Type 0 where
   pub said : Result Answer Refused
   pub says : Says t rs query said
-  pub is : bytes ≡ report form number edition said
+  pub is : bytes ≡ report manner number edition said
 
 abbrev pub keys : List RowValue → List Cell
 keys rs = map (λ r. r.key) rs
@@ -127,12 +128,12 @@ module _ (hash : Cell → ℕ) (givens : Givens) where
   abbrev pub IsAnswer : List (List ℕ) → Result Deed Fault → List ℕ → Type 0
   IsAnswer before (Ok Nothing) bytes = bytes ≡ []
   IsAnswer before (Ok (Declares t)) bytes = bytes ≡ []
-  IsAnswer before (Ok (Loads t listing)) bytes = bytes ≡ loaded givens.form (length before + 1) givens.limit (updates givens before) (rows_loaded t givens.parts listing)
-  IsAnswer before (Ok (Updates more)) bytes = bytes ≡ updated givens.form (length before + 1) givens.limit (updates givens before) more
+  IsAnswer before (Ok (Loads t listing)) bytes = bytes ≡ loaded givens.manner.form (length before + 1) givens.limit (updates givens before) (rows_loaded t givens.parts listing)
+  IsAnswer before (Ok (Updates more)) bytes = bytes ≡ updated givens.manner.form (length before + 1) givens.limit (updates givens before) more
   IsAnswer before (Ok Publishes) bytes = bytes ≡ []
-  IsAnswer before (Ok (Reports t query)) bytes = IsReport givens.form (length before + 1) (edition givens before) t (published givens before) query bytes
-  IsAnswer before (Ok Shapes) bytes = bytes ≡ shape_text givens.form (length before + 1) (edition givens before) (shape_of hash (keys (published givens before)))
-  IsAnswer before (Err fault) bytes = bytes ≡ refusal givens.form (length before + 1) fault
+  IsAnswer before (Ok (Reports t query)) bytes = IsReport givens.manner (length before + 1) (edition givens before) t (published givens before) query bytes
+  IsAnswer before (Ok Shapes) bytes = bytes ≡ shape_text givens.manner (length before + 1) (edition givens before) (shape_of hash (keys (published givens before)))
+  IsAnswer before (Err fault) bytes = bytes ≡ refusal givens.manner.form (length before + 1) fault
 
   -- the bytes are the line's block
   abbrev pub IsBlock : List (List ℕ) → List ℕ → List ℕ → Type 0
@@ -151,7 +152,7 @@ IsTooMuch givens script = (script_limit < length script) ⊎ (part_limit < lengt
 
 -- the bytes are what a script writes
 pub data IsOutput (hash : Cell → ℕ) (givens : Givens) (script : List ℕ) : List ℕ → Type 0 where
-  too_much : IsTooMuch givens script → IsOutput hash givens script (refusal givens.form 0 (Line Limit))
+  too_much : IsTooMuch givens script → IsOutput hash givens script (refusal givens.manner.form 0 (Line Limit))
   of_lines : {bytes : List ℕ} → length script ≤ script_limit → length givens.parts ≤ part_limit →
       AreBlocks hash givens [] (lines script) bytes → IsOutput hash givens script bytes
 

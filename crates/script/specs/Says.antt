@@ -4,13 +4,14 @@ use Rattle.cells.specs.Values.{RowValue, Table}
 use Rattle.cells.specs.declared.refused.Refused.{Refused}
 use Rattle.cells.specs.declared.refused.Refused.TheVariants.{OutOfMemory}
 use Rattle.cells.specs.declared.total.Total.{Total}
-use Rattle.forms.specs.declared.form.Form.{Form}
 use Rattle.groups.specs.Groups.{report_rows}
 use Rattle.query.specs.Checks.{fault_of}
 use Rattle.query.specs.Plans.{PlanTree, plan_of}
 use Rattle.query.specs.Queries.{FirstFault, IsQuery}
 use Rattle.query.specs.Values.{QueryTree}
+use Rattle.report.specs.Arranging.{arranged}
 use Rattle.report.specs.Reports.{report_of}
+use Rattle.script.specs.declared.manner.Manner.{Manner}
 
 -- what a report answers: its headings and its rows
 pub record Answer : Type 0 where
@@ -21,9 +22,9 @@ pub record Answer : Type 0 where
 abbrev pub answer_of : PlanTree → List RowValue → Answer
 answer_of plan rs = record { headings = plan.headings; rows = report_rows plan rs }
 
--- the text of an answer in a form
-abbrev pub spelt : Form → Answer → List ℕ
-spelt form answer = report_of form answer.headings answer.rows
+-- the text of an answer that is told in this way
+abbrev pub spelt : Manner → Answer → List ℕ
+spelt manner answer = report_of manner.form answer.headings (arranged manner.arrangement answer.headings answer.rows)
 
 -- over the rows of the table the text says this: the first fault of a text that is no query, the first fault of a query
 -- for the table, or the answer of its plan

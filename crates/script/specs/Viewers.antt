@@ -11,12 +11,13 @@ use Rattle.script.specs.declared.fault.Fault.TheVariants.{Line}
 use Rattle.board.specs.Editions.{Editions}
 use Rattle.board.specs.Editions as keeper
 use Rattle.forms.specs.declared.form.Form.{Form}
-use Rattle.query.specs.Plans.{PlanTree}
 use Rattle.report.specs.Waiting.{Waits}
 use Rattle.report.specs.Watching.{Sight, Watch}
+use Rattle.report.specs.declared.question.Question.{Question}
 use Rattle.script.specs.Endings.{AsksForWorkers, Ends, Writes}
 use Rattle.script.specs.Givens.{Givens}
 use Rattle.script.specs.Limits.{part_limit, script_limit}
+use Rattle.script.specs.Manners.{question_in}
 use Rattle.script.specs.Output.{InTwo, IsOutput, IsTooMuch}
 use Rattle.script.specs.Says.{MeansPlan, Says}
 use Rattle.script.specs.Stops.{AreBlocksUpTo, GoesOver, HoweverFinished}
@@ -24,6 +25,7 @@ use Rattle.script.specs.Spelling.{refusal, view_heading, viewers_refused}
 use Rattle.script.specs.Tails.{IsLive, IsTailBehind, Viewing}
 use Rattle.script.specs.declared.ended.Ended.{Ended}
 use Rattle.script.specs.declared.finish.Finish.{Finish}
+use Rattle.script.specs.declared.manner.Manner.{Manner}
 use Rattle.script.specs.declared.finish.Finish.TheVariants.{Stopped, Through}
 use Rattle.script.specs.declared.on_refusal.OnRefusal.{OnRefusal}
 use Rattle.script.specs.declared.on_refusal.OnRefusal.TheVariants.{GoesOn, Stops}
@@ -54,12 +56,19 @@ abbrev pub IsWritten : (Cell → ℕ) → Givens → Option Viewing → List ℕ
 IsWritten hash givens None script bytes = IsOutput hash givens script bytes
 IsWritten hash givens (Some viewing) script bytes = IsLive hash givens viewing script bytes
 
+-- the query is asked, so that its answers are told in this way
+pub record IsAskedSo (manner : Manner) (t : Table) (query : List ℕ) (question : Question) : Type 0 where
+  pub is : question ≡ question_in manner question.plan
+  pub plan : MeansPlan t query question.plan
+
+abbrev pub AreAsked : Manner → Table → List ℕ → List Question → Type 0
+AreAsked manner t query questions = AllByRecursion (IsAskedSo manner t query) questions
+
 -- a viewer was started on the keeper's board, and answers the query
-pub record IsStarted (form : Form) (viewing : Viewing) (k : Editions) (watch : Watch) : Type 0 where
+pub record IsStarted (manner : Manner) (viewing : Viewing) (k : Editions) (watch : Watch) : Type 0 where
   pub board : watch.before.viewer.board ≡ keeper.board k
   pub schema : watch.before.viewer.schema ≡ keeper.schema k
-  pub form_is : watch.before.question.form ≡ form
-  pub plan : MeansPlan (keeper.schema k) viewing.query watch.before.question.plan
+  pub asked : IsAskedSo manner (keeper.schema k) viewing.query watch.before.question
   pub none : watch.before.shots ≡ []
   pub count : watch.count ≡ viewing.shots
 
@@ -67,26 +76,22 @@ pub record IsStarted (form : Form) (viewing : Viewing) (k : Editions) (watch : W
 abbrev pub view_block : Form → ℕ → Sight → List ℕ
 view_block form viewer shot = view_heading form viewer shot.edition ++ shot.text
 
--- plans of the query
-abbrev pub ArePlans : Table → List ℕ → List PlanTree → Type 0
-ArePlans t query plans = AllByRecursion (MeansPlan t query) plans
-
 -- how far the viewers of a run are at its desk: they are expected, or turned away since the query is refused, or they were
 -- all started
-pub data Attend (form : Form) (viewing : Viewing) : Option Editions → Stage → List Watch → Type 0 where
-  expected : {desk : Option Editions} → Attend form viewing desk Expected []
-  turned : {k : Editions} {fault : Refused} → Says (keeper.schema k) [] viewing.query (Err fault) → Attend form viewing (Some k) (Turned fault) []
-  begun : {k : Editions} {watches : List Watch} → length watches ≡ viewing.viewers → AllByRecursion (IsStarted form viewing k) watches →
-      Attend form viewing (Some k) Begun watches
+pub data Attend (manner : Manner) (viewing : Viewing) : Option Editions → Stage → List Watch → Type 0 where
+  expected : {desk : Option Editions} → Attend manner viewing desk Expected []
+  turned : {k : Editions} {fault : Refused} → Says (keeper.schema k) [] viewing.query (Err fault) → Attend manner viewing (Some k) (Turned fault) []
+  begun : {k : Editions} {watches : List Watch} → length watches ≡ viewing.viewers → AllByRecursion (IsStarted manner viewing k) watches →
+      Attend manner viewing (Some k) Begun watches
 
 -- the same of a run that may have none
-abbrev pub MayAttend : Form → Option Viewing → Option Editions → Stage → List Watch → Type 0
-MayAttend form None desk stage watches = ⊤
-MayAttend form (Some viewing) desk stage watches = Attend form viewing desk stage watches
+abbrev pub MayAttend : Manner → Option Viewing → Option Editions → Stage → List Watch → Type 0
+MayAttend manner None desk stage watches = ⊤
+MayAttend manner (Some viewing) desk stage watches = Attend manner viewing desk stage watches
 
 -- and they are expected only where there is no table
-pub record HasAttended (form : Form) (asked : Option Viewing) (desk : Option Editions) (stage : Stage) (watches : List Watch) : Type 0 where
-  pub attend : MayAttend form asked desk stage watches
+pub record HasAttended (manner : Manner) (asked : Option Viewing) (desk : Option Editions) (stage : Stage) (watches : List Watch) : Type 0 where
+  pub attend : MayAttend manner asked desk stage watches
   pub declared : HasViewers asked → stage ≡ Expected → desk ≡ None
 
 -- a run may want a worker: it has viewers, or a line of the script has workers
@@ -111,7 +116,7 @@ AreWritten hash givens on asked script finish bytes = InTwo (AreBlocksUpTo hash 
 -- what a strict run writes that is so finished: its last line is the first that is refused; a script beyond a limit is
 -- refused as a whole
 pub data IsStrict (hash : Cell → ℕ) (givens : Givens) (asked : Option Viewing) (script : List ℕ) : Finish → List ℕ → Type 0 where
-  too_much : IsTooMuch givens script → IsStrict hash givens asked script Stopped (refusal givens.form 0 (Line Limit))
+  too_much : IsTooMuch givens script → IsStrict hash givens asked script Stopped (refusal givens.manner.form 0 (Line Limit))
   of_lines : {finish : Finish} {bytes : List ℕ} → length script ≤ script_limit → length givens.parts ≤ part_limit →
       AreWritten hash givens Stops asked (lines script) finish bytes → IsStrict hash givens asked script finish bytes
 
@@ -145,7 +150,7 @@ EndsEarly on hash taken faults old new givens asked script e =
 pub record GoesOverBeside {W : Type 0} (taken : W → Option (List ℕ)) (faults : W → ℕ) (old new : W) (hash : Cell → ℕ) (givens : Givens) (on : OnRefusal) (asked : Option Viewing) (script : List (List ℕ))
     (desk : Option Editions) (waits : Waits) (stage : Stage) (watches : List Watch) (finish : Finish) : Type 0 where
   pub over : GoesOver (taken old) (taken new) hash givens on script desk waits finish
-  pub attended : HasAttended givens.form asked desk stage watches
+  pub attended : HasAttended givens.manner asked desk stage watches
   pub sound : faults new ≡ faults old
 
 -- what is written for a script beyond a limit

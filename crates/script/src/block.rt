@@ -5,11 +5,12 @@ ghost use Rattle.std.specs.List.{flat_map};
 ghost use Rattle.trie.specs.Shapes.{shape_of};
 ghost use Rattle.board.specs.Editions as editions;
 ghost use Rattle.script.specs.Blocks.{is_refused, quiet};
-ghost use Rattle.script.specs.Spelling.{heading, refusal, shape_text, viewers_refused};
+ghost use Rattle.script.specs.Spelling.{opening, refusal, shape_text, viewers_refused};
 ghost use Rattle.script.specs.Viewers.{view_block};
 ghost use Rattle.script.specs.declared.fault.Fault.TheVariants.{Line};
 
 use crate::fault::Fault;
+use crate::manner::Manner;
 use crate::setup::SpeltSetup;
 use crate::spelling;
 use board::{Keeper, Snapshot};
@@ -53,11 +54,11 @@ impl<H: KeyHash<Cell>> Block<H> {
     }
 }
 
-/// A report that is still to be answered: the heading of its block, the edition that stood published at its line, and
+/// A report that is still to be answered: how its block begins, the edition that stood published at its line, and
 /// what is asked of it, whose plan was checked for its table.
 #[derive(Drop)]
 pub struct Asked<H: KeyHash<Cell>> {
-    pub heading: Vec<u8>,
+    pub opening: Vec<u8>,
     pub snapshot: Snapshot<H>,
     pub question: Question,
 }
@@ -65,16 +66,16 @@ pub struct Asked<H: KeyHash<Cell>> {
 /// The block of a shape of the last published edition.
 pub fn shape_block<H: KeyHash<Cell>>(
     alloc: Global,
-    form: Form,
+    manner: &Manner,
     keeper: &Keeper<H>,
     number: u64,
 ) -> Result<Vec<u8>, AllocError>
-    ensures { IfOk result (λ block. block.items ≡ shape_text form number (editions.edition keeper.now) (shape_of H.hash_of (keys (editions.published keeper.now)))) }
+    ensures { IfOk result (λ block. block.items ≡ shape_text manner.now number (editions.edition keeper.now) (shape_of H.hash_of (keys (editions.published keeper.now)))) }
 {
     let Ok(snapshot) = keeper.snapshot() else {
         return Err(AllocError);
     };
-    let block = snapshot_block(alloc, form, &snapshot, number);
+    let block = snapshot_block(alloc, manner, &snapshot, number);
     drop(snapshot);
     block
 }
@@ -82,30 +83,30 @@ pub fn shape_block<H: KeyHash<Cell>>(
 /// The block of a shape of the snapshot's edition.
 fn snapshot_block<H: KeyHash<Cell>>(
     alloc: Global,
-    form: Form,
+    manner: &Manner,
     snapshot: &Snapshot<H>,
     number: u64,
 ) -> Result<Vec<u8>, AllocError>
-    ensures { IfOk result (λ block. block.items ≡ shape_text form number snapshot.now.number (shape_of H.hash_of (keys snapshot.now.rows))) }
+    ensures { IfOk result (λ block. block.items ≡ shape_text manner.now number snapshot.now.number (shape_of H.hash_of (keys snapshot.now.rows))) }
 {
     let shape = snapshot.root().shape()?;
-    let block = shape_lines(alloc, form, number, snapshot.edition(), shape.as_slice());
+    let block = shape_lines(alloc, manner, number, snapshot.edition(), shape.as_slice());
     drop(shape);
     block
 }
 
-/// The text of a shape: its heading, and what is said of each prefix.
+/// The text of a shape: its opening, and what is said of each prefix.
 fn shape_lines(
     alloc: Global,
-    form: Form,
+    manner: &Manner,
     number: u64,
     edition: u64,
     shape: &[(Prefix, u64)],
 ) -> Result<Vec<u8>, AllocError>
-    ensures { IfOk result (λ text. text.items ≡ shape_text form number edition shape.now) }
+    ensures { IfOk result (λ text. text.items ≡ shape_text manner.now number edition shape.now) }
 {
-    let mut text = spelling::heading(alloc, form, number, edition)?;
-    spelling::push_shape(form, &mut text, shape)?;
+    let mut text = spelling::opening(alloc, manner, number, edition)?;
+    spelling::push_shape(manner.form, &mut text, shape)?;
     Ok(text.into_bytes())
 }
 
@@ -132,24 +133,24 @@ pub fn refuse<R, G: Gate>(
     number: u64,
     fault: Fault,
 ) -> Result<Vec<u8>, AllocError>
-    ensures block { IfOk result (λ block. block.items ≡ refusal setup.now.form number fault) }
+    ensures block { IfOk result (λ block. block.items ≡ refusal setup.now.manner.now.form number fault) }
     ensures memory { fault ≡ Line Refused.OutOfMemory → IsErr result }
 {
-    let block = refusal_block(setup.alloc, setup.form, number, fault)?;
+    let block = refusal_block(setup.alloc, setup.manner.form, number, fault)?;
     fault.tell(number, setup.gate);
     Ok(block)
 }
 
-/// The heading of a report's block.
-pub fn report_heading(
+/// How a report's block begins.
+pub fn report_opening(
     alloc: Global,
-    form: Form,
+    manner: &Manner,
     number: u64,
     edition: u64,
 ) -> Result<Vec<u8>, AllocError>
-    ensures { IfOk result (λ text. text.items ≡ heading form number edition) }
+    ensures { IfOk result (λ text. text.items ≡ opening manner.now number edition) }
 {
-    let text = spelling::heading(alloc, form, number, edition)?;
+    let text = spelling::opening(alloc, manner, number, edition)?;
     Ok(text.into_bytes())
 }
 

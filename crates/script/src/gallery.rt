@@ -7,13 +7,15 @@ ghost use Rattle.script.specs.Desks.{IsBehind, Keeps};
 ghost use Rattle.script.specs.Endings.{Delivers, Ends};
 ghost use Rattle.script.specs.Givens.{Givens, givens_in};
 ghost use Rattle.script.specs.Output.{editions};
-ghost use Rattle.script.specs.Says.{IsRefused, MeansPlan};
+ghost use Rattle.script.specs.Says.{IsRefused};
 ghost use Rattle.script.specs.Spelling.{viewers_refused};
 ghost use Rattle.script.specs.Tails.{AreViewers, AreViews};
-ghost use Rattle.script.specs.Viewers.{ArePlans, Attend, HasAttended, HasViewers, IsStarted, IsTailOf, MayAttend, asked_of, viewing_of};
+ghost use Rattle.script.specs.declared.manner.Manner.{Manner as MannerValue};
+ghost use Rattle.script.specs.Viewers.{AreAsked, Attend, HasAttended, HasViewers, IsAskedSo, IsStarted, IsTailOf, MayAttend, asked_of, viewing_of};
 
 use crate::block::{view_text, viewers_refused_block};
 use crate::ended::Ended;
+use crate::manner::Manner;
 use crate::reporting::read_plan;
 use crate::setup::SpeltSetup;
 use crate::stage::Stage;
@@ -23,7 +25,6 @@ use board::Keeper;
 use cells::{Cell, KeyHash, Refused, Schema, Tuple};
 use crew::Gate;
 use forms::Form;
-use query::Plan;
 use report::{Answering, Audience, Out, Question, Starter, Want, Watcher, write_whole};
 use std::alloc::Global;
 use std::sync::Wait;
@@ -65,9 +66,9 @@ impl<H: KeyHash<Cell> + KeyHash<Tuple> + Send + Sync> Gallery<H> {
     ) -> Result<(), Unstarted>
     where
         H: 's,
-        requires attend { MayAttend setup.now.form (asked_of setup.now.viewing) desk.old self.old.stage self.old.audience.watches }
+        requires attend { MayAttend setup.now.manner.now (asked_of setup.now.viewing) desk.old self.old.stage self.old.audience.watches }
         ensures same { desk.new ≡ desk.old }
-        ensures attended { OnOk result (HasAttended setup.now.form (asked_of setup.now.viewing) desk.new self.new.stage self.new.audience.watches) }
+        ensures attended { OnOk result (HasAttended setup.now.manner.now (asked_of setup.now.viewing) desk.new self.new.stage self.new.audience.watches) }
         ensures asked { IfErr result (λ _. HasViewers (asked_of setup.now.viewing)) }
     {
         let Some(viewing) = setup.viewing else {
@@ -79,14 +80,14 @@ impl<H: KeyHash<Cell> + KeyHash<Tuple> + Send + Sync> Gallery<H> {
         let Some(keeper) = desk else {
             return Ok(());
         };
-        self.begin(setup.alloc, setup.form, starter, viewing, keeper)
+        self.begin(setup.alloc, setup.manner, starter, viewing, keeper)
     }
 
     /// Starts the viewers of the keeper's table, or turns them away where their query is refused.
     fn begin<'s, 'e: 's, G: Gate, R: Threads + Wait + Sync>(
         &mut self,
         alloc: Global,
-        form: Form,
+        manner: &Manner,
         starter: &Starter<'_, 's, 'e, R, G>,
         viewing: Viewing<&str>,
         keeper: &mut Keeper<H>,
@@ -95,12 +96,12 @@ impl<H: KeyHash<Cell> + KeyHash<Tuple> + Send + Sync> Gallery<H> {
         H: 's,
         requires nobody { self.old.audience.watches ≡ [] }
         ensures same { keeper.new ≡ keeper.old }
-        ensures attend { OnOk result (Attend form (viewing_of viewing.entry) (Some keeper.old) self.new.stage self.new.audience.watches) }
+        ensures attend { OnOk result (Attend manner.now (viewing_of viewing.entry) (Some keeper.old) self.new.stage self.new.audience.watches) }
         ensures stage { OnOk result (self.new.stage ≡ Stage.Expected → ⊥) }
     {
-        match plans_of(alloc, viewing, keeper.schema()) {
-            Ok(plans) => {
-                self.start_all(form, starter, viewing, keeper, plans)?;
+        match questions_of(alloc, manner, viewing, keeper.schema()) {
+            Ok(questions) => {
+                self.start_all(starter, viewing, keeper, questions)?;
                 self.stage = Stage::Begun;
                 Ok(())
             }
@@ -112,29 +113,28 @@ impl<H: KeyHash<Cell> + KeyHash<Tuple> + Send + Sync> Gallery<H> {
         }
     }
 
-    /// Starts a viewer for each plan.
+    /// Starts a viewer for each question.
     fn start_all<'s, 'e: 's, G: Gate, R: Threads + Wait + Sync>(
         &mut self,
-        form: Form,
         starter: &Starter<'_, 's, 'e, R, G>,
         viewing: Viewing<&str>,
         keeper: &mut Keeper<H>,
-        plans: Vec<Plan>,
+        questions: Vec<Question>,
     ) -> Result<(), Unstarted>
     where
         H: 's,
         requires nobody { self.old.audience.watches ≡ [] }
-        requires plans { ArePlans (schema_of keeper.old) viewing.query.now plans.items }
         ensures same { keeper.new ≡ keeper.old }
-        ensures many { OnOk result (length self.new.audience.watches ≡ length plans.items) }
-        ensures started { OnOk result (AllByRecursion (IsStarted form (viewing_of viewing.entry) keeper.old) self.new.audience.watches) }
+        ensures many { OnOk result (length self.new.audience.watches ≡ length questions.items) }
+        ensures started { (manner : MannerValue) → AreAsked manner (schema_of keeper.old) viewing.entry.query.now questions.items →
+            OnOk result (AllByRecursion (IsStarted manner (viewing_of viewing.entry) keeper.old) self.new.audience.watches) }
     {
-        for plan in plans {
+        for question in questions {
             let Ok(viewer) = keeper.viewer() else {
                 return Err(Unstarted::NotShown);
             };
             self.audience
-                .begin(starter, viewer, Question { form, plan }, viewing.shots)?;
+                .begin(starter, viewer, question, viewing.shots)?;
         }
         Ok(())
     }
@@ -146,10 +146,10 @@ impl<H: KeyHash<Cell> + KeyHash<Tuple> + Send + Sync> Gallery<H> {
         desk: &mut Option<Keeper<H>>,
         out: &mut O,
     ) -> Result<(), Ended>
-        requires attended { HasAttended setup.now.form (asked_of setup.now.viewing) desk.old self.old.stage self.old.audience.watches }
+        requires attended { HasAttended setup.now.manner.now (asked_of setup.now.viewing) desk.old self.old.stage self.old.audience.watches }
         requires faults { O.faults out.old + 1 < 2 ^ 64 }
-        ensures tail { (before : List (List ℕ)) → IsBehind (givens_in setup.now.form setup.now.how.now.rows setup.now.parts.now) before desk.old →
-            Delivers O.taken O.faults out.old out.new (IsTailOf (givens_in setup.now.form setup.now.how.now.rows setup.now.parts.now) (asked_of setup.now.viewing) before) result }
+        ensures tail { (before : List (List ℕ)) → IsBehind (givens_in setup.now.manner.now setup.now.how.now.rows setup.now.parts.now) before desk.old →
+            Delivers O.taken O.faults out.old out.new (IsTailOf (givens_in setup.now.manner.now setup.now.how.now.rows setup.now.parts.now) (asked_of setup.now.viewing) before) result }
         ensures asked { IfErr result (λ _. HasViewers (asked_of setup.now.viewing)) }
     {
         let Some(viewing) = setup.viewing else {
@@ -173,11 +173,11 @@ impl<H: KeyHash<Cell> + KeyHash<Tuple> + Send + Sync> Gallery<H> {
         keeper: &mut Keeper<H>,
         out: &mut O,
     ) -> Result<(), Ended>
-        requires started { AllByRecursion (IsStarted setup.now.form (viewing_of viewing) keeper.old) self.old.audience.watches }
+        requires started { AllByRecursion (IsStarted setup.now.manner.now (viewing_of viewing) keeper.old) self.old.audience.watches }
         requires many { length self.old.audience.watches ≡ viewing.viewers }
         requires faults { O.faults out.old + 1 < 2 ^ 64 }
         ensures views { (givens : Givens) (before : List (List ℕ)) → Keeps givens before keeper.old →
-            Delivers O.taken O.faults out.old out.new (AreViewers setup.now.form (schema_of keeper.old) (editions givens before) (edition keeper.old) (viewing_of viewing.entry) 1 (length self.old.audience.watches)) result }
+            Delivers O.taken O.faults out.old out.new (AreViewers setup.now.manner.now (schema_of keeper.old) (editions givens before) (edition keeper.old) (viewing_of viewing.entry) 1 (length self.old.audience.watches)) result }
     {
         let answering = setup.answering();
         let mut number = 0u64;
@@ -185,24 +185,49 @@ impl<H: KeyHash<Cell> + KeyHash<Tuple> + Send + Sync> Gallery<H> {
             let watcher = watched?;
             number += 1;
             write_viewer(
-                &answering, setup.form, viewing, keeper, watcher, number, out,
+                &answering,
+                setup.manner,
+                viewing,
+                keeper,
+                watcher,
+                number,
+                out,
             )?;
         }
         Ok(())
     }
 }
 
-/// As many plans of the query as there are viewers, or its first fault.
-fn plans_of(alloc: Global, viewing: Viewing<&str>, schema: &Schema) -> Result<Vec<Plan>, Refused>
-    ensures many { IfOk result (λ plans. length plans.items ≡ viewing.entry.viewers) }
-    ensures plans { IfOk result (λ plans. ArePlans schema.now viewing.entry.query.now plans.items) }
+/// The query's question for each viewer, or its first fault.
+fn questions_of(
+    alloc: Global,
+    manner: &Manner,
+    viewing: Viewing<&str>,
+    schema: &Schema,
+) -> Result<Vec<Question>, Refused>
+    ensures many { IfOk result (λ questions. length questions.items ≡ viewing.entry.viewers) }
+    ensures asked { IfOk result (λ questions. AreAsked manner.now schema.now viewing.entry.query.now questions.items) }
     ensures refused { IfErr result (IsRefused schema.now viewing.entry.query.now) }
 {
-    let mut plans = Vec::new(alloc);
+    let mut questions = Vec::new(alloc);
     for _ in 0..viewing.viewers {
-        plans.push(read_plan(alloc, viewing.query, schema)?)?;
+        questions.push(question_of(alloc, manner, viewing.query, schema)?)?;
     }
-    Ok(plans)
+    Ok(questions)
+}
+
+/// The query's question, or its first fault.
+fn question_of(
+    alloc: Global,
+    manner: &Manner,
+    query: &str,
+    schema: &Schema,
+) -> Result<Question, Refused>
+    ensures asked { IfOk result (IsAskedSo manner.now schema.now query.now) }
+    ensures refused { IfErr result (IsRefused schema.now query.now) }
+{
+    let plan = read_plan(alloc, query, schema)?;
+    Ok(manner.question(plan)?)
 }
 
 /// Tells the gate that the viewers are refused, and writes what stands in place of all their blocks.
@@ -212,10 +237,10 @@ fn write_refused<O: Out, R, G: Gate>(
     fault: Refused,
 ) -> Result<(), Ended>
     requires { O.faults out.old + 1 < 2 ^ 64 }
-    ensures { Ends O.taken O.faults out.old out.new (λ bytes. bytes ≡ viewers_refused setup.now.form fault) ⊥ ⊥ result }
+    ensures { Ends O.taken O.faults out.old out.new (λ bytes. bytes ≡ viewers_refused setup.now.manner.now.form fault) ⊥ ⊥ result }
 {
     setup.gate.refused_viewers(fault);
-    write_refused_block(setup.alloc, setup.form, out, fault)
+    write_refused_block(setup.alloc, setup.manner.form, out, fault)
 }
 
 /// Writes what stands in place of all blocks of viewers. It starts no thread and wants no viewer's place.
@@ -244,7 +269,7 @@ fn write_viewer<
     R: Threads + Wait + Sync,
 >(
     answering: &Answering<'_, R, G>,
-    form: Form,
+    manner: &Manner,
     viewing: Viewing<&str>,
     keeper: &mut Keeper<H>,
     watcher: Watcher<H>,
@@ -252,17 +277,16 @@ fn write_viewer<
     out: &mut O,
 ) -> Result<(), Ended>
     requires own { IsOf keeper.old watcher.viewer }
-    requires plan { MeansPlan (schema_of keeper.old) viewing.query.now watcher.question.plan }
-    requires form { watcher.question.form ≡ form }
+    requires asked { IsAskedSo manner.now (schema_of keeper.old) viewing.query.now watcher.question }
     requires shots { length watcher.shots ≡ viewing.shots }
     requires faults { O.faults out.old + 1 < 2 ^ 64 }
     ensures same { keeper.new ≡ keeper.old }
     ensures sound { OnOk result (O.faults out.new ≡ O.faults out.old) }
     ensures views { (givens : Givens) (before : List (List ℕ)) → Keeps givens before keeper.old →
-        Delivers O.taken O.faults out.old out.new (AreViews form (schema_of keeper.old) (editions givens before) viewing.entry.query.now (edition keeper.old) number 0 viewing.entry.shots) result }
+        Delivers O.taken O.faults out.old out.new (AreViews manner.now (schema_of keeper.old) (editions givens before) viewing.entry.query.now (edition keeper.old) number 0 viewing.entry.shots) result }
 {
     let shots = watcher.finish(answering, keeper)?;
-    let text = view_text(answering.alloc, form, number, shots.as_slice())?;
+    let text = view_text(answering.alloc, manner.form, number, shots.as_slice())?;
     let Ok(()) = write_whole(out, text.as_slice()) else {
         return Err(Ended::WriteFailed);
     };

@@ -1,10 +1,13 @@
 //! The laws of what a script writes.
-ghost use Rattle.std.specs.Prelude.{◌≡◌, ℕ, ◌++◌, ◌∷◌, List, [], Ok, codes, reverse};
+ghost use Rattle.std.specs.Prelude.{◌≡◌, ℕ, ◌++◌, ◌∷◌, List, [], Ok, codes, length, reverse, ◌≤◌};
+ghost use Rattle.std.specs.Str.Lines.{lines};
 ghost use Rattle.cells.specs.Hashes.{plain_hash};
 ghost use Rattle.cells.specs.declared.cell.Cell.{Cell as CellValue};
 ghost use Rattle.script.specs.Deeds.{Shapes};
 ghost use Rattle.script.specs.Givens.{Givens, givens};
+ghost use Rattle.script.specs.Limits.{part_limit, script_limit};
 ghost use Rattle.script.specs.Output.{AreBlocks, InThree, InTwo, IsBlock, IsOutput, deed_behind, text_of};
+ghost use Rattle.script.specs.Sessions.{AreReplies};
 ghost use Rattle.script.specs.Stops.{AreBlocksUpTo, StoppedAt};
 ghost use Rattle.script.specs.Tails.{IsLive, IsTail, Viewing};
 
@@ -36,7 +39,9 @@ pub fn strict_stops_at_the_first_refused_line()
         AreBlocksUpTo hash givens OnRefusal.Stops [] lines Finish.Through bytes → AreBlocks hash givens [] lines bytes }
     ensures stopped { (hash : CellValue → ℕ) (givens : Givens) (lines : List (List ℕ)) (bytes : List ℕ) →
         AreBlocksUpTo hash givens OnRefusal.Stops [] lines Finish.Stopped bytes → StoppedAt hash givens [] lines bytes }
-{}
+{
+    a_text_has_one_answer();
+}
 
 /// The hash of keys decides the blocks of shapes alone: any other line has the same block under every
 /// hash.
@@ -67,4 +72,11 @@ pub fn worked_scripts()
     ensures rolled_up { IsOutput plain_hash (givens 9 [])
         (text_of (codes "table T (K INT KEY, V INT)" ∷ codes "put 1,5" ∷ codes "put 2,5" ∷ codes "put 3," ∷ codes "publish" ∷ codes "report SELECT V, COUNT(*) FROM T GROUP BY ROLLUP (V)" ∷ []))
         (text_of (codes "line 6 edition 1" ∷ codes "V | COUNT(*)" ∷ codes "NULL | 1" ∷ codes "5 | 2" ∷ codes "NULL | 3" ∷ [])) }
+{}
+
+/// What a session wrote, whose lines are those of a script, is the script's output: the replies to lines that come one by
+/// one are what [`run`](crate::run) writes for all of them.
+pub fn a_session_writes_the_output_of_its_lines()
+    ensures { (hash : CellValue → ℕ) (givens : Givens) (script bytes : List ℕ) → length script ≤ script_limit → length givens.parts ≤ part_limit →
+        AreReplies hash givens (reverse (lines script)) bytes → IsOutput hash givens script bytes }
 {}

@@ -1,6 +1,6 @@
 //! Scripts: the runner, which goes from line to line over one table, what a script writes, and the laws of that. A
 //! program that runs scripts calls [`run`] or [`run_by`], with viewers beside the lines [`live`], and where it ends behind its
-//! run [`run_last`], or [`run_in`] in a form of its choice.
+//! run [`run_last`], or [`run_in`] in a manner of its choice. One that answers lines as they come holds a [`Session`].
 #![tactic(auto)]
 
 mod block;
@@ -13,6 +13,7 @@ mod fault;
 mod finish;
 mod gallery;
 mod hash_choice;
+mod heard;
 mod how;
 mod json_spelling;
 mod laws;
@@ -20,30 +21,38 @@ mod limits;
 mod lines;
 mod listing;
 mod load_line;
+mod manner;
 mod on_refusal;
 mod refusal_name;
 mod reporting;
 mod running;
+mod session;
 mod setup;
 mod spelling;
 mod stage;
+mod standing;
 mod statement;
 mod step;
+mod too_much;
 mod unstarted;
 mod viewing;
 
 pub use ended::Ended;
 pub use finish::Finish;
 pub use hash_choice::HashChoice;
+pub use heard::Heard;
 pub use how::How;
 pub use laws::{
-    each_line_by_itself, each_script_has_one_output, hash_decides_shapes_alone,
-    live_writes_the_output_first, strict_stops_at_the_first_refused_line, worked_scripts,
+    a_session_writes_the_output_of_its_lines, each_line_by_itself, each_script_has_one_output,
+    hash_decides_shapes_alone, live_writes_the_output_first,
+    strict_stops_at_the_first_refused_line, worked_scripts,
 };
 pub use limits::{
     DEPTH, Limits, MAX_PARTS, MAX_SCRIPT_BYTES, ROWS, SHOTS, SMALL, VIEWERS, WORKERS,
 };
+pub use manner::Manner;
 pub use on_refusal::OnRefusal;
 pub use running::{live, run, run_by, run_in, run_last};
+pub use session::Session;
 pub use setup::Setup;
 pub use viewing::Viewing;

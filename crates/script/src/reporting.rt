@@ -3,15 +3,14 @@ ghost use Rattle.std.specs.Prelude.{◌≡◌, IfOk};
 ghost use Rattle.script.specs.Blocks.{WillReport, WillReportPlan};
 ghost use Rattle.script.specs.Says.{GivesPlan};
 
-use crate::block::{Asked, Block, refuse, report_heading};
+use crate::block::{Asked, Block, refuse, report_opening};
 use crate::fault::Fault;
+use crate::manner::Manner;
 use crate::setup::SpeltSetup;
 use board::Keeper;
 use cells::{Cell, KeyHash, Refused, Schema};
 use crew::Gate;
-use forms::Form;
-use query::{Plan, check, read};
-use report::Question;
+use query::{Plan, a_text_has_one_answer, check, read};
 use std::alloc::{AllocError, Global};
 
 /// The block of a report of the last published edition: what the text asks of that edition, or its first fault.
@@ -21,10 +20,12 @@ pub fn execute_report<H: KeyHash<Cell>, G: Gate, R>(
     text: &str,
     number: u64,
 ) -> Result<Block<H>, AllocError>
-    ensures { IfOk result (WillReport setup.now.form keeper.now number text.now) }
+    ensures { IfOk result (WillReport setup.now.manner.now keeper.now number text.now) }
 {
+    // The law by which a line whose report is answered is not refused; it does nothing.
+    a_text_has_one_answer();
     match read_plan(setup.alloc, text, keeper.schema()) {
-        Ok(plan) => ask(setup.alloc, setup.form, keeper, plan, number),
+        Ok(plan) => ask(setup.alloc, setup.manner, keeper, plan, number),
         Err(fault) => {
             let block = refuse(setup, number, Fault::Line(fault))?;
             Ok(Block::Refusal(block))
@@ -44,20 +45,21 @@ pub fn read_plan(alloc: Global, text: &str, schema: &Schema) -> Result<Plan, Ref
 /// A snapshot of the last published edition, with the plan whose report of it is the block.
 fn ask<H: KeyHash<Cell>>(
     alloc: Global,
-    form: Form,
+    manner: &Manner,
     keeper: &Keeper<H>,
     plan: Plan,
     number: u64,
 ) -> Result<Block<H>, AllocError>
-    ensures { IfOk result (WillReportPlan form keeper.now number plan) }
+    ensures { IfOk result (WillReportPlan manner.now keeper.now number plan) }
 {
     let Ok(snapshot) = keeper.snapshot() else {
         return Err(AllocError);
     };
-    let heading = report_heading(alloc, form, number, snapshot.edition())?;
+    let question = manner.question(plan)?;
+    let opening = report_opening(alloc, manner, number, snapshot.edition())?;
     Ok(Block::Report(Asked {
-        heading,
+        opening,
         snapshot,
-        question: Question { form, plan },
+        question,
     }))
 }

@@ -5,38 +5,38 @@ ghost use Rattle.report.specs.Waiting.{AwaitsThen, WritesOn};
 ghost use Rattle.report.specs.declared.unwritten.Unwritten.TheVariants as unwritten;
 ghost use Rattle.report.specs.declared.want.Want.TheVariants as want;
 ghost use Rattle.script.specs.Blocks.{IsAsked, WillBe};
-ghost use Rattle.script.specs.Endings.{AsksForWorkers, Delivers, Ends};
+ghost use Rattle.script.specs.Endings.{AsksForWorkers, Delivers};
 ghost use Rattle.script.specs.Givens.{givens, givens_in};
 ghost use Rattle.script.specs.Hows.{hash_of_choice};
 ghost use Rattle.script.specs.Limits.{script_limit};
 ghost use Rattle.script.specs.Output.{IsOutput};
 ghost use Rattle.script.specs.Desks.{IsFresh};
 ghost use Rattle.script.specs.Tails.{IsLive};
-ghost use Rattle.script.specs.Stops.{finish_of_refused};
-ghost use Rattle.script.specs.Viewers.{EndsBy, EndsEarly, EndsLines, EndsRun, GoesOverBeside, asked_of, too_much_by, too_much_text};
+ghost use Rattle.script.specs.Viewers.{EndsBy, EndsEarly, EndsLines, EndsRun, GoesOverBeside, asked_of};
 ghost use Rattle.script.specs.declared.stage.Stage.TheVariants as Stage;
 
-use crate::block::{Asked, Block, refuse, viewers_refused_block};
+use crate::block::{Asked, Block};
 use crate::closing::Closing;
 use crate::ended::Ended;
-use crate::fault::Fault;
 use crate::finish::Finish;
 use crate::gallery::Gallery;
 use crate::hash_choice::HashChoice;
 use crate::how::How;
 use crate::limits::{MAX_PARTS, MAX_SCRIPT_BYTES};
 use crate::lines::lines_of;
+use crate::manner::Manner;
 use crate::on_refusal::OnRefusal;
 use crate::setup::{Setup, SpeltSetup};
 use crate::step::{Line, execute};
+use crate::too_much::refuse_whole;
 use crate::viewing::Viewing;
 use board::Keeper;
-use cells::{Cell, Fnv, KeyHash, Plain, Refused, Tuple};
+use cells::{Cell, Fnv, KeyHash, Plain, Tuple};
 use crew::Gate;
 use forms::Form;
-use query::each_text_has_an_answer;
-use report::{Backlog, Out, Starter, Unwritten, write_whole};
-use std::alloc::{AllocError, Global};
+use query::{a_text_has_one_answer, each_text_has_an_answer};
+use report::{Backlog, Out, Starter, Unwritten};
+use std::alloc::Global;
 use std::sync::Wait;
 use std::thread::{self, Threads};
 
@@ -77,17 +77,17 @@ pub fn run<
     ensures worker { IsErrOf result Ended.NoWorker → AsksForWorkers (givens how.now.rows parts.now) (lines script.now) }
     ensures place { IsErrOf result Ended.NotShown → ⊥ }
 {
-    let setup = SpeltSetup {
+    let setup = Setup {
         rt,
         alloc,
         how,
         parts,
         viewing: None,
         on_refusal: OnRefusal::GoesOn,
-        form: Form::Classic,
         gate,
     };
-    run_through::<H, O, G, R>(&setup, script, out)
+    let manner = Manner::of(alloc, Form::Classic);
+    run_through::<H, O, G, R>(&setup, &manner, script, out)
 }
 
 /// Runs a script with viewers beside it. Once a table is declared, `viewers` threads start, of which each takes a snapshot
@@ -129,17 +129,17 @@ pub fn live<
         viewers,
         shots,
     };
-    let setup = SpeltSetup {
+    let setup = Setup {
         rt,
         alloc,
         how,
         parts,
         viewing: Some(viewing),
         on_refusal: OnRefusal::GoesOn,
-        form: Form::Classic,
         gate,
     };
-    run_through::<H, O, G, R>(&setup, script, out)
+    let manner = Manner::of(alloc, Form::Classic);
+    run_through::<H, O, G, R>(&setup, &manner, script, out)
 }
 
 /// [`run`] with the hash of this choice. Only the blocks of shapes depend on it.
@@ -181,21 +181,74 @@ pub fn run_last<O: Out, G: Gate, R: Threads + Wait + Sync>(
     ensures by { EndsBy setup.now.on_refusal (hash_of_choice hash) O.taken O.faults out.old out.new (givens setup.now.how.now.rows setup.now.parts.now) (asked_of setup.now.viewing) script.now result }
     ensures goes_on { setup.now.on_refusal ≡ OnRefusal.GoesOn → EndsRun (hash_of_choice hash) O.taken O.faults out.old out.new (givens setup.now.how.now.rows setup.now.parts.now) (asked_of setup.now.viewing) script.now result }
 {
-    run_in(setup, Form::Classic, hash, script, out)
+    let same = Setup {
+        rt: setup.rt,
+        alloc: setup.alloc,
+        how: setup.how,
+        parts: setup.parts,
+        viewing: setup.viewing,
+        on_refusal: setup.on_refusal,
+        gate: setup.gate,
+    };
+    let manner = Manner::of(setup.alloc, Form::Classic);
+    run_in(&same, &manner, hash, script, out)
 }
 
-/// [`run_last`] in a form. It is the form of all that the run writes: what a report answers, of whose rows the values are
-/// those of [`run`], the headings of blocks, refusals, shapes, and what viewers report.
-pub fn run_in<O: Out, G: Gate, R: Threads + Wait + Sync>(
-    setup: &Setup<'_, R, G>,
-    form: Form,
+/// [`run_last`] that tells its answers in a way of its own. The form is that of all that the run writes: what a report answers,
+/// the headings of blocks, refusals, shapes, and what viewers report. Reports and shapes have headings where these are wanted,
+/// and the rows of each report, of viewers, too, are so arranged; they are those of [`run`].
+pub fn run_in<'a, O: Out, G: Gate, R: Threads + Wait + Sync>(
+    setup: &Setup<'a, R, G>,
+    manner: &'a Manner,
     hash: HashChoice,
     script: &[u8],
     out: &mut O,
 ) -> Result<Finish, Ended>
     requires { O.faults out.old + 1 < 2 ^ 64 }
-    ensures by { EndsBy setup.now.on_refusal (hash_of_choice hash) O.taken O.faults out.old out.new (givens_in form setup.now.how.now.rows setup.now.parts.now) (asked_of setup.now.viewing) script.now result }
-    ensures goes_on { setup.now.on_refusal ≡ OnRefusal.GoesOn → EndsRun (hash_of_choice hash) O.taken O.faults out.old out.new (givens_in form setup.now.how.now.rows setup.now.parts.now) (asked_of setup.now.viewing) script.now result }
+    ensures by { EndsBy setup.now.on_refusal (hash_of_choice hash) O.taken O.faults out.old out.new (givens_in manner.now setup.now.how.now.rows setup.now.parts.now) (asked_of setup.now.viewing) script.now result }
+    ensures goes_on { setup.now.on_refusal ≡ OnRefusal.GoesOn → EndsRun (hash_of_choice hash) O.taken O.faults out.old out.new (givens_in manner.now setup.now.how.now.rows setup.now.parts.now) (asked_of setup.now.viewing) script.now result }
+{
+    let closing = Closing::LeavesToSystem;
+    match hash {
+        HashChoice::Fnv => run_whole::<Fnv, O, G, R>(setup, manner, script, out, closing),
+        HashChoice::Plain => run_whole::<Plain, O, G, R>(setup, manner, script, out, closing),
+    }
+}
+
+/// [`run`] or [`live`], by what viewers are asked.
+fn run_through<
+    'a,
+    H: KeyHash<Cell> + KeyHash<Tuple> + Send + Sync,
+    O: Out,
+    G: Gate,
+    R: Threads + Wait + Sync,
+>(setup: &Setup<'a, R, G>, manner: &'a Manner, script: &[u8], out: &mut O) -> Result<(), Ended>
+    requires faults { O.faults out.old + 1 < 2 ^ 64 }
+    requires goes_on { setup.now.on_refusal ≡ OnRefusal.GoesOn }
+    ensures { EndsRun H.KeyHash-1.hash_of O.taken O.faults out.old out.new (givens_in manner.now setup.now.how.now.rows setup.now.parts.now) (asked_of setup.now.viewing) script.now result }
+{
+    match run_whole::<H, O, G, R>(setup, manner, script, out, Closing::GivesBack) {
+        Ok(_) => Ok(()),
+        Err(why) => Err(why),
+    }
+}
+
+/// [`run_in`], with what becomes of the table at the end.
+fn run_whole<
+    'a,
+    H: KeyHash<Cell> + KeyHash<Tuple> + Send + Sync,
+    O: Out,
+    G: Gate,
+    R: Threads + Wait + Sync,
+>(
+    setup: &Setup<'a, R, G>,
+    manner: &'a Manner,
+    script: &[u8],
+    out: &mut O,
+    closing: Closing,
+) -> Result<Finish, Ended>
+    requires { O.faults out.old + 1 < 2 ^ 64 }
+    ensures { EndsBy setup.now.on_refusal H.KeyHash-1.hash_of O.taken O.faults out.old out.new (givens_in manner.now setup.now.how.now.rows setup.now.parts.now) (asked_of setup.now.viewing) script.now result }
 {
     let spelt = SpeltSetup {
         rt: setup.rt,
@@ -204,52 +257,13 @@ pub fn run_in<O: Out, G: Gate, R: Threads + Wait + Sync>(
         parts: setup.parts,
         viewing: setup.viewing,
         on_refusal: setup.on_refusal,
-        form,
+        manner,
         gate: setup.gate,
     };
-    let closing = Closing::LeavesToSystem;
-    match hash {
-        HashChoice::Fnv => run_whole::<Fnv, O, G, R>(&spelt, script, out, closing),
-        HashChoice::Plain => run_whole::<Plain, O, G, R>(&spelt, script, out, closing),
-    }
-}
-
-/// [`run`] or [`live`], by what viewers are asked.
-fn run_through<
-    H: KeyHash<Cell> + KeyHash<Tuple> + Send + Sync,
-    O: Out,
-    G: Gate,
-    R: Threads + Wait + Sync,
->(setup: &SpeltSetup<'_, R, G>, script: &[u8], out: &mut O) -> Result<(), Ended>
-    requires faults { O.faults out.old + 1 < 2 ^ 64 }
-    requires goes_on { setup.now.on_refusal ≡ OnRefusal.GoesOn }
-    ensures { EndsRun H.KeyHash-1.hash_of O.taken O.faults out.old out.new (givens_in setup.now.form setup.now.how.now.rows setup.now.parts.now) (asked_of setup.now.viewing) script.now result }
-{
-    match run_whole::<H, O, G, R>(setup, script, out, Closing::GivesBack) {
-        Ok(_) => Ok(()),
-        Err(why) => Err(why),
-    }
-}
-
-/// [`run_in`], with what becomes of the table at the end.
-fn run_whole<
-    H: KeyHash<Cell> + KeyHash<Tuple> + Send + Sync,
-    O: Out,
-    G: Gate,
-    R: Threads + Wait + Sync,
->(
-    setup: &SpeltSetup<'_, R, G>,
-    script: &[u8],
-    out: &mut O,
-    closing: Closing,
-) -> Result<Finish, Ended>
-    requires { O.faults out.old + 1 < 2 ^ 64 }
-    ensures { EndsBy setup.now.on_refusal H.KeyHash-1.hash_of O.taken O.faults out.old out.new (givens_in setup.now.form setup.now.how.now.rows setup.now.parts.now) (asked_of setup.now.viewing) script.now result }
-{
     if script.len() > MAX_SCRIPT_BYTES || setup.parts.len() > MAX_PARTS {
-        return refuse_whole(setup, out);
+        return refuse_whole(&spelt, out);
     }
-    run_lines::<H, O, G, R>(setup, script, out, closing)
+    run_lines::<H, O, G, R>(&spelt, script, out, closing)
 }
 
 /// Runs the lines of a script that is not too long. Reports and viewers run beside the lines: however the lines
@@ -267,7 +281,7 @@ fn run_lines<
 ) -> Result<Finish, Ended>
     requires faults { O.faults out.old + 1 < 2 ^ 64 }
     requires short { length script.now ≤ script_limit }
-    ensures { EndsLines setup.now.on_refusal H.KeyHash-1.hash_of O.taken O.faults out.old out.new (givens_in setup.now.form setup.now.how.now.rows setup.now.parts.now) (asked_of setup.now.viewing) (lines script.now) result }
+    ensures { EndsLines setup.now.on_refusal H.KeyHash-1.hash_of O.taken O.faults out.old out.new (givens_in setup.now.manner.now setup.now.how.now.rows setup.now.parts.now) (asked_of setup.now.viewing) (lines script.now) result }
 {
     let (ended, _out) = thread::scope(
         thread::scope_env(),
@@ -275,7 +289,7 @@ fn run_lines<
         move |scope| -> (Result<Finish, Ended>, &mut O)
             requires { (O.faults out.now + 1 < 2 ^ 64) × (length script.now ≤ script_limit) }
             ensures same { result.1.ghost_name ≡ out.entry.ghost_name }
-            ensures ends { EndsLines setup.entry.now.on_refusal H.KeyHash-1.hash_of O.taken O.faults out.entry.now result.1.now (givens_in setup.entry.now.form setup.entry.now.how.now.rows setup.entry.now.parts.now) (asked_of setup.entry.now.viewing) (lines script.entry.now) result.0 }
+            ensures ends { EndsLines setup.entry.now.on_refusal H.KeyHash-1.hash_of O.taken O.faults out.entry.now result.1.now (givens_in setup.entry.now.manner.now setup.entry.now.how.now.rows setup.entry.now.parts.now) (asked_of setup.entry.now.viewing) (lines script.entry.now) result.0 }
         {
             let starter = Starter {
                 scope,
@@ -323,7 +337,7 @@ fn run_beside<
     requires short { length script.now ≤ script_limit }
     requires fresh { IsFresh desk.old × (backlog.old ≡ record { reports = []; after = [] }) }
     requires nobody { (gallery.old.stage ≡ Stage.Expected) × (gallery.old.audience.watches ≡ []) }
-    ensures { EndsLines setup.now.on_refusal H.KeyHash-1.hash_of O.taken O.faults out.old out.new (givens_in setup.now.form setup.now.how.now.rows setup.now.parts.now) (asked_of setup.now.viewing) (lines script.now) result }
+    ensures { EndsLines setup.now.on_refusal H.KeyHash-1.hash_of O.taken O.faults out.old out.new (givens_in setup.now.manner.now setup.now.how.now.rows setup.now.parts.now) (asked_of setup.now.viewing) (lines script.now) result }
 {
     // The law by which what was written is a beginning of an output, where a report ends the run; it does
     // nothing.
@@ -359,11 +373,12 @@ fn go_over<
     requires fresh { IsFresh desk.old × (backlog.old ≡ record { reports = []; after = [] }) }
     requires nobody { (gallery.old.stage ≡ Stage.Expected) × (gallery.old.audience.watches ≡ []) }
     ensures { MatchResult result
-        (GoesOverBeside O.taken O.faults out.old out.new H.KeyHash-1.hash_of (givens_in setup.now.form setup.now.how.now.rows setup.now.parts.now) setup.now.on_refusal (asked_of setup.now.viewing) (lines script.now) desk.new backlog.new gallery.new.stage gallery.new.audience.watches)
-        (EndsEarly setup.now.on_refusal H.KeyHash-1.hash_of O.taken O.faults out.old out.new (givens_in setup.now.form setup.now.how.now.rows setup.now.parts.now) (asked_of setup.now.viewing) (lines script.now)) }
+        (GoesOverBeside O.taken O.faults out.old out.new H.KeyHash-1.hash_of (givens_in setup.now.manner.now setup.now.how.now.rows setup.now.parts.now) setup.now.on_refusal (asked_of setup.now.viewing) (lines script.now) desk.new backlog.new gallery.new.stage gallery.new.audience.watches)
+        (EndsEarly setup.now.on_refusal H.KeyHash-1.hash_of O.taken O.faults out.old out.new (givens_in setup.now.manner.now setup.now.how.now.rows setup.now.parts.now) (asked_of setup.now.viewing) (lines script.now)) }
 {
-    // The law by which what was written is a beginning of an output, where a line ends the run; it does
+    // The laws by which what was written is a beginning of an output, where a line ends the run; they do
     // nothing.
+    a_text_has_one_answer();
     each_text_has_an_answer();
     let mut number = 0u64;
     for bytes in lines_of(script) {
@@ -439,62 +454,11 @@ fn add_block<
         Block::Refusal(text) => backlog.say(out, text.as_slice()),
         Block::Report(asked) => {
             let Asked {
-                heading,
+                opening,
                 snapshot,
                 question,
             } = asked;
-            backlog.begin(starter, out, number, heading.as_slice(), snapshot, question)
+            backlog.begin(starter, out, number, opening.as_slice(), snapshot, question)
         }
     }
-}
-
-/// Refuses a script that is too long, or of too many parts. A run that goes on has the tail of its viewers after the refusal.
-fn refuse_whole<O: Out, R, G: Gate>(
-    setup: &SpeltSetup<'_, R, G>,
-    out: &mut O,
-) -> Result<Finish, Ended>
-    requires { O.faults out.old + 1 < 2 ^ 64 }
-    ensures ends { Ends O.taken O.faults out.old out.new (λ bytes. bytes ≡ too_much_by setup.now.form setup.now.on_refusal (asked_of setup.now.viewing)) ⊥ ⊥ result }
-    ensures finish { IfOk result (λ finish. finish ≡ finish_of_refused setup.now.on_refusal) }
-{
-    let finish = setup.on_refusal.finish_of_refused();
-    match setup.on_refusal {
-        OnRefusal::GoesOn => write_too_much(setup, setup.viewing, finish, out),
-        OnRefusal::Stops => write_too_much(setup, None, finish, out),
-    }
-}
-
-/// Delivers the output of a script that is too long, or of too many parts, and after it the tail where there are viewers.
-#[tactic(auto, using(report::specs::Laws::takes_nothing))]
-fn write_too_much<O: Out, R, G: Gate>(
-    setup: &SpeltSetup<'_, R, G>,
-    viewing: Option<Viewing<&str>>,
-    finish: Finish,
-    out: &mut O,
-) -> Result<Finish, Ended>
-    requires { O.faults out.old + 1 < 2 ^ 64 }
-    ensures ends { Ends O.taken O.faults out.old out.new (λ bytes. bytes ≡ too_much_text setup.now.form (asked_of viewing.entry)) ⊥ ⊥ result }
-    ensures finish { IfOk result (λ told. told ≡ finish) }
-{
-    let text = too_much_block(setup, viewing)?;
-    let Ok(()) = write_whole(out, text.as_slice()) else {
-        return Err(Ended::WriteFailed);
-    };
-    Ok(finish)
-}
-
-/// What is written for a script that is too long, or for too many parts.
-fn too_much_block<R, G: Gate>(
-    setup: &SpeltSetup<'_, R, G>,
-    asked: Option<Viewing<&str>>,
-) -> Result<Vec<u8>, AllocError>
-    ensures { IfOk result (λ text. text.items ≡ too_much_text setup.now.form (asked_of asked.entry)) }
-{
-    let mut text = refuse(setup, 0, Fault::Line(Refused::Limit))?;
-    if let Some(_) = asked {
-        setup.gate.refused_viewers(Refused::NoTable);
-        let block = viewers_refused_block(setup.alloc, setup.form, Refused::NoTable)?;
-        text.extend_from_slice(block.as_slice())?;
-    }
-    Ok(text)
 }

@@ -1,9 +1,9 @@
 //! What a run is made with, beside its script and its writer.
 use crate::how::How;
+use crate::manner::Manner;
 use crate::on_refusal::OnRefusal;
 use crate::viewing::Viewing;
 use crew::Gate;
-use forms::Form;
 use report::Answering;
 use std::alloc::Global;
 
@@ -21,7 +21,7 @@ pub struct Setup<'a, R, G: Gate> {
     pub gate: &'a G,
 }
 
-/// What a run is made with, as of [`Setup`], and the form in which its answers are spelt.
+/// What a run is made with, as of [`Setup`], and the way in which it tells its answers.
 #[derive(Drop)]
 pub struct SpeltSetup<'a, R, G: Gate> {
     pub rt: &'a R,
@@ -30,7 +30,7 @@ pub struct SpeltSetup<'a, R, G: Gate> {
     pub parts: &'a [Vec<u8>],
     pub viewing: Option<Viewing<&'a str>>,
     pub on_refusal: OnRefusal,
-    pub form: Form,
+    pub manner: &'a Manner,
     pub gate: &'a G,
 }
 

@@ -1,8 +1,9 @@
 //! What lines and viewers say, in each form. The table form has the headings and refusals of the classic one.
 ghost use Rattle.std.specs.Prelude.{◌≡◌, ◌++◌, IfOk, OnOk, string_bytes};
-ghost use Rattle.script.specs.Spelling.{heading, refusal, shape_body, view_heading, viewers_refused};
+ghost use Rattle.script.specs.Spelling.{heading, no_heading, opening, refusal, shape_body, view_heading, viewers_refused};
 
 use crate::fault::Fault;
+use crate::manner::Manner;
 use crate::{classic_spelling, csv_spelling, json_spelling};
 use cells::Refused;
 use forms::Form;
@@ -22,7 +23,23 @@ pub fn refusal(alloc: Global, form: Form, number: u64, fault: Fault) -> Result<S
 }
 
 /// How the block of a report or a shape begins.
-pub fn heading(alloc: Global, form: Form, number: u64, edition: u64) -> Result<String, AllocError>
+pub fn opening(
+    alloc: Global,
+    manner: &Manner,
+    number: u64,
+    edition: u64,
+) -> Result<String, AllocError>
+    ensures { IfOk result (λ text. string_bytes text ≡ opening manner.now number edition) }
+{
+    if manner.heads {
+        heading(alloc, manner.form, number, edition)
+    } else {
+        no_heading(alloc, manner.form)
+    }
+}
+
+/// How it begins under a heading.
+fn heading(alloc: Global, form: Form, number: u64, edition: u64) -> Result<String, AllocError>
     ensures { IfOk result (λ text. string_bytes text ≡ heading form number edition) }
 {
     match form {
@@ -33,7 +50,17 @@ pub fn heading(alloc: Global, form: Form, number: u64, edition: u64) -> Result<S
     }
 }
 
-/// The text with what stands behind a shape's heading behind it.
+/// How it begins under none.
+fn no_heading(alloc: Global, form: Form) -> Result<String, AllocError>
+    ensures { IfOk result (λ text. string_bytes text ≡ no_heading form) }
+{
+    match form {
+        Form::Classic | Form::Csv | Form::Table => Ok(String::new(alloc)),
+        Form::Json => String::from_str(alloc, "{"),
+    }
+}
+
+/// The text with what stands behind the opening of a shape's block behind it.
 pub fn push_shape(form: Form, text: &mut String, shape: &[(Prefix, u64)]) -> Result<(), AllocError>
     ensures { OnOk result (string_bytes text.new ≡ string_bytes text.old ++ shape_body form shape.now) }
 {

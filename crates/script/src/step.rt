@@ -44,7 +44,7 @@ pub fn execute<H: KeyHash<Cell> + Send + Sync, G: Gate, R: Threads + Wait>(
 ) -> Result<Block<H>, Want>
     requires publishable { Publishable desk.old }
     requires short { length line.bytes.now ≤ script_limit }
-    ensures step { IfOk result (Steps H.hash_of (givens_in setup.now.form setup.now.how.now.rows setup.now.parts.now) line.entry.bytes.now line.entry.number desk.old desk.new) }
+    ensures step { IfOk result (Steps H.hash_of (givens_in setup.now.manner.now setup.now.how.now.rows setup.now.parts.now) line.entry.bytes.now line.entry.number desk.old desk.new) }
     ensures worker { IsErrOf result want.Worker → HasWorkers (deed (schema_of_desk desk.old) line.entry.bytes.now) }
 {
     if let Some(keeper) = desk {
@@ -61,7 +61,7 @@ fn execute_first<H: KeyHash<Cell>, G: Gate, R>(
     setup: &SpeltSetup<'_, R, G>,
     line: Line<'_>,
 ) -> Result<(Option<Keeper<H>>, Vec<u8>), AllocError>
-    ensures step { IfOk result (λ r. Executes H.hash_of (givens_in setup.now.form setup.now.how.now.rows setup.now.parts.now) line.entry.bytes.now line.entry.number None r.0 r.1.items) }
+    ensures step { IfOk result (λ r. Executes H.hash_of (givens_in setup.now.manner.now setup.now.how.now.rows setup.now.parts.now) line.entry.bytes.now line.entry.number None r.0 r.1.items) }
     ensures writes { IfOk result (λ r. IsQuiet line.entry.number r.1.items) }
 {
     let alloc = setup.alloc;
@@ -87,7 +87,7 @@ fn execute_kept<H: KeyHash<Cell> + Send + Sync, G: Gate, R: Threads + Wait>(
 ) -> Result<Block<H>, Want>
     requires publishable { editions.edition keeper.old + 1 < 2 ^ 64 }
     requires short { length line.bytes.now ≤ script_limit }
-    ensures step { IfOk result (Steps H.hash_of (givens_in setup.now.form setup.now.how.now.rows setup.now.parts.now) line.entry.bytes.now line.entry.number (Some keeper.old) (Some keeper.new)) }
+    ensures step { IfOk result (Steps H.hash_of (givens_in setup.now.manner.now setup.now.how.now.rows setup.now.parts.now) line.entry.bytes.now line.entry.number (Some keeper.old) (Some keeper.new)) }
     ensures worker { IsErrOf result want.Worker → HasWorkers (deed (Some (editions.schema keeper.old)) line.entry.bytes.now) }
 {
     let alloc = setup.alloc;
@@ -106,7 +106,7 @@ fn execute_kept<H: KeyHash<Cell> + Send + Sync, G: Gate, R: Threads + Wait>(
         Ok(Statement::Shape) => {
             // The law by which the block is that of the published rows; it does nothing.
             rows_have_the_shape_of_their_keys::<H>();
-            text_block(shape_block(alloc, setup.form, keeper, line.number))
+            text_block(shape_block(alloc, setup.manner, keeper, line.number))
         }
         Err(fault) => quiet_block(refuse(setup, line.number, fault)),
     }
@@ -144,7 +144,7 @@ fn put<H: KeyHash<Cell>, G: Gate, R>(
     number: u64,
 ) -> Result<Vec<u8>, AllocError>
     requires row { IsRowOf (editions.schema keeper.old) row }
-    ensures step { IfOk result (λ block. PutsRow setup.now.form keeper.old keeper.new row number block.items) }
+    ensures step { IfOk result (λ block. PutsRow setup.now.manner.now.form keeper.old keeper.new row number block.items) }
 {
     match keeper.put(row) {
         Ok(()) => Ok(Vec::new(setup.alloc)),

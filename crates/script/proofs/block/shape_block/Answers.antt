@@ -9,4 +9,4 @@ use Rattle.script.proofs.block.shape_block.Goals as goal
 pub returns : goal.returns
 returns g c =
     IfOk-weaker c.snapshot_block-block.result _ _
-    (λ block e. e ∙ ap₂ (λ (n : ℕ) (rows : Rows). shape_text c.args.form c.args.number n (shape_of g.H.KeyHash.hash_of (keys rows))) c.in-Ok.ensures.edition c.in-Ok.ensures.rows) c.snapshot_block-block.ensures
+    (λ block e. e ∙ ap₂ (λ (n : ℕ) (rows : Rows). shape_text c.args.manner.now c.args.number n (shape_of g.H.KeyHash.hash_of (keys rows))) c.in-Ok.ensures.edition c.in-Ok.ensures.rows) c.snapshot_block-block.ensures

@@ -10,23 +10,23 @@ use Rattle.script.proofs.gallery.write_viewer.Goals as goal
 pub returns-in_err-shots-clause-views : goal.returns-in_err-shots-clause-views
 returns-in_err-shots-clause-views g c = λ given before keeps.
     let p = err_from_is_err_and c.from_residual.result c.from_residual.ensures.1 in
-    let some = some_blocks_of c.args.form given before c.args.keeper.now (viewing_of c.args.viewing) c.args.watcher.question.plan keeps c.requires.plan c.args.number in
+    let some = some_blocks_of c.args.manner.now given before c.args.keeper.now (viewing_of c.args.viewing) c.args.watcher.question.plan keeps c.requires.asked.plan c.args.number in
     delivers_for g.O.Out.taken g.O.Out.faults c.args.out.now c.args.out.now _ _ c.from_residual.result p.1 (nothing_yet _ (g.O.Out.taken c.args.out.now) some.0 some.1) _ p.2
 
 pub returns-in_err-text-clause-views : goal.returns-in_err-text-clause-views
 returns-in_err-text-clause-views g c = λ given before keeps.
     let p = err_from_is_err_and c.from_residual-in_err-text.result c.from_residual-in_err-text.ensures.1 in
-    let some = some_blocks_of c.args.form given before c.args.keeper.now (viewing_of c.args.viewing) c.args.watcher.question.plan keeps c.requires.plan c.args.number in
+    let some = some_blocks_of c.args.manner.now given before c.args.keeper.now (viewing_of c.args.viewing) c.args.watcher.question.plan keeps c.requires.asked.plan c.args.number in
     delivers_for g.O.Out.taken g.O.Out.faults c.args.out.now c.args.out.now _ _ c.from_residual-in_err-text.result p.1 (nothing_yet _ (g.O.Out.taken c.args.out.now) some.0 some.1) Memory p.2
 
 pub returns-in_default-clause-views : goal.returns-in_default-clause-views
 returns-in_default-clause-views g c = λ given before keeps.
-    let is = blocks_of c.args.form given before c.args.keeper.now c.args.viewing.query.now c.args.watcher.question c.args.number c.args.viewing.shots (length c.args.watcher.shots) c.in_ok-shots.shots.items c.in_ok-text.text.items
-    c.requires.form c.requires.plan keeps c.requires.shots c.in_ok-shots.ensures.shots (search rules) in
+    let is = blocks_of c.args.manner.now given before c.args.keeper.now c.args.viewing.query.now c.args.watcher.question c.args.number c.args.viewing.shots (length c.args.watcher.shots) c.in_ok-shots.shots.items c.in_ok-text.text.items
+    c.requires.asked keeps c.requires.shots c.in_ok-shots.ensures.shots (search rules) in
     delivers_failed g.O.Out.taken g.O.Out.faults c.args.out.now c.write_whole.new.out _ c.in_ok-text.text.items is _ (search rules) (search rules) refl
 
 pub returns-clause-views : goal.returns-clause-views
 returns-clause-views g c = λ given before keeps.
-    let is = blocks_of c.args.form given before c.args.keeper.now c.args.viewing.query.now c.args.watcher.question c.args.number c.args.viewing.shots (length c.args.watcher.shots) c.in_ok-shots.shots.items c.in_ok-text.text.items
-    c.requires.form c.requires.plan keeps c.requires.shots c.in_ok-shots.ensures.shots (search rules) in
+    let is = blocks_of c.args.manner.now given before c.args.keeper.now c.args.viewing.query.now c.args.watcher.question c.args.number c.args.viewing.shots (length c.args.watcher.shots) c.in_ok-shots.shots.items c.in_ok-text.text.items
+    c.requires.asked keeps c.requires.shots c.in_ok-shots.ensures.shots (search rules) in
     delivers_all g.O.Out.taken g.O.Out.faults c.args.out.now c.write_whole.new.out _ c.in_ok-text.text.items is _ (search rules) (search rules)

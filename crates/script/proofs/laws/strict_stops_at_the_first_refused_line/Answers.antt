@@ -6,4 +6,6 @@ pub returns-clause-through : goal.returns-clause-through
 returns-clause-through c = λ hash givens lines bytes are. through_blocks are refl
 
 pub returns-clause-stopped : goal.returns-clause-stopped
-returns-clause-stopped c = λ hash givens lines bytes are. stopped_at are refl
+returns-clause-stopped c =
+    let laws = c.a_text_has_one_answer.ensures in
+    λ hash givens lines bytes are. stopped_at (record { one_query = laws.one_query; one_fault = laws.one_fault; no_both = laws.no_both }) are refl

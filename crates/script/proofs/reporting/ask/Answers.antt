@@ -1,18 +1,23 @@
 use Rattle.std.proofs.Common.{◌≡◌, ◌∙◌, ◌++◌, ap, refl, sym}
 use Rattle.board.specs.Editions as editions
+use Rattle.groups.specs.Groups.{report_rows}
+use Rattle.report.specs.Reports.{text_of}
+use Rattle.report.specs.declared.question.Question.{Question}
 use Rattle.script.specs.Says.{answer_of, spelt}
-use Rattle.script.specs.Spelling.{heading}
+use Rattle.script.specs.Spelling.{opening}
 use Rattle.script.proofs.reporting.ask.Goals as goal
 
 pub returns : goal.returns
 returns g c = record {
   is = λ rs left same.
-      let named : c.in_ok-heading.heading.items ≡ heading c.args.form c.args.number (editions.edition c.args.keeper.now) =
-      c.in_ok-heading.ensures ∙ ap (heading c.args.form c.args.number) (c.edition.ensures ∙ c.in-Ok.ensures.edition) in
+      let named : c.in_ok-opening.opening.items ≡ opening c.args.manner.now c.args.number (editions.edition c.args.keeper.now) =
+      c.in_ok-opening.ensures ∙ ap (opening c.args.manner.now c.args.number) (c.edition.ensures ∙ c.in-Ok.ensures.edition) in
       record {
-        answer = spelt c.args.form (answer_of c.args.plan rs);
-        has = λ answer answers. answers.is rs left (c.in-Ok.ensures.rows ∙ same);
-        joined = ap (λ text. text ++ spelt c.args.form (answer_of c.args.plan rs)) (sym named);
+        answer = spelt c.args.manner.now (answer_of c.args.plan rs);
+        has = λ answer answers.
+            let asked = c.in_ok-question.ensures in
+            answers.is rs left (c.in-Ok.ensures.rows ∙ same) ∙ ap (λ (q : Question). text_of q (report_rows q.plan rs)) asked;
+        joined = ap (λ text. text ++ spelt c.args.manner.now (answer_of c.args.plan rs)) (sym named);
       };
   accepted = refl;
 }

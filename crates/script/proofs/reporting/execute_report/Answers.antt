@@ -4,7 +4,8 @@ use Rattle.script.proofs.reporting.execute_report.Goals as goal
 
 pub returns-in-Ok : goal.returns-in-Ok
 returns-in-Ok g c =
-    IfOk-weaker c.ask.result _ _ (λ block. answers_plan c.args.keeper.now c.args.number c.args.text.now c.in-Ok.plan block (rw c.schema.ensures at c.in-Ok.ensures)) c.ask.ensures
+    let laws = c.a_text_has_one_answer.ensures in
+    IfOk-weaker c.ask.result _ _ (λ block. answers_plan (record { one_query = laws.one_query; one_fault = laws.one_fault; no_both = laws.no_both }) c.args.keeper.now c.args.number c.args.text.now c.in-Ok.plan block (rw c.schema.ensures at c.in-Ok.ensures)) c.ask.ensures
 
 pub returns-in_ok-block-in-Err : goal.returns-in_ok-block-in-Err
 returns-in_ok-block-in-Err g c =

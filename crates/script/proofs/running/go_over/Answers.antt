@@ -22,23 +22,23 @@ loop-bytes-init g c =
 
 pub execute-requires-clause-publishable : goal.execute-requires-clause-publishable
 execute-requires-clause-publishable g c =
-    λ κs outlives. publishable (givens_in c.args.setup.now.form c.args.setup.now.how.now.rows c.args.setup.now.parts.now) (last_first c.loop-bytes.yielded) c.loop-bytes.desk c.loop-bytes.invariant.reached.stands (omega (arith, c.loop-bytes.invariant.reached.short))
+    λ κs outlives. publishable (givens_in c.args.setup.now.manner.now c.args.setup.now.how.now.rows c.args.setup.now.parts.now) (last_first c.loop-bytes.yielded) c.loop-bytes.desk c.loop-bytes.invariant.reached.stands (omega (arith, c.loop-bytes.invariant.reached.short))
 
 pub execute-requires-clause-short : goal.execute-requires-clause-short
 execute-requires-clause-short g c = λ κs outlives.
-    (narrow_left _ _ g.H.KeyHash-1.hash_of (givens_in c.args.setup.now.form c.args.setup.now.how.now.rows c.args.setup.now.parts.now) c.args.setup.now.on_refusal (last_first c.loop-bytes.yielded) c.loop-bytes.bytes-iterator (lines c.args.script.now) c.loop-bytes.desk c.loop-bytes.backlog c.loop-bytes.number
+    (narrow_left _ _ g.H.KeyHash-1.hash_of (givens_in c.args.setup.now.manner.now c.args.setup.now.how.now.rows c.args.setup.now.parts.now) c.args.setup.now.on_refusal (last_first c.loop-bytes.yielded) c.loop-bytes.bytes-iterator (lines c.args.script.now) c.loop-bytes.desk c.loop-bytes.backlog c.loop-bytes.number
     c.loop-bytes.invariant.reached c.in-Some.bytes.now c.next.new.self c.in-Some.ensures.steps).0
 
 pub returns-in_err-block : goal.returns-in_err-block
 returns-in_err-block g c =
     let p = err_from_is_err_and c.from_residual.result c.from_residual.ensures.1 in
     match_err _ _ c.from_residual.result p.0 p.1 (ends_for g.O.Out.taken g.O.Out.faults _ _ _ p.0 (Err p.0) refl
-    (begins_tailed c.each_text_has_an_answer.ensures g.H.KeyHash-1.hash_of (givens_in c.args.setup.now.form c.args.setup.now.how.now.rows c.args.setup.now.parts.now) c.args.setup.now.on_refusal (asked_of c.args.setup.now.viewing) (lines c.args.script.now) _ _
-    (reached_so_far _ _ g.H.KeyHash-1.hash_of (givens_in c.args.setup.now.form c.args.setup.now.how.now.rows c.args.setup.now.parts.now) c.args.setup.now.on_refusal (last_first c.loop-bytes.yielded) c.loop-bytes.bytes-iterator (lines c.args.script.now) c.loop-bytes.desk c.loop-bytes.backlog c.loop-bytes.number
-    c.loop-bytes.invariant.reached c.each_text_has_an_answer.ensures))
+    (begins_tailed c.each_text_has_an_answer.ensures g.H.KeyHash-1.hash_of (givens_in c.args.setup.now.manner.now c.args.setup.now.how.now.rows c.args.setup.now.parts.now) c.args.setup.now.on_refusal (asked_of c.args.setup.now.viewing) (lines c.args.script.now) _ _
+    (reached_so_far _ _ g.H.KeyHash-1.hash_of (givens_in c.args.setup.now.manner.now c.args.setup.now.how.now.rows c.args.setup.now.parts.now) c.args.setup.now.on_refusal (last_first c.loop-bytes.yielded) c.loop-bytes.bytes-iterator (lines c.args.script.now) c.loop-bytes.desk c.loop-bytes.backlog c.loop-bytes.number
+    c.loop-bytes.invariant.reached c.each_text_has_an_answer.ensures (record { one_query = c.a_text_has_one_answer.ensures.one_query; one_fault = c.a_text_has_one_answer.ensures.one_fault; no_both = c.a_text_has_one_answer.ensures.no_both })))
     _ _ _ p.2
-    (λ late. may_want (givens_in c.args.setup.now.form c.args.setup.now.how.now.rows c.args.setup.now.parts.now) (asked_of c.args.setup.now.viewing) (lines c.args.script.now)
-    (asks _ _ g.H.KeyHash-1.hash_of (givens_in c.args.setup.now.form c.args.setup.now.how.now.rows c.args.setup.now.parts.now) c.args.setup.now.on_refusal (last_first c.loop-bytes.yielded) c.loop-bytes.bytes-iterator (lines c.args.script.now) c.loop-bytes.desk c.loop-bytes.backlog c.loop-bytes.number
+    (λ late. may_want (givens_in c.args.setup.now.manner.now c.args.setup.now.how.now.rows c.args.setup.now.parts.now) (asked_of c.args.setup.now.viewing) (lines c.args.script.now)
+    (asks _ _ g.H.KeyHash-1.hash_of (givens_in c.args.setup.now.manner.now c.args.setup.now.how.now.rows c.args.setup.now.parts.now) c.args.setup.now.on_refusal (last_first c.loop-bytes.yielded) c.loop-bytes.bytes-iterator (lines c.args.script.now) c.loop-bytes.desk c.loop-bytes.backlog c.loop-bytes.number
     c.loop-bytes.invariant.reached c.in-Some.bytes.now c.next.new.self c.in-Some.ensures.steps (c.in_err-block.ensures.worker (ap Err late)))))
 
 pub attend-requires-clause-attend : goal.attend-requires-clause-attend
@@ -49,18 +49,18 @@ pub returns-in_err-attend : goal.returns-in_err-attend
 returns-in_err-attend g c =
     let p = err_from_is_err_and c.from_residual-in_err-attend.result c.from_residual-in_err-attend.ensures.1 in
     match_err _ _ c.from_residual-in_err-attend.result p.0 p.1 (ends_unstarted g.O.Out.taken g.O.Out.faults _ _ _ p.0 (Err p.0) refl
-    (begins_tailed c.each_text_has_an_answer.ensures g.H.KeyHash-1.hash_of (givens_in c.args.setup.now.form c.args.setup.now.how.now.rows c.args.setup.now.parts.now) c.args.setup.now.on_refusal (asked_of c.args.setup.now.viewing) (lines c.args.script.now) _ _
-    (reached_so_far _ _ g.H.KeyHash-1.hash_of (givens_in c.args.setup.now.form c.args.setup.now.how.now.rows c.args.setup.now.parts.now) c.args.setup.now.on_refusal (last_first c.loop-bytes.yielded) c.loop-bytes.bytes-iterator (lines c.args.script.now) c.loop-bytes.desk c.loop-bytes.backlog c.loop-bytes.number
-    c.loop-bytes.invariant.reached c.each_text_has_an_answer.ensures))
-    _ _ _ p.2 (has_want (givens_in c.args.setup.now.form c.args.setup.now.how.now.rows c.args.setup.now.parts.now) (asked_of c.args.setup.now.viewing) (lines c.args.script.now) c.in_err-attend.ensures.asked) c.in_err-attend.ensures.asked)
+    (begins_tailed c.each_text_has_an_answer.ensures g.H.KeyHash-1.hash_of (givens_in c.args.setup.now.manner.now c.args.setup.now.how.now.rows c.args.setup.now.parts.now) c.args.setup.now.on_refusal (asked_of c.args.setup.now.viewing) (lines c.args.script.now) _ _
+    (reached_so_far _ _ g.H.KeyHash-1.hash_of (givens_in c.args.setup.now.manner.now c.args.setup.now.how.now.rows c.args.setup.now.parts.now) c.args.setup.now.on_refusal (last_first c.loop-bytes.yielded) c.loop-bytes.bytes-iterator (lines c.args.script.now) c.loop-bytes.desk c.loop-bytes.backlog c.loop-bytes.number
+    c.loop-bytes.invariant.reached c.each_text_has_an_answer.ensures (record { one_query = c.a_text_has_one_answer.ensures.one_query; one_fault = c.a_text_has_one_answer.ensures.one_fault; no_both = c.a_text_has_one_answer.ensures.no_both })))
+    _ _ _ p.2 (has_want (givens_in c.args.setup.now.manner.now c.args.setup.now.how.now.rows c.args.setup.now.parts.now) (asked_of c.args.setup.now.viewing) (lines c.args.script.now) c.in_err-attend.ensures.asked) c.in_err-attend.ensures.asked)
 
 pub loop-bytes-preserved : goal.loop-bytes-preserved
 loop-bytes-preserved g c =
-    let next = told _ _ g.H.KeyHash-1.hash_of (givens_in c.args.setup.now.form c.args.setup.now.how.now.rows c.args.setup.now.parts.now) c.args.setup.now.on_refusal (last_first c.loop-bytes.yielded) c.loop-bytes.bytes-iterator (lines c.args.script.now) c.loop-bytes.desk c.loop-bytes.backlog c.loop-bytes.number
+    let next = told _ _ g.H.KeyHash-1.hash_of (givens_in c.args.setup.now.manner.now c.args.setup.now.how.now.rows c.args.setup.now.parts.now) c.args.setup.now.on_refusal (last_first c.loop-bytes.yielded) c.loop-bytes.bytes-iterator (lines c.args.script.now) c.loop-bytes.desk c.loop-bytes.backlog c.loop-bytes.number
     c.loop-bytes.invariant.reached c.in-Some.bytes.now c.next.new.self c.execute.new.desk c.in_ok-block.block c.in-Some.ensures.steps c.in_ok-block.ensures.step in
     record {
       reached = rw (last_first-more, c.in_ok-attend.ensures.same)
-          (reached_more _ _ g.H.KeyHash-1.hash_of (givens_in c.args.setup.now.form c.args.setup.now.how.now.rows c.args.setup.now.parts.now) c.args.setup.now.on_refusal (last_first c.loop-bytes.yielded) c.loop-bytes.bytes-iterator (lines c.args.script.now) c.loop-bytes.desk c.loop-bytes.backlog c.loop-bytes.number
+          (reached_more _ _ g.H.KeyHash-1.hash_of (givens_in c.args.setup.now.manner.now c.args.setup.now.how.now.rows c.args.setup.now.parts.now) c.args.setup.now.on_refusal (last_first c.loop-bytes.yielded) c.loop-bytes.bytes-iterator (lines c.args.script.now) c.loop-bytes.desk c.loop-bytes.backlog c.loop-bytes.number
           c.loop-bytes.invariant.reached c.in-Some.bytes.now c.next.new.self c.execute.new.desk c.in_ok-block.block c.in-Some.ensures.steps c.in_ok-block.ensures.step _ c.add.new.backlog _
           (c.in_ok-add.ensures.goes_on.written _ (record { waiting = c.loop-bytes.invariant.reached.waiting; more = next.text; awaits = c.loop-bytes.invariant.reached.awaits; is_more = next.will; joined = refl })) c.in_ok-add.ensures.asked (ap (stops c.args.setup.now.on_refusal) (sym c.is_refused.ensures) ∙ sym c.stops-stops.ensures ∙ c.if-stops.false));
       attended = c.in_ok-attend.ensures.attended;
@@ -70,25 +70,25 @@ loop-bytes-preserved g c =
 pub returns-in_err-add : goal.returns-in_err-add
 returns-in_err-add g c =
     let p = err_from_is_err_and c.from_residual-in_err-add.result c.from_residual-in_err-add.ensures.1 in
-    let next = told _ _ g.H.KeyHash-1.hash_of (givens_in c.args.setup.now.form c.args.setup.now.how.now.rows c.args.setup.now.parts.now) c.args.setup.now.on_refusal (last_first c.loop-bytes.yielded) c.loop-bytes.bytes-iterator (lines c.args.script.now) c.loop-bytes.desk c.loop-bytes.backlog c.loop-bytes.number
+    let next = told _ _ g.H.KeyHash-1.hash_of (givens_in c.args.setup.now.manner.now c.args.setup.now.how.now.rows c.args.setup.now.parts.now) c.args.setup.now.on_refusal (last_first c.loop-bytes.yielded) c.loop-bytes.bytes-iterator (lines c.args.script.now) c.loop-bytes.desk c.loop-bytes.backlog c.loop-bytes.number
     c.loop-bytes.invariant.reached c.in-Some.bytes.now c.next.new.self c.execute.new.desk c.in_ok-block.block c.in-Some.ensures.steps c.in_ok-block.ensures.step in
     match_err _ _ c.from_residual-in_err-add.result p.0 p.1 (ends_unwritten g.O.Out.taken g.O.Out.faults _ _ _ p.0 (Err p.0) refl
-    (begins_tailed c.each_text_has_an_answer.ensures g.H.KeyHash-1.hash_of (givens_in c.args.setup.now.form c.args.setup.now.how.now.rows c.args.setup.now.parts.now) c.args.setup.now.on_refusal (asked_of c.args.setup.now.viewing) (lines c.args.script.now) _ _
-    (reached_beginning _ _ g.H.KeyHash-1.hash_of (givens_in c.args.setup.now.form c.args.setup.now.how.now.rows c.args.setup.now.parts.now) c.args.setup.now.on_refusal (last_first c.loop-bytes.yielded) c.loop-bytes.bytes-iterator (lines c.args.script.now) c.loop-bytes.desk c.loop-bytes.backlog c.loop-bytes.number
-    c.loop-bytes.invariant.reached c.in-Some.bytes.now c.next.new.self c.execute.new.desk c.in_ok-block.block c.in-Some.ensures.steps c.in_ok-block.ensures.step c.each_text_has_an_answer.ensures _
+    (begins_tailed c.each_text_has_an_answer.ensures g.H.KeyHash-1.hash_of (givens_in c.args.setup.now.manner.now c.args.setup.now.how.now.rows c.args.setup.now.parts.now) c.args.setup.now.on_refusal (asked_of c.args.setup.now.viewing) (lines c.args.script.now) _ _
+    (reached_beginning _ _ g.H.KeyHash-1.hash_of (givens_in c.args.setup.now.manner.now c.args.setup.now.how.now.rows c.args.setup.now.parts.now) c.args.setup.now.on_refusal (last_first c.loop-bytes.yielded) c.loop-bytes.bytes-iterator (lines c.args.script.now) c.loop-bytes.desk c.loop-bytes.backlog c.loop-bytes.number
+    c.loop-bytes.invariant.reached c.in-Some.bytes.now c.next.new.self c.execute.new.desk c.in_ok-block.block c.in-Some.ensures.steps c.in_ok-block.ensures.step c.each_text_has_an_answer.ensures (record { one_query = c.a_text_has_one_answer.ensures.one_query; one_fault = c.a_text_has_one_answer.ensures.one_fault; no_both = c.a_text_has_one_answer.ensures.no_both }) _
     (c.in_err-add.ensures.goes_on.written _ (record { waiting = c.loop-bytes.invariant.reached.waiting; more = next.text; awaits = c.loop-bytes.invariant.reached.awaits; is_more = next.will; joined = refl })).beginning))
     _ _ _ p.2 (λ writer. let failed = c.in_err-add.ensures.goes_on.fault (ap Err writer) in omega (arith, failed, c.loop-bytes.invariant.sound))
-    (λ late. may_want (givens_in c.args.setup.now.form c.args.setup.now.how.now.rows c.args.setup.now.parts.now) (asked_of c.args.setup.now.viewing) (lines c.args.script.now)
-    (asked_for_workers _ _ g.H.KeyHash-1.hash_of (givens_in c.args.setup.now.form c.args.setup.now.how.now.rows c.args.setup.now.parts.now) c.args.setup.now.on_refusal (last_first c.loop-bytes.yielded) c.loop-bytes.bytes-iterator (lines c.args.script.now) c.loop-bytes.desk c.loop-bytes.backlog c.loop-bytes.number
+    (λ late. may_want (givens_in c.args.setup.now.manner.now c.args.setup.now.how.now.rows c.args.setup.now.parts.now) (asked_of c.args.setup.now.viewing) (lines c.args.script.now)
+    (asked_for_workers _ _ g.H.KeyHash-1.hash_of (givens_in c.args.setup.now.manner.now c.args.setup.now.how.now.rows c.args.setup.now.parts.now) c.args.setup.now.on_refusal (last_first c.loop-bytes.yielded) c.loop-bytes.bytes-iterator (lines c.args.script.now) c.loop-bytes.desk c.loop-bytes.backlog c.loop-bytes.number
     c.loop-bytes.invariant.reached c.in-Some.bytes.now c.next.new.self c.execute.new.desk c.in_ok-block.block c.in-Some.ensures.steps c.in_ok-block.ensures.step (c.in_err-add.ensures.worker (ap Err late)))))
 
 pub returns-then-stops : goal.returns-then-stops
 returns-then-stops g c =
-    let next = told _ _ g.H.KeyHash-1.hash_of (givens_in c.args.setup.now.form c.args.setup.now.how.now.rows c.args.setup.now.parts.now) c.args.setup.now.on_refusal (last_first c.loop-bytes.yielded) c.loop-bytes.bytes-iterator (lines c.args.script.now) c.loop-bytes.desk c.loop-bytes.backlog c.loop-bytes.number
+    let next = told _ _ g.H.KeyHash-1.hash_of (givens_in c.args.setup.now.manner.now c.args.setup.now.how.now.rows c.args.setup.now.parts.now) c.args.setup.now.on_refusal (last_first c.loop-bytes.yielded) c.loop-bytes.bytes-iterator (lines c.args.script.now) c.loop-bytes.desk c.loop-bytes.backlog c.loop-bytes.number
     c.loop-bytes.invariant.reached c.in-Some.bytes.now c.next.new.self c.execute.new.desk c.in_ok-block.block c.in-Some.ensures.steps c.in_ok-block.ensures.step in
     record {
       over = rw c.in_ok-attend.ensures.same
-          (stopped _ _ g.H.KeyHash-1.hash_of (givens_in c.args.setup.now.form c.args.setup.now.how.now.rows c.args.setup.now.parts.now) c.args.setup.now.on_refusal (last_first c.loop-bytes.yielded) c.loop-bytes.bytes-iterator (lines c.args.script.now) c.loop-bytes.desk c.loop-bytes.backlog c.loop-bytes.number
+          (stopped _ _ g.H.KeyHash-1.hash_of (givens_in c.args.setup.now.manner.now c.args.setup.now.how.now.rows c.args.setup.now.parts.now) c.args.setup.now.on_refusal (last_first c.loop-bytes.yielded) c.loop-bytes.bytes-iterator (lines c.args.script.now) c.loop-bytes.desk c.loop-bytes.backlog c.loop-bytes.number
           c.loop-bytes.invariant.reached c.in-Some.bytes.now c.next.new.self c.execute.new.desk c.in_ok-block.block c.in-Some.ensures.steps c.in_ok-block.ensures.step _ c.add.new.backlog _
           (c.in_ok-add.ensures.goes_on.written _ (record { waiting = c.loop-bytes.invariant.reached.waiting; more = next.text; awaits = c.loop-bytes.invariant.reached.awaits; is_more = next.will; joined = refl })) c.in_ok-add.ensures.asked (ap (stops c.args.setup.now.on_refusal) (sym c.is_refused.ensures) ∙ sym c.stops-stops.ensures ∙ c.if-stops.true));
       attended = c.in_ok-attend.ensures.attended;
@@ -97,7 +97,7 @@ returns-then-stops g c =
 
 pub returns : goal.returns
 returns g c = record {
-  over = gone_through _ _ g.H.KeyHash-1.hash_of (givens_in c.args.setup.now.form c.args.setup.now.how.now.rows c.args.setup.now.parts.now) c.args.setup.now.on_refusal (last_first c.loop-bytes.yielded) c.loop-bytes.bytes-iterator (lines c.args.script.now) c.loop-bytes.desk c.loop-bytes.backlog c.loop-bytes.number
+  over = gone_through _ _ g.H.KeyHash-1.hash_of (givens_in c.args.setup.now.manner.now c.args.setup.now.how.now.rows c.args.setup.now.parts.now) c.args.setup.now.on_refusal (last_first c.loop-bytes.yielded) c.loop-bytes.bytes-iterator (lines c.args.script.now) c.loop-bytes.desk c.loop-bytes.backlog c.loop-bytes.number
       c.loop-bytes.invariant.reached c.in-None.ensures.steps.0;
   attended = c.loop-bytes.invariant.attended;
   sound = c.loop-bytes.invariant.sound;

@@ -7,7 +7,7 @@ use Rattle.script.proofs.running.go_over.Given as goal
 
 abbrev pub invariant-loop-bytes : goal.invariant-loop-bytes
 invariant-loop-bytes g l = record {
-  reached : Reached (g.O.Out.taken l.fn.out) (g.O.Out.taken l.out) g.H.KeyHash-1.hash_of (givens_in l.setup.form l.setup.how.now.rows l.setup.parts.now) l.setup.on_refusal (last_first l.yielded) l.bytes-iterator (lines l.script) l.desk l.backlog l.number;
-  attended : HasAttended l.setup.form (asked_of l.setup.viewing) l.desk l.gallery.stage l.gallery.audience.watches;
+  reached : Reached (g.O.Out.taken l.fn.out) (g.O.Out.taken l.out) g.H.KeyHash-1.hash_of (givens_in l.setup.manner.now l.setup.how.now.rows l.setup.parts.now) l.setup.on_refusal (last_first l.yielded) l.bytes-iterator (lines l.script) l.desk l.backlog l.number;
+  attended : HasAttended l.setup.manner.now (asked_of l.setup.viewing) l.desk l.gallery.stage l.gallery.audience.watches;
   sound : g.O.Out.faults l.out ≡ g.O.Out.faults l.fn.out;
 }

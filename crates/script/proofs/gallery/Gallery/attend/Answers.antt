@@ -17,11 +17,11 @@ returns-in_default-desk-clause-attended g c =
 
 pub begin-requires-clause-nobody : goal.begin-requires-clause-nobody
 begin-requires-clause-nobody g c κs within =
-    expected_nobody c.args.setup.now.form (asked_of c.args.setup.now.viewing) (viewing_of c.in-Some.viewing) c.args.desk.now c.args.self.now.stage c.args.self.now.audience.watches (ap asked_of c.in-Some.is) c.in-Expected.is c.requires.attend
+    expected_nobody c.args.setup.now.manner.now (asked_of c.args.setup.now.viewing) (viewing_of c.in-Some.viewing) c.args.desk.now c.args.self.now.stage c.args.self.now.audience.watches (ap asked_of c.in-Some.is) c.in-Expected.is c.requires.attend
 
 pub returns-clause-attended : goal.returns-clause-attended
 returns-clause-attended g c =
-    attended_begun c.args.setup.now.form (asked_of c.args.setup.now.viewing) (viewing_of c.in-Some.viewing) _ c.in-Some-desk.keeper c.begin.new.self.stage c.begin.new.self.audience.watches c.begin.result (ap asked_of c.in-Some.is) (search rules)
+    attended_begun c.args.setup.now.manner.now (asked_of c.args.setup.now.viewing) (viewing_of c.in-Some.viewing) _ c.in-Some-desk.keeper c.begin.new.self.stage c.begin.new.self.audience.watches c.begin.result (ap asked_of c.in-Some.is) (search rules)
     c.begin.ensures.attend c.begin.ensures.stage
 
 pub returns-clause-asked : goal.returns-clause-asked

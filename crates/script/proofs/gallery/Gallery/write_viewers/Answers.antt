@@ -34,29 +34,24 @@ returns-in_err-watcher g c = record {
 pub overflow_add-number : goal.overflow_add-number
 overflow_add-number g c =
     let inv = c.loop-watched.invariant in
-    let fewer = (left_back c.args.setup.now.form (viewing_of c.args.viewing) c.args.keeper.now c.loop-watched.self.audience.watches c.next.new.self.watches c.in-Some.watched c.in-Some.ensures.some inv.started).1 in
+    let fewer = (left_back c.args.setup.now.manner.now (viewing_of c.args.viewing) c.args.keeper.now c.loop-watched.self.audience.watches c.next.new.self.watches c.in-Some.watched c.in-Some.ensures.some inv.started).1 in
     let less : c.loop-watched.number + 1 ≤ c.args.viewing.viewers = omega (arith, inv.counted, fewer, c.requires.many) in
     search (rules, less)
 
 pub write_viewer-requires-clause-own : goal.write_viewer-requires-clause-own
 write_viewer-requires-clause-own g c κs within =
     let inv = c.loop-watched.invariant in
-    rw inv.same (ok_so c.in-Some.watched _ _ (came_back c.args.setup.now.form (viewing_of c.args.viewing) c.args.keeper.now c.loop-watched.self.audience.watches c.next.new.self.watches c.in-Some.watched c.in-Some.ensures.some inv.started) (c.branch-watcher.ensures ∙ ap result_from_control_flow c.in_ok-watcher.is)).own
+    rw inv.same (ok_so c.in-Some.watched _ _ (came_back c.args.setup.now.manner.now (viewing_of c.args.viewing) c.args.keeper.now c.loop-watched.self.audience.watches c.next.new.self.watches c.in-Some.watched c.in-Some.ensures.some inv.started) (c.branch-watcher.ensures ∙ ap result_from_control_flow c.in_ok-watcher.is)).own
 
-pub write_viewer-requires-clause-plan : goal.write_viewer-requires-clause-plan
-write_viewer-requires-clause-plan g c κs within =
+pub write_viewer-requires-clause-asked : goal.write_viewer-requires-clause-asked
+write_viewer-requires-clause-asked g c κs within =
     let inv = c.loop-watched.invariant in
-    rw inv.same (ok_so c.in-Some.watched _ _ (came_back c.args.setup.now.form (viewing_of c.args.viewing) c.args.keeper.now c.loop-watched.self.audience.watches c.next.new.self.watches c.in-Some.watched c.in-Some.ensures.some inv.started) (c.branch-watcher.ensures ∙ ap result_from_control_flow c.in_ok-watcher.is)).plan
-
-pub write_viewer-requires-clause-form : goal.write_viewer-requires-clause-form
-write_viewer-requires-clause-form g c κs within =
-    let inv = c.loop-watched.invariant in
-    (ok_so c.in-Some.watched _ _ (came_back c.args.setup.now.form (viewing_of c.args.viewing) c.args.keeper.now c.loop-watched.self.audience.watches c.next.new.self.watches c.in-Some.watched c.in-Some.ensures.some inv.started) (c.branch-watcher.ensures ∙ ap result_from_control_flow c.in_ok-watcher.is)).form_is
+    rw inv.same (ok_so c.in-Some.watched _ _ (came_back c.args.setup.now.manner.now (viewing_of c.args.viewing) c.args.keeper.now c.loop-watched.self.audience.watches c.next.new.self.watches c.in-Some.watched c.in-Some.ensures.some inv.started) (c.branch-watcher.ensures ∙ ap result_from_control_flow c.in_ok-watcher.is)).asked
 
 pub write_viewer-requires-clause-shots : goal.write_viewer-requires-clause-shots
 write_viewer-requires-clause-shots g c κs within =
     let inv = c.loop-watched.invariant in
-    (ok_so c.in-Some.watched _ _ (came_back c.args.setup.now.form (viewing_of c.args.viewing) c.args.keeper.now c.loop-watched.self.audience.watches c.next.new.self.watches c.in-Some.watched c.in-Some.ensures.some inv.started) (c.branch-watcher.ensures ∙ ap result_from_control_flow c.in_ok-watcher.is)).many
+    (ok_so c.in-Some.watched _ _ (came_back c.args.setup.now.manner.now (viewing_of c.args.viewing) c.args.keeper.now c.loop-watched.self.audience.watches c.next.new.self.watches c.in-Some.watched c.in-Some.ensures.some inv.started) (c.branch-watcher.ensures ∙ ap result_from_control_flow c.in_ok-watcher.is)).many
 
 pub returns-in_err-write_viewer : goal.returns-in_err-write_viewer
 returns-in_err-write_viewer g c = record {
@@ -65,7 +60,7 @@ returns-in_err-write_viewer g c = record {
       let p = err_from_is_err_and c.from_residual-in_err-write_viewer.result c.from_residual-in_err-write_viewer.ensures.1 in
       let viewing = viewing_of c.args.viewing in
       let some = some_back given before viewing c.args.keeper.now c.loop-watched.self.audience.watches c.next.new.self.watches c.in-Some.watched keeps c.in-Some.ensures.some inv.started in
-      let fewer = (left_back c.args.setup.now.form viewing c.args.keeper.now c.loop-watched.self.audience.watches c.next.new.self.watches c.in-Some.watched c.in-Some.ensures.some inv.started).1 in
+      let fewer = (left_back c.args.setup.now.manner.now viewing c.args.keeper.now c.loop-watched.self.audience.watches c.next.new.self.watches c.in-Some.watched c.in-Some.ensures.some inv.started).1 in
       delivers_more g.O.Out.taken g.O.Out.faults c.args.out.now c.loop-watched.out c.write_viewer.new.out given before viewing c.args.keeper.now c.loop-watched.number (length c.args.self.now.audience.watches) (length c.loop-watched.self.audience.watches) _ _ _
       (inv.so_far given before keeps) (length c.next.new.self.watches) fewer some inv.sound refl (rw inv.same at (c.in_err-write_viewer.ensures.views given before (rw inv.same keeps))) (p.1 ∙ ap Err p.2);
 }
@@ -74,7 +69,7 @@ pub loop-watched-preserved : goal.loop-watched-preserved
 loop-watched-preserved g c =
     let inv = c.loop-watched.invariant in
     let viewing = viewing_of c.args.viewing in
-    let left = left_back c.args.setup.now.form viewing c.args.keeper.now c.loop-watched.self.audience.watches c.next.new.self.watches c.in-Some.watched c.in-Some.ensures.some inv.started in
+    let left = left_back c.args.setup.now.manner.now viewing c.args.keeper.now c.loop-watched.self.audience.watches c.next.new.self.watches c.in-Some.watched c.in-Some.ensures.some inv.started in
     let fewer = left.1 in
     record {
       so_far = λ given before keeps.

@@ -11,8 +11,8 @@ use Rattle.script.proofs.gallery.Gallery.write_viewers.Given as goal
 abbrev pub invariant-loop-watched : goal.invariant-loop-watched
 invariant-loop-watched g l = record {
   so_far : (givens : Givens) (before : List (List ℕ)) → Keeps givens before l.fn.keeper →
-      SoFar l.setup.form (g.O.Out.taken l.fn.out) (g.O.Out.taken l.out) (schema l.fn.keeper) (editions givens before) (edition l.fn.keeper) (viewing_of l.viewing) l.number (length l.self.audience.watches) (length l.fn.self.audience.watches);
-  started : AllByRecursion (IsStarted l.setup.form (viewing_of l.viewing) l.fn.keeper) l.self.audience.watches;
+      SoFar l.setup.manner.now (g.O.Out.taken l.fn.out) (g.O.Out.taken l.out) (schema l.fn.keeper) (editions givens before) (edition l.fn.keeper) (viewing_of l.viewing) l.number (length l.self.audience.watches) (length l.fn.self.audience.watches);
+  started : AllByRecursion (IsStarted l.setup.manner.now (viewing_of l.viewing) l.fn.keeper) l.self.audience.watches;
   same : l.keeper ≡ l.fn.keeper;
   counted : l.number + length l.self.audience.watches ≡ length l.fn.self.audience.watches;
   sound : g.O.Out.faults l.out ≡ g.O.Out.faults l.fn.out;

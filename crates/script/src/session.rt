@@ -1,0 +1,119 @@
+//! A session: one table that is open while lines come, of which each is answered before the next one is heard.
+ghost use Rattle.std.specs.Prelude.{◌≡◌, ◌+◌, ◌<◌, ◌^◌, ℕ, List, None, IfErr, IfOk, IfSome, IsErrOf, OnErr, OnOk, Err};
+ghost use Rattle.script.specs.Endings.{Ends, HasWorkers};
+ghost use Rattle.script.specs.Givens.{givens_in};
+ghost use Rattle.script.specs.Output.{deed_behind};
+ghost use Rattle.script.specs.Sessions.{Hearing, IsRefusedAfter, IsReply, counted, ended_by, unheard, was_refused, with_line};
+ghost use Rattle.script.specs.Stops.{Tells};
+
+use crate::ended::Ended;
+use crate::heard::Heard;
+use crate::how::How;
+use crate::manner::Manner;
+use crate::on_refusal::OnRefusal;
+use crate::setup::SpeltSetup;
+use crate::standing::Standing;
+use cells::{Cell, KeyHash, Tuple};
+use crew::Gate;
+use report::Out;
+use std::alloc::Global;
+use std::marker::Model;
+use std::sync::Wait;
+use std::thread::Threads;
+
+/// One table that is open while lines come. Each line is answered before the next one is heard: what [`line`](Session::line)
+/// writes is the block that the line has in a script of all lines that came, with the same number.
+///
+/// Contracts see a session as what it was given, the lines that came, and why it has ended, where it has ([`Hearing`]).
+///
+/// It borrows what it was made with, and owns the table. No thread outlives a call.
+#[derive(Drop)]
+pub struct Session<'a, H: KeyHash<Cell>, R, G: Gate> {
+    setup: SpeltSetup<'a, R, G>,
+    standing: Standing<H>,
+    ended: Option<Ended>,
+}
+
+impl<'a, H: KeyHash<Cell>, R, G: Gate> Model for Session<'a, H, R, G> {
+    ghost use Rattle.std.specs.Prelude.{◌≡◌, None, Some};
+    ghost use Rattle.script.specs.Givens.{givens_in};
+    ghost use Rattle.script.specs.Sessions.{Hearing, StandsBehind};
+    ghost use Rattle.script.specs.declared.ended.Ended.TheVariants.{NotShown};
+
+    ghost Value = { Hearing };
+
+    ghost view = { λ s. record { givens = givens_in s.setup.manner.now s.setup.how.now.rows s.setup.parts.now; lines = s.standing.lines.items; ended = s.ended } };
+
+    ghost invariant = { λ s. (s.ended ≡ None → StandsBehind (givens_in s.setup.manner.now s.setup.how.now.rows s.setup.parts.now) s.standing.lines.items s.standing.desk s.standing.number) × (s.ended ≡ Some NotShown → ⊥) };
+}
+
+impl<'a, H: KeyHash<Cell>, R, G: Gate> Session<'a, H, R, G> {
+    /// A session in which no line came yet. `rt` starts the threads of workers, which answer reports and load parts as `how`
+    /// says; the parts are numbered from 1, in their order, for `load` lines; `manner` is the way in which answers are told; and
+    /// `gate` is told of each publish, refusal, load, report and piece, as by [`run`](crate::run). It takes no memory.
+    pub fn new(
+        rt: &'a R,
+        alloc: Global,
+        parts: &'a [Vec<u8>],
+        how: &'a How,
+        manner: &'a Manner,
+        gate: &'a G,
+    ) -> Session<'a, H, R, G>
+        ensures { result ≡ unheard (givens_in manner.now how.now.rows parts.now) }
+    {
+        let setup = SpeltSetup {
+            rt,
+            alloc,
+            how,
+            parts,
+            viewing: None,
+            on_refusal: OnRefusal::GoesOn,
+            manner,
+            gate,
+        };
+        Session {
+            setup,
+            standing: Standing::new(),
+            ended: None,
+        }
+    }
+}
+
+impl<
+    'a,
+    H: KeyHash<Cell> + KeyHash<Tuple> + Send + Sync,
+    R: Threads + Wait + Sync,
+    G: Gate,
+> Session<'a, H, R, G> {
+    /// Does what a line says, and writes its reply. The line is given without its line end. A report is answered in this
+    /// call, over the rows that stand published, by workers that have ended when it returns. It tells whether the line was
+    /// refused; the session goes on either way.
+    ///
+    /// A line of more than [`MAX_SCRIPT_BYTES`](crate::MAX_SCRIPT_BYTES) bytes is refused with the number 15 and counts as an
+    /// empty line; so is each line once the numbers of a `u64` are used up. Nothing else limits a session.
+    ///
+    /// Where it ends early, a beginning of the reply was taken, and the session is over: [`Ended::OutOfMemory`] where a growth
+    /// was refused, [`Ended::NoWorker`] where the thread of a worker could not be started, which only a report or a load
+    /// meets, and [`Ended::WriteFailed`] where the writer failed in the call. A session that is over answers each further line
+    /// with the same error, and writes nothing.
+    pub fn line<O: Out>(&mut self, bytes: &[u8], out: &mut O) -> Result<Heard, Ended>
+        requires { O.faults out.old + 1 < 2 ^ 64 }
+        ensures replies { self.old.ended ≡ None → Ends O.taken O.faults out.old out.new (IsReply H.KeyHash-1.hash_of self.old.givens self.old.lines bytes.now) (HasWorkers (deed_behind self.old.givens (counted self.old.lines) bytes.now)) ⊥ result }
+        ensures tells { IfOk result (λ heard. Tells (was_refused heard) (IsRefusedAfter self.old.givens self.old.lines bytes.now)) }
+        ensures goes_on { OnOk result ((self.old.ended ≡ None) × (self.new ≡ with_line self.old bytes.now)) }
+        ensures ends { IfErr result (λ why. self.new ≡ ended_by self.old why) }
+        ensures over { IfSome self.old.ended (λ why. (result ≡ Err why) × (out.new ≡ out.old)) }
+        ensures place { IsErrOf result Ended.NotShown → ⊥ }
+    {
+        if let Some(why) = self.ended {
+            return Err(why);
+        }
+        match self.standing.reply(&self.setup, bytes, out) {
+            Ok(heard) => Ok(heard),
+            Err(why) => {
+                self.ended = Some(why);
+                Err(why)
+            }
+        }
+    }
+}
