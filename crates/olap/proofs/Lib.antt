@@ -1,5 +1,11 @@
 pub mod CommandLineLemmas
 pub mod FoldersLemmas
+pub mod HearingLemmas
+pub mod NamingLemmas
+pub mod OptionsLemmas
 pub mod ProgramLemmas
 pub mod ProposalsLemmas
+pub mod QueriesLemmas
 pub mod QuestionsLemmas
+pub mod SessionWordsLemmas
+pub mod TalksLemmas

@@ -6,13 +6,15 @@ use Rattle.std.specs.Io.KnownBytes.{Appends, Keeps}
 use Rattle.std.proofs.KnownBytes.{Appends-kept}
 use Rattle.clap.specs.Words.{Text}
 use Rattle.script.specs.Endings.{BeginsToWrite, Writes}
+use Rattle.script.specs.Givens.{givens_in}
 use Rattle.script.specs.Hows.{hash_of_choice}
+use Rattle.script.specs.Manners.{in_form}
 use Rattle.script.specs.Stops.{HoweverFinished}
 use Rattle.script.specs.Viewers.{IsRunBy}
 use Rattle.script.specs.declared.finish.Finish.{Finish}
-use Rattle.olap.specs.Folders.{AreTold, Tells}
 use Rattle.olap.specs.Jobs.{Ask}
-use Rattle.olap.specs.Programs.{AskToWrite, IsOutputOfJob}
+use Rattle.olap.specs.Programs.{AskToWrite, IsInputOf, IsOutputOfJob}
+use Rattle.olap.specs.declared.input.Input.{Input}
 use Rattle.report.specs.Taken.{TakesBeginning}
 use Rattle.olap.specs.declared.job.Job.{Job}
 
@@ -42,10 +44,9 @@ wrote_finished Is a b c (Ok f) finish wrote is k =
 wrote_finished Is a b c (Err e) finish wrote is k = absurd cc
 
 -- the output of a job, from what was read
-pub output_of_job : (file : List ℕ → Option (List ℕ)) (job : Job) (script : List ℕ) (parts : List (List ℕ)) →
-    Tells (file job.script) script → AreTold file job.parts.items parts → (finish : Finish) (whole : List ℕ) →
-    IsRunBy job.on_refusal (hash_of_choice job.hash) (record { form = job.form; limit = job.how.rows; parts = parts }) job.live script finish whole → IsOutputOfJob file job finish whole
-output_of_job file job script parts s p finish whole is = record { script = script; script_told = s; parts = parts; parts_told = p; is_output = is }
+pub output_of_job : (file : List ℕ → Option (List ℕ)) (job : Job) (input : Input) → IsInputOf file job input → (finish : Finish) (whole : List ℕ) →
+    IsRunBy job.on_refusal (hash_of_choice job.hash) (givens_in (in_form job.form) job.how.rows input.parts.items) job.live input.script.items finish whole → IsOutputOfJob file job finish whole
+output_of_job file job input is_input finish whole is = record { input = input; is_input = is_input; is_output = is }
 
 -- the output that the words ask for, from that of their job
 pub asked : (file : List ℕ → Option (List ℕ)) (words : List Text) (job : Job) → Ask words job → (finish : Finish) (whole : List ℕ) → IsOutputOfJob file job finish whole → AskToWrite file words finish whole

@@ -1,7 +1,13 @@
 pub mod CommandLine
 pub mod Folders
+pub mod Hearing
 pub mod Jobs
+pub mod Naming
+pub mod Options
 pub mod Programs
 pub mod Proposals
+pub mod Queries
 pub mod Questions
+pub mod SessionWords
+pub mod Talks
 pub mod Topics

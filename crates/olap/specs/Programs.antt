@@ -1,28 +1,37 @@
 -- What the program does with its words, its files and its standard input.
-use Rattle.std.specs.Prelude.{◌⊎◌, ℕ, List, [], Option}
+use Rattle.std.specs.Prelude.{◌≡◌, ◌⊎◌, ℕ, List, [], Option, map}
 use Rattle.clap.specs.Words.{IsAmong, Text, fault_of}
 use Rattle.clap.specs.declared.error.kind.ErrorKind.TheVariants.{DisplayHelp, DisplayVersion}
 use Rattle.forms.specs.declared.form.Form.TheVariants.{Classic}
+use Rattle.script.specs.Givens.{givens_in}
 use Rattle.script.specs.Hows.{default_hash, default_settings, hash_of_choice}
+use Rattle.script.specs.Manners.{in_form}
 use Rattle.script.specs.Output.{IsOutput}
 use Rattle.script.specs.Viewers.{IsRunBy}
 use Rattle.script.specs.declared.finish.Finish.{Finish}
 use Rattle.olap.specs.CommandLine.{olap}
 use Rattle.olap.specs.Folders.{AreTold, Tells}
 use Rattle.olap.specs.Jobs.{Ask}
+use Rattle.olap.specs.Naming.{resolved}
+use Rattle.olap.specs.declared.input.Input.{Input}
 use Rattle.olap.specs.declared.job.Job.{Job}
 
 -- the words ask for help or for the version
 abbrev pub AskForHelp : List Text → Type 0
 AskForHelp words = IsAmong DisplayHelp (fault_of olap words) ⊎ IsAmong DisplayVersion (fault_of olap words)
 
--- this is the output of a job that is so finished, whose files hold what is told
-pub record IsOutputOfJob (file : Text → Option (List ℕ)) (job : Job) (finish : Finish) (whole : List ℕ) : Type 0 where
+-- this is what is run of a job whose files hold what is told: its script, in which numbers stand for the names of parts, and its parts
+pub record IsInputOf (file : Text → Option (List ℕ)) (job : Job) (input : Input) : Type 0 where
   pub script : List ℕ
   pub script_told : Tells (file job.script) script
-  pub parts : List (List ℕ)
-  pub parts_told : AreTold file job.parts.items parts
-  pub is_output : IsRunBy job.on_refusal (hash_of_choice job.hash) (record { form = job.form; limit = job.how.rows; parts = parts }) job.live script finish whole
+  pub resolved : input.script.items ≡ resolved job.names.items script
+  pub parts_told : AreTold file job.parts.items (map (λ part. part.items) input.parts.items)
+
+-- this is the output of a job that is so finished
+pub record IsOutputOfJob (file : Text → Option (List ℕ)) (job : Job) (finish : Finish) (whole : List ℕ) : Type 0 where
+  pub input : Input
+  pub is_input : IsInputOf file job input
+  pub is_output : IsRunBy job.on_refusal (hash_of_choice job.hash) (givens_in (in_form job.form) job.how.rows input.parts.items) job.live input.script.items finish whole
 
 -- the words ask for a run over these files, and this is its output where it is so finished
 pub record AskToWrite (file : Text → Option (List ℕ)) (words : List Text) (finish : Finish) (whole : List ℕ) : Type 0 where
@@ -34,4 +43,4 @@ pub record AskToWrite (file : Text → Option (List ℕ)) (words : List Text) (f
 pub record IsOutputOf (input : Option (List ℕ)) (whole : List ℕ) : Type 0 where
   pub script : List ℕ
   pub script_told : Tells input script
-  pub is_output : IsOutput (hash_of_choice default_hash) (record { form = Classic; limit = default_settings.rows; parts = [] }) script whole
+  pub is_output : IsOutput (hash_of_choice default_hash) (record { manner = in_form Classic; limit = default_settings.rows; parts = [] }) script whole

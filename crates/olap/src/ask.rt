@@ -1,8 +1,11 @@
 //! One question of CSV files: `query`, and the table that it proposes: `schema`.
-ghost use Rattle.std.specs.Prelude.{◌≡◌, ◌⊎◌, [], IfOk, length, map, string_bytes};
+ghost use Rattle.std.specs.Prelude.{◌≡◌, ◌⊎◌, [], IfOk, length, map, string_bytes, true};
+ghost use Rattle.std.specs.Io.Buffered.{writer_buffer, writer_contents};
 ghost use Rattle.std.specs.List.{slice_index_or};
 ghost use Rattle.olap.specs.Folders.{AreTold};
+ghost use Rattle.olap.specs.Options.{asks_for_help};
 ghost use Rattle.olap.specs.Proposals.{IsAsked, line_of_proposal};
+ghost use Rattle.olap.specs.Queries.{AskToAnswer, IsAnswer, IsAnswerOfNamed, IsStrictOutput, Leaves};
 ghost use Rattle.olap.specs.Questions.{script_of};
 
 use crate::asking::Asking;
@@ -14,10 +17,9 @@ use crate::program::{cannot_read, run_input};
 use crate::proposal::{FileFault, Proposal, Unproposed, proposed};
 use crate::question::{Question, SchemaQuestion, Wanted, question_of, schema_question_of};
 use crate::table_text::{script_of, table_line, table_name};
-use crate::tell::{Errors, Tell};
+use crate::tell::{Errors, Screen, Tell};
 use cells::Text;
-use forms::Form;
-use script::{Ended, HashChoice, How, OnRefusal};
+use script::{Ended, HashChoice, OnRefusal};
 use std::alloc::{AllocError, Global};
 use std::io::{BufWriter, Write};
 use std::sync::Wait;
@@ -26,29 +28,34 @@ use std::thread::Threads;
 /// The status where a file makes no part.
 pub const FAULTY: u8 = 1;
 
-/// Answers the query that the words name, over the files that they name, and gives the program's status: 0 where the answer was
-/// written whole, 1 where a file makes no part or the query is refused, which `err` then says, 2 where the words are refused or
-/// a file can't be read, and 3 where the run ended early.
-pub fn ask<F: Folder, W: Write + Drop, E: Write, R: Threads + Wait + Sync + Eprint>(
+/// Answers the query that the words name, over the files that they name, and gives the program's status and the writer back.
+///
+/// At 0 the answer was written whole: what a strict run writes of the script that asks the query of the table that is proposed for
+/// the files; or help was asked for. At 1 a file makes no part, and nothing was written, or the query is refused, and its refusal
+/// was; `err` says why. At 2 the words are refused or a file can't be read, and at 3 the run ended early.
+pub fn ask<F: Folder, W: Write + Drop, E: Write, R: Threads + Wait + Sync + Eprint + Screen>(
     rt: &R,
     alloc: Global,
     words: &[String],
     folder: &F,
-    out: BufWriter<W>,
+    mut out: BufWriter<W>,
     err: &mut E,
-) -> u8
-    ensures { (result ≡ 0) ⊎ ((result ≡ 1) ⊎ ((result ≡ 2) ⊎ (result ≡ 3))) }
+) -> (u8, BufWriter<W>)
+    ensures status { (result.0 ≡ 0) ⊎ ((result.0 ≡ 1) ⊎ ((result.0 ≡ 2) ⊎ (result.0 ≡ 3))) }
+    ensures leaves { (asks_for_help (map string_bytes words.now) ≡ true)
+        ⊎ Leaves (AskToAnswer (F.file folder.now) (map string_bytes words.now)) result.0 (writer_contents W.contents out) (writer_contents W.contents result.1) (writer_buffer result.1) }
 {
     let parted = match part_words(alloc, words) {
         Ok(parted) => parted,
-        Err(fault) => return refuse_words("query", fault, err),
+        Err(fault) => return (refuse_words("query", fault, err), out),
     };
     if parted.helps {
-        return show(Topic::Query.page(), out, err);
+        let status = show(Topic::Query.page(), &mut out, err);
+        return (status, out);
     }
     match question_of(rt, alloc, &parted) {
         Ok((question, wanted)) => ask_question(rt, alloc, &question, wanted, folder, out, err),
-        Err(fault) => refuse_words("query", fault, err),
+        Err(fault) => (refuse_words("query", fault, err), out),
     }
 }
 
@@ -57,7 +64,7 @@ pub fn show_schema<F: Folder, W: Write + Drop, E: Write>(
     alloc: Global,
     words: &[String],
     folder: &F,
-    out: BufWriter<W>,
+    mut out: BufWriter<W>,
     err: &mut E,
 ) -> u8
     ensures { (result ≡ 0) ⊎ ((result ≡ 1) ⊎ ((result ≡ 2) ⊎ (result ≡ 3))) }
@@ -67,7 +74,7 @@ pub fn show_schema<F: Folder, W: Write + Drop, E: Write>(
         Err(fault) => return refuse_words("schema", fault, err),
     };
     if parted.helps {
-        return show(Topic::Schema.page(), out, err);
+        return show(Topic::Schema.page(), &mut out, err);
     }
     match schema_question_of(alloc, &parted) {
         Ok(question) => show_table(alloc, question, folder, out, err),
@@ -111,12 +118,13 @@ fn ask_question<F: Folder, W: Write + Drop, E: Write, R: Threads + Wait + Sync +
     folder: &F,
     out: BufWriter<W>,
     err: &mut E,
-) -> u8
-    ensures { (result ≡ 0) ⊎ ((result ≡ 1) ⊎ ((result ≡ 2) ⊎ (result ≡ 3))) }
+) -> (u8, BufWriter<W>)
+    ensures status { (result.0 ≡ 0) ⊎ ((result.0 ≡ 1) ⊎ ((result.0 ≡ 2) ⊎ (result.0 ≡ 3))) }
+    ensures leaves { Leaves (IsAnswerOfNamed (F.file folder.now) question.now wanted) result.0 (writer_contents W.contents out) (writer_contents W.contents result.1) (writer_buffer result.1) }
 {
     match read_files(alloc, folder, question.names.as_slice()) {
         Ok(files) => ask_files(rt, alloc, question, files.as_slice(), wanted, out, err),
-        Err(unread) => cannot_read(unread, err),
+        Err(unread) => (cannot_read(unread, err), out),
     }
 }
 
@@ -129,24 +137,23 @@ fn ask_files<W: Write + Drop, E: Write, R: Threads + Wait + Sync + Eprint>(
     wanted: Wanted,
     out: BufWriter<W>,
     err: &mut E,
-) -> u8
-    ensures { (result ≡ 0) ⊎ ((result ≡ 1) ⊎ (result ≡ 3)) }
+) -> (u8, BufWriter<W>)
+    ensures status { (result.0 ≡ 0) ⊎ ((result.0 ≡ 1) ⊎ (result.0 ≡ 3)) }
+    ensures leaves { Leaves (IsAnswer (map (λ f. f.items) files.now) question.now wanted) result.0 (writer_contents W.contents out) (writer_contents W.contents result.1) (writer_buffer result.1) }
 {
     let delimiter = wanted.delimiter;
     match input_of_files(alloc, question, files, wanted) {
         Ok(input) => {
             let teller = Errors::new(rt, false);
             let asked = Asked {
-                names: question.names.as_slice(),
+                question,
                 files,
                 delimiter,
-                how: &question.how,
-                form: question.form,
                 input: &input,
             };
             run_asked(rt, alloc, &teller, &asked, out, err)
         }
-        Err(fault) => refuse_file(question.names.as_slice(), fault, err),
+        Err(fault) => (refuse_file(question.names.as_slice(), fault, err), out),
     }
 }
 
@@ -166,16 +173,14 @@ fn input_of_files(
 /// What a run that asks a question is made with.
 #[derive(Drop)]
 struct Asked<'a> {
-    /// The names of the files, what they hold, and the byte between two fields.
-    names: &'a [Text],
+    question: &'a Question<'a>,
+    /// What the files hold, and the byte between two fields.
     files: &'a [Vec<u8>],
     delimiter: u8,
-    how: &'a How,
-    form: Form,
     input: &'a Input,
 }
 
-/// Runs the script that asks.
+/// Runs the script that asks, up to its first refused line.
 fn run_asked<'a, T: Tell + Sync, W: Write + Drop, E: Write, R: Threads + Wait + Sync>(
     rt: &'a R,
     alloc: Global,
@@ -183,13 +188,15 @@ fn run_asked<'a, T: Tell + Sync, W: Write + Drop, E: Write, R: Threads + Wait + 
     asked: &'a Asked<'a>,
     out: BufWriter<W>,
     err: &mut E,
-) -> u8
-    ensures { (result ≡ 0) ⊎ ((result ≡ 1) ⊎ (result ≡ 3)) }
+) -> (u8, BufWriter<W>)
+    ensures status { (result.0 ≡ 0) ⊎ ((result.0 ≡ 1) ⊎ (result.0 ≡ 3)) }
+    ensures leaves { Leaves (IsStrictOutput asked.now.question.now asked.now.input.now) result.0 (writer_contents W.contents out) (writer_contents W.contents result.1) (writer_buffer result.1) }
 {
     let gate = Asking::new(
         teller,
         alloc,
-        asked.names,
+        asked.question.query,
+        asked.question.names.as_slice(),
         asked.files,
         asked.delimiter,
         asked.input,
@@ -197,9 +204,9 @@ fn run_asked<'a, T: Tell + Sync, W: Write + Drop, E: Write, R: Threads + Wait + 
     run_input(
         rt,
         alloc,
-        asked.how,
+        &asked.question.how,
         HashChoice::default(),
-        asked.form,
+        &asked.question.manner,
         None,
         OnRefusal::Stops,
         asked.input,
@@ -207,11 +214,10 @@ fn run_asked<'a, T: Tell + Sync, W: Write + Drop, E: Write, R: Threads + Wait + 
         out,
         err,
     )
-    .0
 }
 
 /// The bytes of the files of these names.
-fn read_files<'n, F: Folder>(
+pub(crate) fn read_files<'n, F: Folder>(
     alloc: Global,
     folder: &F,
     names: &'n [Text],
@@ -278,7 +284,7 @@ fn show_table<F: Folder, W: Write + Drop, E: Write>(
     alloc: Global,
     question: SchemaQuestion,
     folder: &F,
-    out: BufWriter<W>,
+    mut out: BufWriter<W>,
     err: &mut E,
 ) -> u8
     ensures { (result ≡ 0) ⊎ ((result ≡ 1) ⊎ ((result ≡ 2) ⊎ (result ≡ 3))) }
@@ -293,7 +299,7 @@ fn show_table<F: Folder, W: Write + Drop, E: Write>(
         Err(fault) => return refuse_file(names.as_slice(), fault, err),
     };
     match shown_line(alloc, names.as_slice(), &proposal) {
-        Ok(line) => show(line.as_str(), out, err),
+        Ok(line) => show(line.as_str(), &mut out, err),
         Err(_) => end_early(Ended::OutOfMemory, err),
     }
 }

@@ -3,11 +3,12 @@
 use crate::input::Input;
 use crate::tell::Tell;
 use crate::telling::Ending;
-use cells::{Refused, Text};
+use cells::{ColumnType, Refused, Schema, Text, Token, tokens_or};
 use crew::Gate;
-use prepare::line_of;
+use prepare::{TextField, first_text, line_of};
 use reasons::{PartReason, Reason, Reasons};
 use std::alloc::Global;
+use std::str;
 
 /// The line of the report, in the script that asks.
 const REPORT_LINE: u64 = 4;
@@ -15,24 +16,30 @@ const REPORT_LINE: u64 = 4;
 /// How many bytes stand before the query, on that line.
 const BEFORE_QUERY: u64 = 7;
 
+/// The most bytes of a field that are shown.
+const MOST_SHOWN: usize = 60;
+
 /// A gate that tells of the query, by its columns, and of the files, by their lines. Where memory is refused to a reason, the refusal
 /// is told without it.
 #[derive(Drop)]
 pub struct Asking<'a, T> {
     teller: &'a T,
     alloc: Global,
+    query: &'a str,
     names: &'a [Text],
     files: &'a [Vec<u8>],
     /// The byte between two fields of the files.
     delimiter: u8,
+    parts: &'a [Vec<u8>],
     reasons: Option<Reasons<'a>>,
 }
 
 impl<'a, T> Asking<'a, T> {
-    /// A gate for a run over parts that were made of files of these names.
+    /// A gate for a run that asks a query of parts, which were made of files of these names.
     pub fn new(
         teller: &'a T,
         alloc: Global,
+        query: &'a str,
         names: &'a [Text],
         files: &'a [Vec<u8>],
         delimiter: u8,
@@ -41,9 +48,11 @@ impl<'a, T> Asking<'a, T> {
         Asking {
             teller,
             alloc,
+            query,
             names,
             files,
             delimiter,
+            parts: input.parts.as_slice(),
             reasons: Reasons::of(alloc, input.script.as_slice(), input.parts.as_slice()).ok(),
         }
     }
@@ -58,6 +67,24 @@ impl<'a, T> Asking<'a, T> {
     fn part_reason(&self, part: u64, record: u64) -> Option<PartReason> {
         let reasons = self.reasons.as_ref()?;
         reasons.of_record(self.alloc, part, record).ok()
+    }
+
+    /// The column of texts for whose type the query is refused, where the fault is at a byte of it, and there is memory for it.
+    fn column_of_texts(&self, place: u64) -> Option<usize> {
+        let schema = self.reasons.as_ref()?.schema()?;
+        column_of_texts(self.alloc, self.query, place as usize, schema)
+    }
+
+    /// The first field that made a column one of texts, and the number of its part, where there is memory for it.
+    fn first_text(&self, column: usize) -> Option<(u64, TextField)> {
+        let mut number = 0u64;
+        for part in self.parts {
+            number = number.saturating_add(1);
+            if let Some(text) = first_text(self.alloc, part.as_slice(), column).ok()? {
+                return Some((number, text));
+            }
+        }
+        None
     }
 
     /// The name of the file of this number, counted from 1, and the line on which a record of it begins.
@@ -90,6 +117,79 @@ impl<'a, T: Tell> Asking<'a, T> {
     }
 }
 
+impl<'a, T: Tell> Asking<'a, T> {
+    /// Tells which field made a column one of texts, where the query is refused at a byte of it for the type of a column.
+    fn tell_text(&self, place: u64) {
+        let Some(column) = self.column_of_texts(place) else {
+            return;
+        };
+        let Some((part, text)) = self.first_text(column) else {
+            return;
+        };
+        let (name, line) = self.place(part, text.record);
+        let word = self.column_name(column);
+        match shown(text.field.as_slice()) {
+            Some(field) => self.teller.tell(format_args!(
+                "{name}:{line}: {word} is text here: '{field}'"
+            )),
+            None => self
+                .teller
+                .tell(format_args!("{name}:{line}: {word} is text here")),
+        }
+    }
+
+    /// The name of a column of the table.
+    fn column_name(&self, column: usize) -> &str {
+        let Some(reasons) = &self.reasons else {
+            return "";
+        };
+        let Some(schema) = reasons.schema() else {
+            return "";
+        };
+        match schema.columns().get(column) {
+            Some(column) => column.name.as_str(),
+            None => "",
+        }
+    }
+}
+
+/// The last column of texts that a query names up to this byte, and in the word that begins there.
+fn column_of_texts(alloc: Global, query: &str, place: usize, schema: &Schema) -> Option<usize> {
+    let tokens = tokens_or(alloc, read_up_to(query, place)?, Refused::QuerySyntax).ok()?;
+    let mut found = None;
+    for token in tokens.as_slice() {
+        if let Token::Word(word) = token {
+            found = text_column(schema, word.as_str()).or(found);
+        }
+    }
+    found
+}
+
+/// The text up to a byte, with the word that begins there.
+fn read_up_to(query: &str, place: usize) -> Option<&str> {
+    let bytes = query.as_bytes();
+    let rest = bytes.get(place..)?;
+    let len = rest
+        .iter()
+        .position(|byte| !byte.is_ascii_alphanumeric() && *byte != b'_')
+        .unwrap_or(rest.len());
+    str::from_utf8(bytes.get(..place.saturating_add(len))?).ok()
+}
+
+/// The place of the column of texts of this name.
+fn text_column(schema: &Schema, name: &str) -> Option<usize> {
+    schema.columns().iter().position(|column| column.kind == ColumnType::Text
+        && column.name.as_str() == name)
+}
+
+/// A field as a message shows it: a short text on one line.
+fn shown(field: &[u8]) -> Option<&str> {
+    if field.len() > MOST_SHOWN || field.iter().any(|byte| *byte < b' ') {
+        return None;
+    }
+    str::from_utf8(field).ok()
+}
+
 impl<'a, T: Tell + Sync> Gate for Asking<'a, T> {
     fn refused(&self, line: u64, fault: Refused) {
         let number = fault.number();
@@ -99,6 +199,10 @@ impl<'a, T: Tell + Sync> Gate for Asking<'a, T> {
         };
         if line == REPORT_LINE {
             self.tell_query(&reason, number, fault);
+            if fault == Refused::WrongType {
+                let column = reason.column.unwrap_or(0);
+                self.tell_text(column.saturating_sub(BEFORE_QUERY + 1));
+            }
             return;
         }
         self.teller

@@ -1,20 +1,22 @@
 //! Looks for faults in a script and in its parts, and loads nothing.
-ghost use Rattle.std.specs.Prelude.{◌≡◌, ◌⊎◌};
+ghost use Rattle.std.specs.Prelude.{◌≡◌, ◌≤◌, ◌⊎◌, IfOk, length};
 
 use crate::close::{NOTHING_RUN, WRITTEN, end_early};
 use crate::explaining::{Explaining, Told};
-use crate::input::{Folder, Input, Unread, Unreadable, read_input};
+use crate::input::{Folder, Input, Unread, Unreadable, read_named};
 use crate::job::Job;
+use crate::naming::{NamingFault, Parts};
 use crate::part_faults::tell_parts;
 use crate::program::{cannot_read, run_input};
 use crate::tell::{Output, Tell};
 use cells::Text;
 use forms::Form;
-use script::{Ended, HashChoice, How, OnRefusal};
-use std::alloc::{AllocError, Global};
+use script::{Ended, HashChoice, How, Manner, OnRefusal};
+use std::alloc::{AllocError, AllocFailed, Global};
 use std::io::{self, BufWriter, Write};
 use std::sync::Wait;
 use std::thread::Threads;
+use thiserror::Error;
 
 /// The status of a check that found a fault.
 pub const FAULTY: u8 = 1;
@@ -28,29 +30,63 @@ pub const FAULTY: u8 = 1;
 pub fn check_files<F: Folder, E: Write, R: Threads + Wait + Sync + Print>(
     rt: &R,
     alloc: Global,
-    names: &[String],
+    words: &[String],
     folder: &F,
     err: &mut E,
 ) -> u8
     ensures { (result ≡ 0) ⊎ ((result ≡ 1) ⊎ ((result ≡ 2) ⊎ (result ≡ 3))) }
 {
-    let Some((script, parts)) = names.split_first() else {
-        let _ = writeln!(
-            err,
-            "error: no SCRIPT\n\nFor more information, try 'olap help check'."
-        );
-        return NOTHING_RUN;
-    };
-    let Ok(job) = job_of_check(alloc, script.as_str(), parts) else {
-        return no_memory(script.as_str(), err);
+    let job = match job_of_check(alloc, words) {
+        Ok(job) => job,
+        Err(fault) => return refuse_words(fault, err),
     };
     let Ok(room) = Vec::with_capacity(alloc, job.parts.len()) else {
-        return no_memory(script.as_str(), err);
+        return no_memory(job.script.as_str(), err);
     };
-    match read_input(folder, &job, room) {
+    match read_named(alloc, folder, &job, room) {
         Ok(input) => look(rt, alloc, &Output::new(rt), &job, input, err),
         Err(unread) => cannot_read(unread, err),
     }
+}
+
+/// Why the words of a check are refused. Its text is what the program writes after `error: `.
+#[derive(Debug, Drop, Error)]
+enum CheckFault {
+    #[error("no SCRIPT")]
+    NoScript,
+    #[error("'--part' takes a value")]
+    NoValue,
+    #[error("{0}")]
+    Naming(NamingFault),
+}
+
+impl From<AllocError> for CheckFault {
+    fn from(error: AllocError) -> CheckFault {
+        CheckFault::Naming(NamingFault::from(error))
+    }
+}
+
+impl<T: Drop> From<AllocFailed<T>> for CheckFault {
+    fn from(_error: AllocFailed<T>) -> CheckFault {
+        CheckFault::Naming(NamingFault::OutOfMemory)
+    }
+}
+
+impl From<NamingFault> for CheckFault {
+    fn from(fault: NamingFault) -> CheckFault {
+        CheckFault::Naming(fault)
+    }
+}
+
+/// Says why the words are refused.
+fn refuse_words<E: Write>(fault: CheckFault, err: &mut E) -> u8
+    ensures { result ≡ 2 }
+{
+    let _ = writeln!(
+        err,
+        "error: {fault}\n\nFor more information, try 'olap help check'."
+    );
+    NOTHING_RUN
 }
 
 /// Memory was refused before the first file was read.
@@ -61,13 +97,68 @@ fn no_memory<E: Write>(name: &str, err: &mut E) -> u8
     cannot_read(Unreadable { name, why }, err)
 }
 
-/// A run of these files with the defaults.
-fn job_of_check(alloc: Global, script: &str, parts: &[String]) -> Result<Job, AllocError> {
-    let mut names = Vec::new(alloc);
-    for part in parts {
-        names.push(Text::copied(alloc, part.as_str())?)?;
+/// What the words of a check name: a script and files of parts, and the parts that have names.
+#[derive(Drop)]
+struct CheckWords {
+    files: Vec<Text>,
+    named: Vec<Text>,
+}
+
+impl CheckWords {
+    /// Takes a word, with the next one where that is its value, and gives what follows.
+    fn take<'w>(
+        &mut self,
+        alloc: Global,
+        word: &str,
+        later: &'w [String],
+    ) -> Result<&'w [String], CheckFault>
+        ensures { IfOk result (λ rest. length rest.now ≤ length later.entry.now) }
+    {
+        if word == "--part" {
+            let Some((value, rest)) = later.split_first() else {
+                return Err(CheckFault::NoValue);
+            };
+            self.named.push(Text::copied(alloc, value.as_str())?)?;
+            return Ok(rest);
+        }
+        match word.strip_prefix("--part=") {
+            Some(value) => self.named.push(Text::copied(alloc, value)?)?,
+            None => self.files.push(Text::copied(alloc, word)?)?,
+        }
+        Ok(later)
     }
-    let script = Text::copied(alloc, script)?;
+}
+
+/// What the words name. After the word `--` all are files.
+fn words_of(alloc: Global, words: &[String]) -> Result<CheckWords, CheckFault> {
+    let mut taken = CheckWords {
+        files: Vec::new(alloc),
+        named: Vec::new(alloc),
+    };
+    let mut rest = words;
+    while let Some((word, later)) = rest.split_first() {
+        if word.as_str() == "--" {
+            for file in later {
+                taken.files.push(Text::copied(alloc, file.as_str())?)?;
+            }
+            return Ok(taken);
+        }
+        rest = taken.take(alloc, word.as_str(), later)?;
+    }
+    Ok(taken)
+}
+
+/// A run, with the defaults, of the files that the words name.
+fn job_of_check(alloc: Global, words: &[String]) -> Result<Job, CheckFault> {
+    let CheckWords { mut files, named } = words_of(alloc, words)?;
+    if files.is_empty() {
+        return Err(CheckFault::NoScript);
+    }
+    let script = files.remove(0);
+    let Parts {
+        files: parts,
+        names,
+    } = Parts::named(alloc, files, named.as_slice())?;
     Ok(Job {
         how: How::default(),
         hash: HashChoice::default(),
@@ -76,7 +167,8 @@ fn job_of_check(alloc: Global, script: &str, parts: &[String]) -> Result<Job, Al
         explains: true,
         tells_progress: false,
         script,
-        parts: names,
+        parts,
+        names,
         live: None,
     })
 }
@@ -144,12 +236,13 @@ fn look_at_lines<'a, T: Tell + Sync, E: Write, R: Threads + Wait + Sync>(
         return end_early(Ended::OutOfMemory, err);
     };
     let gate = Explaining::new(teller, alloc, Told::Lines, job, input);
+    let manner = Manner::of(alloc, job.form);
     let (status, _) = run_input(
         rt,
         alloc,
         &job.how,
         job.hash,
-        job.form,
+        &manner,
         None,
         OnRefusal::GoesOn,
         input,

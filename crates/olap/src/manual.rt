@@ -107,14 +107,14 @@ fn page_of(refusal: Refused) -> &'static str {
 }
 
 /// Shows a page on standard output, and gives the program's status: 0 where the whole page was written, else 3, and `err` says so.
-pub fn show<W: Write + Drop, E: Write>(page: &str, mut out: BufWriter<W>, err: &mut E) -> u8
+pub fn show<W: Write + Drop, E: Write>(page: &str, out: &mut BufWriter<W>, err: &mut E) -> u8
     ensures { (result ≡ 0) ⊎ (result ≡ 3) }
 {
     let ended = match out.write_all(page.as_bytes()) {
         Ok(()) => Ok(()),
         Err(_) => Err(Ended::WriteFailed),
     };
-    close_run(ended, &mut out, err)
+    close_run(ended, out, err)
 }
 
 /// Says which pages there are, where there is none of this name.
@@ -123,7 +123,7 @@ pub fn refuse_page<E: Write>(word: &str, err: &mut E) -> u8
 {
     let _ = writeln!(
         err,
-        "error: no help of '{word}'\n\nThere is help of run, live, check, query, schema and language, and of the numbers 1 to 15 and 90 to 93."
+        "error: no help of '{word}'\n\nThere is help of run, live, session, check, query, schema and language, and of the numbers 1 to 15 and 90 to 93."
     );
     NOTHING_RUN
 }

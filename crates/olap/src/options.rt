@@ -1,5 +1,6 @@
 //! The words of `query` and `schema`: options, which may stand anywhere, and names.
-ghost use Rattle.std.specs.Prelude.{◌≡◌, ◌≤◌, IfOk, length};
+ghost use Rattle.std.specs.Prelude.{◌≡◌, ◌++◌, [], IfOk, OnOk, false, map, string_bytes, true};
+ghost use Rattle.olap.specs.Options.{AreAmong, TakesWord, asks_for_help, texts};
 ghost use Rattle.olap.specs.declared.options.OptionFault.TheVariants.{OutOfMemory};
 
 use crate::job::Setting;
@@ -16,6 +17,8 @@ pub enum Valued {
     Workers,
     Rows,
     Format,
+    Order,
+    Limit,
 }
 
 impl Valued {
@@ -29,6 +32,8 @@ impl Valued {
             "workers" => Some(Valued::Workers),
             "rows" => Some(Valued::Rows),
             "format" => Some(Valued::Format),
+            "order" => Some(Valued::Order),
+            "limit" => Some(Valued::Limit),
             _ => None,
         }
     }
@@ -51,6 +56,12 @@ pub enum OptionFault<'w> {
     Number(&'w str),
     #[error("{0}")]
     OutOfRange(Setting),
+    #[error("'--order' takes columns of the answer, as its header names them, with commas between them, and asc or desc after each that wants it: {0}")]
+    Order(&'w str),
+    #[error("'--order' names what is no column of the answer: {0}")]
+    NoColumn(&'w str),
+    #[error("'--limit' takes a number of rows: {0}")]
+    Limit(&'w str),
     #[error("no QUERY")]
     NoQuery,
     #[error("no FILE")]
@@ -91,6 +102,8 @@ pub struct Parted<'w> {
     pub workers: Option<&'w str>,
     pub rows: Option<&'w str>,
     pub format: Option<&'w str>,
+    pub order: Option<&'w str>,
+    pub limit: Option<&'w str>,
     pub trims: bool,
     /// Whether help is asked for.
     pub helps: bool,
@@ -99,7 +112,10 @@ pub struct Parted<'w> {
 
 impl<'w> Parted<'w> {
     /// Nothing was given.
-    fn new(alloc: Global) -> Parted<'w> {
+    fn new(alloc: Global) -> Parted<'w>
+        ensures names { texts result.names ≡ [] }
+        ensures helps { result.helps ≡ false }
+    {
         Parted {
             columns: None,
             delimiter: None,
@@ -108,19 +124,47 @@ impl<'w> Parted<'w> {
             workers: None,
             rows: None,
             format: None,
+            order: None,
+            limit: None,
             trims: false,
             helps: false,
             names: Vec::new(alloc),
         }
     }
 
-    /// Takes the value of an option, which stands in this word.
-    fn take(
+    /// Takes words that are names.
+    fn take_names(&mut self, words: &'w [String]) -> Result<(), OptionFault<'w>>
+        ensures names { OnOk result (texts self.new.names ≡ texts self.old.names ++ map string_bytes words.entry.now) }
+        ensures helps { OnOk result (self.new.helps ≡ self.old.helps) }
+    {
+        for word in words {
+            self.names.push(word.as_str())?;
+        }
+        Ok(())
+    }
+
+    /// Takes a word, with the next one where that is its value, and gives what follows.
+    fn take_word(
         &mut self,
-        option: Valued,
         word: &'w str,
-        value: &'w str,
-    ) -> Result<(), OptionFault<'w>> {
+        later: &'w [String],
+    ) -> Result<&'w [String], OptionFault<'w>>
+        ensures { IfOk result (λ rest. TakesWord self.old self.new word.entry.now later.entry.now rest.now) }
+    {
+        match word {
+            "--help" => self.helps = true,
+            "-h" => self.helps = true,
+            "--trim" => self.trims = true,
+            word => return part_word(self, word, later),
+        }
+        Ok(later)
+    }
+
+    /// Takes the value of an option, which stands in this word.
+    fn take(&mut self, option: Valued, word: &'w str, value: &'w str) -> Result<(), OptionFault<'w>>
+        ensures names { self.new.names ≡ self.old.names }
+        ensures helps { self.new.helps ≡ self.old.helps }
+    {
         match option {
             Valued::Columns => put(&mut self.columns, word, value),
             Valued::Delimiter => put(&mut self.delimiter, word, value),
@@ -129,6 +173,8 @@ impl<'w> Parted<'w> {
             Valued::Workers => put(&mut self.workers, word, value),
             Valued::Rows => put(&mut self.rows, word, value),
             Valued::Format => put(&mut self.format, word, value),
+            Valued::Order => put(&mut self.order, word, value),
+            Valued::Limit => put(&mut self.limit, word, value),
         }
     }
 }
@@ -146,24 +192,20 @@ fn put<'w>(
     Ok(())
 }
 
-/// Parts the words. After the word `--` all are names.
-pub fn part_words<'w>(alloc: Global, words: &'w [String]) -> Result<Parted<'w>, OptionFault<'w>> {
+/// Parts the words. After the word `--` all are names. Help is asked for only where a word asks for it, and the names are some of
+/// the words, in their order.
+pub fn part_words<'w>(alloc: Global, words: &'w [String]) -> Result<Parted<'w>, OptionFault<'w>>
+    ensures names { IfOk result (λ parted. AreAmong (texts parted.names) (map string_bytes words.now)) }
+    ensures help { IfOk result (λ parted. parted.helps ≡ true → asks_for_help (map string_bytes words.now) ≡ true) }
+{
     let mut parted = Parted::new(alloc);
     let mut rest = words;
     while let Some((word, later)) = rest.split_first() {
-        rest = later;
-        match word.as_str() {
-            "--" => {
-                for name in rest {
-                    parted.names.push(name.as_str())?;
-                }
-                return Ok(parted);
-            }
-            "--help" => parted.helps = true,
-            "-h" => parted.helps = true,
-            "--trim" => parted.trims = true,
-            word => rest = part_word(&mut parted, word, later)?,
+        if word.as_str() == "--" {
+            parted.take_names(later)?;
+            return Ok(parted);
         }
+        rest = parted.take_word(word.as_str(), later)?;
     }
     Ok(parted)
 }
@@ -174,7 +216,7 @@ fn part_word<'w>(
     word: &'w str,
     later: &'w [String],
 ) -> Result<&'w [String], OptionFault<'w>>
-    ensures { IfOk result (λ rest. length rest.now ≤ length later.entry.now) }
+    ensures { IfOk result (λ rest. TakesWord parted.old parted.new word.entry.now later.entry.now rest.now) }
 {
     if word.len() < 2 || !word.starts_with('-') {
         parted.names.push(word)?;

@@ -4,7 +4,8 @@ pub const LANGUAGE: &str = "The language of scripts
 
 Each line begins with a word in small letters. An empty line and one that begins with # give nothing.
   table NAME (COLUMN TYPE [KEY], ..)  declares the table: 1 to 16 columns, INT or TEXT, one of them KEY
-  load N N ..       puts the rows of these parts, which are numbered from 1 in the order of the command line
+  load N N ..       puts the rows of these parts, which are numbered from 1 in the order of the command line;
+                    a part of `--part NAME=FILE` may stand there by its NAME
   put RECORD        puts a row, a CSV record; it replaces the row of its key
   delete LITERAL    takes the row of this key out of the draft
   publish           makes the draft the next edition
@@ -44,7 +45,7 @@ Limits: 1,048,576 bytes and 64 parts of a script; of a query 65,536 bytes, 32 it
 
 pub const CHECK: &str = "Looks for faults in a script and its parts, and loads nothing
 
-Usage: olap check SCRIPT [PART]...
+Usage: olap check [--part NAME=FILE]... SCRIPT [PART]...
 
 Each line of the script is read as a run would read it: its command, the text of the table, the record of a
 put, the query of a report. Of each part that a load line lists, all faulty records are told: the first 100 one
@@ -180,7 +181,7 @@ pub const LIMIT: &str = "15 Limit
 
 A limit is passed: of a query 65,536 bytes, 32 items, 32 aggregates in HAVING, 16 columns in one GROUPING, 64
 parentheses open at once; of a `load` 1,099,511,627,776 bytes; of a script 1,048,576 bytes and 64 parts, which
-refuses it as a whole: `line 0 refused 15`.
+refuses it as a whole: `line 0 refused 15`; of a line of a session 1,048,576 bytes.
 
 Example: a report of 33 items.
 ";
@@ -224,9 +225,11 @@ Options:
       --number N       Name of a first column that counts records, as the key
       --null WORD      Word that stands for NULL, beside an empty field
       --trim           Leave out white space at both ends of fields
+      --order LIST     Columns of the answer by which its rows come, as 'SUM(UNITS) desc, REGION'
+      --limit N        Most rows of the answer
       --workers N      Workers, 1 to 64 [default: as many as processors]
       --rows M         Most rows of the table, 1 to 4294967296 [default: 4294967296]
-      --format FORM    Form of the answer, classic, csv, json or table [default: classic]
+      --format FORM    Form of the answer, classic, csv, json or table [default: table on a terminal, else csv]
   -h, --help           Print help
 
 Options may come before, between and after the names, and after the word -- all words are names.
@@ -234,8 +237,9 @@ Options may come before, between and after the names, and after the word -- all 
 Example:
   olap query 'SELECT REGION, COUNT(*), SUM(UNITS) FROM SALES GROUP BY REGION' sales.csv
 
-The answer is that of a report in a script. Standard error says why a query is refused, as `query:8: ..` by its
-columns, or a file, as `sales.csv:5: ..` by its lines.
+The answer is that of a report in a script, without the line of its edition. NULL comes before integers, and these
+before texts. Standard error says why a query is refused, as `query:8: ..` by its columns, or a file, as
+`sales.csv:5: ..` by its lines.
 
 The status is 0 where the answer was written, 1 where the query or a file is refused, 2 where the words are
 refused or a file cannot be read, and 3 where the run ended early.

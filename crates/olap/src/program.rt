@@ -4,6 +4,7 @@ ghost use Rattle.std.specs.Io.Buffered.{writer_buffer, writer_contents};
 ghost use Rattle.std.specs.Io.KnownBytes.{Keeps};
 ghost use Rattle.script.specs.Endings.{BeginsToWrite, Writes};
 ghost use Rattle.script.specs.Givens.{givens_in};
+ghost use Rattle.script.specs.Manners.{in_form};
 ghost use Rattle.script.specs.Hows.{hash_of_choice};
 ghost use Rattle.script.specs.Stops.{HoweverFinished};
 ghost use Rattle.script.specs.Viewers.{IsRunBy, asked_of};
@@ -12,7 +13,7 @@ ghost use Rattle.olap.specs.Programs.{AskForHelp, AskToWrite, IsOutputOf, IsOutp
 
 use crate::close::{NOTHING_RUN, WRITTEN, close_finished};
 use crate::explaining::{Explaining, Told};
-use crate::input::{Folder, Input, Unread, Unreadable, read_input};
+use crate::input::{Folder, Input, Unread, Unreadable, read_named};
 use crate::job::{Job, WordsFault};
 use crate::progress::Progress;
 use crate::tell::{Errors, Renew, Screen};
@@ -21,7 +22,7 @@ use crate::words::job_of;
 use crew::Open;
 use forms::Form;
 use report::Pour;
-use script::{Finish, HashChoice, How, OnRefusal, Setup, Viewing, run_in};
+use script::{Finish, HashChoice, How, Manner, OnRefusal, Setup, Viewing, run_in};
 use std::alloc::Global;
 use std::io::{BufWriter, Read, Write};
 use std::sync::Wait;
@@ -94,7 +95,7 @@ fn run_job<
         let why = Unread::Memory;
         return (cannot_read(Unreadable { name, why }, err), out);
     };
-    match read_input(folder, job, room) {
+    match read_named(alloc, folder, job, room) {
         Ok(input) => run_told(rt, alloc, &errors_of(rt, job), job, &input, out, err),
         Err(unread) => (cannot_read(unread, err), out),
     }
@@ -118,24 +119,25 @@ fn run_told<'a, T: Renew + Sync, W: Write + Drop, E: Write, R: Threads + Wait + 
     err: &mut E,
 ) -> (u8, BufWriter<W>)
     ensures status { (result.0 ≡ 0) ⊎ ((result.0 ≡ 1) ⊎ (result.0 ≡ 3)) }
-    ensures written { result.0 ≡ 0 → Writes (IsRunBy job.now.on_refusal (hash_of_choice job.now.hash) (givens_in job.now.form job.now.how.rows input.now.parts.items) job.now.live input.now.script.items Finish.Through)
+    ensures written { result.0 ≡ 0 → Writes (IsRunBy job.now.on_refusal (hash_of_choice job.now.hash) (givens_in (in_form job.now.form) job.now.how.rows input.now.parts.items) job.now.live input.now.script.items Finish.Through)
         (writer_contents W.contents out) (writer_contents W.contents result.1) }
-    ensures stopped { result.0 ≡ 1 → Writes (IsRunBy job.now.on_refusal (hash_of_choice job.now.hash) (givens_in job.now.form job.now.how.rows input.now.parts.items) job.now.live input.now.script.items Finish.Stopped)
+    ensures stopped { result.0 ≡ 1 → Writes (IsRunBy job.now.on_refusal (hash_of_choice job.now.hash) (givens_in (in_form job.now.form) job.now.how.rows input.now.parts.items) job.now.live input.now.script.items Finish.Stopped)
         (writer_contents W.contents out) (writer_contents W.contents result.1) }
     ensures flushed { (result.0 ≡ 0) ⊎ (result.0 ≡ 1) → writer_buffer result.1 ≡ [] }
-    ensures beginning { BeginsToWrite (HoweverFinished (IsRunBy job.now.on_refusal (hash_of_choice job.now.hash) (givens_in job.now.form job.now.how.rows input.now.parts.items) job.now.live input.now.script.items))
+    ensures beginning { BeginsToWrite (HoweverFinished (IsRunBy job.now.on_refusal (hash_of_choice job.now.hash) (givens_in (in_form job.now.form) job.now.how.rows input.now.parts.items) job.now.live input.now.script.items))
         (writer_contents W.contents out) (writer_contents W.contents result.1) }
 {
     let gate = Telling {
         explaining: Explaining::new(teller, alloc, Told::of_run(job.explains), job, input),
         progress: progress_of(teller, rt, job),
     };
+    let manner = Manner::of(alloc, job.form);
     run_input(
         rt,
         alloc,
         &job.how,
         job.hash,
-        job.form,
+        &manner,
         job.viewing(),
         job.on_refusal,
         input,
@@ -182,12 +184,13 @@ pub fn run_standard_input<I: Read + Drop, W: Write + Drop, E: Write, R: Threads 
     }
     let parts = Vec::new(alloc);
     let input = Input { script, parts };
+    let manner = Manner::of(alloc, Form::Classic);
     run_input(
         rt,
         alloc,
         &How::default(),
         HashChoice::default(),
-        Form::Classic,
+        &manner,
         None,
         OnRefusal::GoesOn,
         &input,
@@ -197,7 +200,7 @@ pub fn run_standard_input<I: Read + Drop, W: Write + Drop, E: Write, R: Threads 
     )
 }
 
-/// Runs the script over the parts in a form, with viewers beside it where there are some, flushes what it wrote, and gives the program's
+/// Runs the script over the parts, tells its answers in this manner, with viewers beside it where there are some, flushes what it wrote, and gives the program's
 /// status and the writer back: 0 where the output was written whole, 1 where the run stopped after a refused line, and none of
 /// what it wrote waits in the buffer; and 3 where a beginning of it was written, and why it ended is on `err`. The gate is told of
 /// the run's steps, and of its end before that is told on `err`. The memory of the run's table is left to the system.
@@ -206,7 +209,7 @@ pub fn run_input<'a, G: Ending, W: Write + Drop, E: Write, R: Threads + Wait + S
     alloc: Global,
     how: &'a How,
     hash: HashChoice,
-    form: Form,
+    manner: &'a Manner,
     viewing: Option<Viewing<&'a str>>,
     on_refusal: OnRefusal,
     input: &'a Input,
@@ -215,12 +218,12 @@ pub fn run_input<'a, G: Ending, W: Write + Drop, E: Write, R: Threads + Wait + S
     err: &mut E,
 ) -> (u8, BufWriter<W>)
     ensures status { (result.0 ≡ 0) ⊎ ((result.0 ≡ 1) ⊎ (result.0 ≡ 3)) }
-    ensures written { result.0 ≡ 0 → Writes (IsRunBy on_refusal (hash_of_choice hash) (givens_in form how.now.rows input.now.parts.items) (asked_of viewing.entry) input.now.script.items Finish.Through)
+    ensures written { result.0 ≡ 0 → Writes (IsRunBy on_refusal (hash_of_choice hash) (givens_in manner.now how.now.rows input.now.parts.items) (asked_of viewing.entry) input.now.script.items Finish.Through)
         (writer_contents W.contents out) (writer_contents W.contents result.1) }
-    ensures stopped { result.0 ≡ 1 → Writes (IsRunBy on_refusal (hash_of_choice hash) (givens_in form how.now.rows input.now.parts.items) (asked_of viewing.entry) input.now.script.items Finish.Stopped)
+    ensures stopped { result.0 ≡ 1 → Writes (IsRunBy on_refusal (hash_of_choice hash) (givens_in manner.now how.now.rows input.now.parts.items) (asked_of viewing.entry) input.now.script.items Finish.Stopped)
         (writer_contents W.contents out) (writer_contents W.contents result.1) }
     ensures flushed { (result.0 ≡ 0) ⊎ (result.0 ≡ 1) → writer_buffer result.1 ≡ [] }
-    ensures beginning { BeginsToWrite (HoweverFinished (IsRunBy on_refusal (hash_of_choice hash) (givens_in form how.now.rows input.now.parts.items) (asked_of viewing.entry) input.now.script.items))
+    ensures beginning { BeginsToWrite (HoweverFinished (IsRunBy on_refusal (hash_of_choice hash) (givens_in manner.now how.now.rows input.now.parts.items) (asked_of viewing.entry) input.now.script.items))
         (writer_contents W.contents out) (writer_contents W.contents result.1) }
     ensures quiet { result.0 ≡ 0 → err.new ≡ err.old }
 {
@@ -234,7 +237,7 @@ pub fn run_input<'a, G: Ending, W: Write + Drop, E: Write, R: Threads + Wait + S
         on_refusal,
         gate,
     };
-    let ended = run_in(&setup, form, hash, input.script.as_slice(), &mut pour);
+    let ended = run_in(&setup, manner, hash, input.script.as_slice(), &mut pour);
     let mut out = pour.into_inner();
     gate.ended();
     let status = close_finished(ended, &mut out, err);
@@ -251,7 +254,7 @@ pub fn cannot_read<E: Write>(unread: Unreadable<'_>, err: &mut E) -> u8
 }
 
 /// Says why the words are refused. Help, which is no refusal, goes to `out`.
-fn refuse<W: Write + Drop, E: Write>(
+pub(crate) fn refuse<W: Write + Drop, E: Write>(
     fault: &WordsFault,
     mut out: BufWriter<W>,
     err: &mut E,

@@ -1,14 +1,18 @@
 //! What `query` and `schema` are asked, from their words.
-ghost use Rattle.std.specs.Prelude.{IfOk, IfSome};
+ghost use Rattle.std.specs.Prelude.{◌≡◌, ◌∷◌, IfOk, IfSome, false, if◌then◌else◌, map};
+ghost use Rattle.olap.specs.Options.{texts};
+ghost use Rattle.forms.specs.declared.form.Form.TheVariants.{Csv, Table};
 ghost use Rattle.script.specs.Limits.{IsWithin};
 
 use crate::job::Setting;
 use crate::options::{OptionFault, Parted};
-use crate::words::form;
+use crate::ordering::arrangement_of;
+use crate::tell::Screen;
 use cells::{Text, whole_number_of};
 use forms::Form;
 use prepare::{Chosen, ListFault, listed_columns, name_of};
-use script::{DEPTH, How, Limits, MAX_PARTS, ROWS, SMALL, WORKERS};
+use report::Arrangement;
+use script::{DEPTH, How, Limits, MAX_PARTS, Manner, ROWS, SMALL, WORKERS};
 use std::alloc::Global;
 use std::thread::{Threads, available_parallelism};
 use trie::Cutting;
@@ -17,14 +21,14 @@ use trie::Cutting;
 const WORKERS_UNTOLD: u64 = 4;
 
 /// One query of files.
-#[derive(Debug, Drop)]
+#[derive(Drop)]
 pub struct Question<'w> {
     pub query: &'w str,
     /// The files, of which there is one at least.
     pub names: Vec<Text>,
     pub how: How,
-    /// The form of the answer.
-    pub form: Form,
+    /// How the answer is told: in a form, and without a heading of its block.
+    pub manner: Manner,
 }
 
 /// A file whose table is wanted.
@@ -131,11 +135,14 @@ fn number_in<'w>(
 }
 
 /// The question of `query`, from its words, which are the query, and then the files; and what is chosen of these.
-pub fn question_of<'w, R: Threads>(
+pub fn question_of<'w, R: Threads + Screen>(
     rt: &R,
     alloc: Global,
     parted: &Parted<'w>,
-) -> Result<(Question<'w>, Wanted), OptionFault<'w>> {
+) -> Result<(Question<'w>, Wanted), OptionFault<'w>>
+    ensures words { IfOk result (λ asked. asked.0.query.now ∷ asked.0.names.items ≡ texts parted.now.names) }
+    ensures bare { IfOk result (λ asked. asked.0.manner.heads ≡ false) }
+{
     let Some((query, files)) = parted.names.as_slice().split_first() else {
         return Err(OptionFault::NoQuery);
     };
@@ -150,19 +157,48 @@ pub fn question_of<'w, R: Threads>(
     }
     let wanted = wanted_of(alloc, parted)?;
     let how = how(rt, parted)?;
-    let Some(form) = form(parted.format) else {
-        return Err(OptionFault::OutOfRange(Setting::Form));
-    };
+    let arrangement = arrangement_of(alloc, query, parted.order, parted.limit)?;
+    let manner = manner_of(rt, parted.format, arrangement)?;
     let names = owned(alloc, files)?;
     Ok((
         Question {
             query,
             names,
             how,
-            form,
+            manner,
         },
         wanted,
     ))
+}
+
+/// How an answer is told whose form a word names, without a heading: without a word, as a table where standard output is a terminal,
+/// else as CSV.
+fn manner_of<'w, R: Screen>(
+    rt: &R,
+    word: Option<&'w str>,
+    arrangement: Arrangement,
+) -> Result<Manner, OptionFault<'w>>
+    ensures { IfOk result (λ manner. manner.heads ≡ false) }
+{
+    let form = match word {
+        Some(word) => match Form::of_word(word) {
+            Some(form) => form,
+            None => return Err(OptionFault::OutOfRange(Setting::Form)),
+        },
+        None => form_for(rt.shows_output()),
+    };
+    Ok(Manner {
+        form,
+        heads: false,
+        arrangement,
+    })
+}
+
+/// The form of an answer of which nothing is said, by whether somebody looks at it.
+fn form_for(is_shown: bool) -> Form
+    ensures { result ≡ (if is_shown then Table else Csv) }
+{
+    if is_shown { Form::Table } else { Form::Csv }
 }
 
 /// The question of `schema`, from its words: one file.
@@ -178,6 +214,12 @@ pub fn schema_question_of<'w>(
     }
     if parted.format.is_some() {
         return Err(OptionFault::Unknown("--format"));
+    }
+    if parted.order.is_some() {
+        return Err(OptionFault::Unknown("--order"));
+    }
+    if parted.limit.is_some() {
+        return Err(OptionFault::Unknown("--limit"));
     }
     match parted.names.as_slice() {
         [] => Err(OptionFault::NoFile),
@@ -215,7 +257,9 @@ fn processors<R: Threads>(rt: &R) -> u64
 }
 
 /// Copies of the names.
-fn owned<'w>(alloc: Global, names: &[&str]) -> Result<Vec<Text>, OptionFault<'w>> {
+fn owned<'w>(alloc: Global, names: &[&str]) -> Result<Vec<Text>, OptionFault<'w>>
+    ensures { IfOk result (λ copies. copies.items ≡ map (λ n. n.now) names.now) }
+{
     let mut copies = Vec::new(alloc);
     for name in names {
         copies.push(Text::copied(alloc, name)?)?;

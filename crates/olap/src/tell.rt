@@ -23,6 +23,12 @@ pub trait Renew: Tell {
 pub trait Screen {
     /// Whether standard error goes to a screen, to which standard output does not go.
     fn is_screen(&self) -> bool;
+
+    /// Whether standard output goes to a screen.
+    fn shows_output(&self) -> bool;
+
+    /// Whether standard input comes from a terminal.
+    fn hears_terminal(&self) -> bool;
 }
 
 /// Lines that go to standard error. Nobody may read it any more, so a failure to write changes nothing.

@@ -2,7 +2,7 @@
 
 use crate::written::Written::{self, Int, Null, Text};
 use crate::written::cells_of;
-use cells::{Cell, Fnv, KeyHash, Plain};
+use cells::Cell;
 use columns::CodeColumn;
 use std::alloc::{AllocError, Global};
 use std::test::Fail;
@@ -12,12 +12,8 @@ const NUMBERS: [Written; 6] = [Null, Int(0), Int(-1), Int(1), Int(4_096), Int(i6
 const TEXTS: [Written; 4] = [Null, Text("a"), Text("b"), Text("ab")];
 
 /// How many different codes a column has when both cells were put into it in turn.
-fn different_in_turn<H: KeyHash<Cell>>(
-    alloc: Global,
-    first: &Cell,
-    second: &Cell,
-) -> Result<usize, AllocError> {
-    let mut column: CodeColumn<H> = CodeColumn::new(alloc);
+fn different_in_turn(alloc: Global, first: &Cell, second: &Cell) -> Result<usize, AllocError> {
+    let mut column = CodeColumn::new(alloc);
     for _i in 0..100u64 {
         column.push(first)?;
         column.push(second)?;
@@ -29,14 +25,11 @@ fn different_in_turn<H: KeyHash<Cell>>(
 }
 
 /// The first two of the cells, which all differ, that have other than a code each when they come in turn.
-fn first_coded_again<H: KeyHash<Cell>>(
-    alloc: Global,
-    cells: &[Cell],
-) -> Result<Option<(usize, usize)>, AllocError> {
+fn first_coded_again(alloc: Global, cells: &[Cell]) -> Result<Option<(usize, usize)>, AllocError> {
     for (i, first) in cells.iter().enumerate() {
         for (j, second) in cells.iter().enumerate() {
             let expected = if i == j { 1 } else { 2 };
-            if different_in_turn::<H>(alloc, first, second)? != expected {
+            if different_in_turn(alloc, first, second)? != expected {
                 return Ok(Some((i, j)));
             }
         }
@@ -47,9 +40,7 @@ fn first_coded_again<H: KeyHash<Cell>>(
 #[test]
 fn numbers_in_turn_have_a_code_each(rt: HostRuntime) -> Result<(), Fail> {
     let cells = cells_of(rt.alloc(), NUMBERS.as_slice())?;
-    let found = first_coded_again::<Plain>(rt.alloc(), cells.as_slice())?;
-    assert_eq!(rt; found, None);
-    let found = first_coded_again::<Fnv>(rt.alloc(), cells.as_slice())?;
+    let found = first_coded_again(rt.alloc(), cells.as_slice())?;
     assert_eq!(rt; found, None);
     Ok(())
 }
@@ -57,9 +48,7 @@ fn numbers_in_turn_have_a_code_each(rt: HostRuntime) -> Result<(), Fail> {
 #[test]
 fn texts_in_turn_have_a_code_each(rt: HostRuntime) -> Result<(), Fail> {
     let cells = cells_of(rt.alloc(), TEXTS.as_slice())?;
-    let found = first_coded_again::<Plain>(rt.alloc(), cells.as_slice())?;
-    assert_eq!(rt; found, None);
-    let found = first_coded_again::<Fnv>(rt.alloc(), cells.as_slice())?;
+    let found = first_coded_again(rt.alloc(), cells.as_slice())?;
     assert_eq!(rt; found, None);
     Ok(())
 }
@@ -72,8 +61,8 @@ const FIRST: i64 = 1 << 40;
 
 /// How many different cells the list has of a column into which so many integers were put, and then all of them again; the hints
 /// are forgotten between.
-fn different_of_many<H: KeyHash<Cell>>(alloc: Global) -> Result<usize, AllocError> {
-    let mut column: CodeColumn<H> = CodeColumn::new(alloc);
+fn different_of_many(alloc: Global) -> Result<usize, AllocError> {
+    let mut column = CodeColumn::new(alloc);
     for number in 0..MANY {
         column.push(&Cell::Int(FIRST + number))?;
     }
@@ -86,7 +75,6 @@ fn different_of_many<H: KeyHash<Cell>>(alloc: Global) -> Result<usize, AllocErro
 
 #[test]
 fn many_integers_have_a_code_each(rt: HostRuntime) -> Result<(), Fail> {
-    assert_eq!(rt; different_of_many::<Plain>(rt.alloc())?, 70_000);
-    assert_eq!(rt; different_of_many::<Fnv>(rt.alloc())?, 70_000);
+    assert_eq!(rt; different_of_many(rt.alloc())?, 70_000);
     Ok(())
 }

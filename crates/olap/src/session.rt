@@ -1,0 +1,179 @@
+//! The command `session`: its words, its parts, and what it tells on a terminal.
+ghost use Rattle.std.specs.Prelude.{◌≡◌, ◌⊎◌, map, string_bytes};
+ghost use Rattle.std.specs.Io.Buffered.{writer_contents};
+ghost use Rattle.std.specs.Io.KnownBytes.{Keeps};
+ghost use Rattle.script.specs.Endings.{BeginsToWrite, Writes};
+ghost use Rattle.script.specs.Givens.{givens_in};
+ghost use Rattle.script.specs.Hows.{hash_of_choice};
+ghost use Rattle.script.specs.declared.finish.Finish.TheVariants.{Stopped, Through};
+ghost use Rattle.olap.specs.Talks.{AskForSessionHelp, AskToTalk, IsOfJob, IsTalk, IsTalkSoFar};
+
+use crate::ask::read_files;
+use crate::close::{NOTHING_RUN, WRITTEN};
+use crate::input::Folder;
+use crate::program::{cannot_read, refuse};
+use crate::session_words::{SessionJob, job_of_words, session_job};
+use crate::talk::{Holding, Prompt, hold};
+use crate::tell::Screen;
+use crew::Gate;
+use script::{MAX_PARTS, Manner};
+use std::alloc::Global;
+use std::io::{BufWriter, Read, Write};
+use std::sync::Wait;
+use std::thread::Threads;
+
+/// Holds the session that the words after `session` ask for, over the parts that they name and the lines of the input, and
+/// gives the program's status and the writer back. What the session writes goes to `out`, and so does help; why there is none,
+/// or why it ended early, goes to `err`.
+///
+/// At 0 all lines of the input were answered, or help was asked for; at 1 a strict session has ended after a refused line; at 2
+/// no line was read, since the words are refused, there are too many parts, or one can't be read; at 3 the session ended early.
+/// Where standard input is a terminal, the standard error of `rt` has a prompt before each line, and tells of each publish.
+pub fn converse<
+    F: Folder,
+    I: Read + Drop,
+    W: Write + Drop,
+    E: Write,
+    R: Threads + Wait + Sync + Eprint + Screen,
+>(
+    rt: &R,
+    alloc: Global,
+    words: &[String],
+    folder: &F,
+    input: I,
+    out: BufWriter<W>,
+    err: &mut E,
+) -> (u8, BufWriter<W>)
+    ensures status { (result.0 ≡ 0) ⊎ ((result.0 ≡ 1) ⊎ ((result.0 ≡ 2) ⊎ (result.0 ≡ 3))) }
+    ensures written { result.0 ≡ 0 → AskForSessionHelp (map string_bytes words.now)
+        ⊎ Writes (AskToTalk (F.file folder.now) (map string_bytes words.now) (IsTalk (I.remaining input) Through)) (writer_contents W.contents out) (writer_contents W.contents result.1) }
+    ensures stopped { result.0 ≡ 1 → Writes (AskToTalk (F.file folder.now) (map string_bytes words.now) (IsTalk (I.remaining input) Stopped)) (writer_contents W.contents out) (writer_contents W.contents result.1) }
+    ensures nothing { result.0 ≡ 2 → Keeps (writer_contents W.contents out) (writer_contents W.contents result.1) }
+    ensures beginning { result.0 ≡ 3 → BeginsToWrite (AskToTalk (F.file folder.now) (map string_bytes words.now) (IsTalkSoFar (I.remaining input))) (writer_contents W.contents out) (writer_contents W.contents result.1) }
+{
+    match session_job(alloc, words) {
+        Ok(job) => with_parts(rt, alloc, &job, folder, input, out, err),
+        Err(fault) => refuse(&fault, out, err),
+    }
+}
+
+/// Shows help of sessions, and gives the program's status.
+pub fn show_help<W: Write + Drop, E: Write>(alloc: Global, out: BufWriter<W>, err: &mut E) -> u8
+    ensures { (result ≡ 0) ⊎ (result ≡ 2) }
+{
+    match job_of_words(alloc, &["--help"]) {
+        Ok(_) => WRITTEN,
+        Err(fault) => refuse(&fault, out, err).0,
+    }
+}
+
+/// Reads the parts of a session, and holds it.
+fn with_parts<
+    F: Folder,
+    I: Read + Drop,
+    W: Write + Drop,
+    E: Write,
+    R: Threads + Wait + Sync + Eprint + Screen,
+>(
+    rt: &R,
+    alloc: Global,
+    job: &SessionJob,
+    folder: &F,
+    input: I,
+    out: BufWriter<W>,
+    err: &mut E,
+) -> (u8, BufWriter<W>)
+    ensures status { (result.0 ≡ 0) ⊎ ((result.0 ≡ 1) ⊎ ((result.0 ≡ 2) ⊎ (result.0 ≡ 3))) }
+    ensures written { result.0 ≡ 0 → Writes (IsOfJob (F.file folder.now) job.now (IsTalk (I.remaining input) Through)) (writer_contents W.contents out) (writer_contents W.contents result.1) }
+    ensures stopped { result.0 ≡ 1 → Writes (IsOfJob (F.file folder.now) job.now (IsTalk (I.remaining input) Stopped)) (writer_contents W.contents out) (writer_contents W.contents result.1) }
+    ensures nothing { result.0 ≡ 2 → Keeps (writer_contents W.contents out) (writer_contents W.contents result.1) }
+    ensures beginning { result.0 ≡ 3 → BeginsToWrite (IsOfJob (F.file folder.now) job.now (IsTalkSoFar (I.remaining input))) (writer_contents W.contents out) (writer_contents W.contents result.1) }
+{
+    if job.parts.len() > MAX_PARTS {
+        return (refuse_parts(job.parts.len(), err), out);
+    }
+    let parts = match read_files(alloc, folder, job.parts.as_slice()) {
+        Ok(parts) => parts,
+        Err(unread) => return (cannot_read(unread, err), out),
+    };
+    let gate = Prompting {
+        rt,
+        prompts: rt.hears_terminal(),
+    };
+    let manner = Manner::of(alloc, job.form);
+    hold_job(
+        rt,
+        alloc,
+        job,
+        &manner,
+        parts.as_slice(),
+        &gate,
+        input,
+        out,
+        err,
+    )
+}
+
+/// Holds the session of a job over its parts.
+fn hold_job<'a, I: Read + Drop, W: Write + Drop, E: Write, G: Prompt, R: Threads + Wait + Sync>(
+    rt: &'a R,
+    alloc: Global,
+    job: &'a SessionJob,
+    manner: &'a Manner,
+    parts: &'a [Vec<u8>],
+    gate: &'a G,
+    input: I,
+    out: BufWriter<W>,
+    err: &mut E,
+) -> (u8, BufWriter<W>)
+    ensures status { (result.0 ≡ 0) ⊎ ((result.0 ≡ 1) ⊎ (result.0 ≡ 3)) }
+    ensures written { result.0 ≡ 0 → Writes (IsTalk (I.remaining input) Through (hash_of_choice job.now.hash) (givens_in manner.now job.now.how.rows parts.now) job.now.on_refusal) (writer_contents W.contents out) (writer_contents W.contents result.1) }
+    ensures stopped { result.0 ≡ 1 → Writes (IsTalk (I.remaining input) Stopped (hash_of_choice job.now.hash) (givens_in manner.now job.now.how.rows parts.now) job.now.on_refusal) (writer_contents W.contents out) (writer_contents W.contents result.1) }
+    ensures beginning { result.0 ≡ 3 → BeginsToWrite (IsTalkSoFar (I.remaining input) (hash_of_choice job.now.hash) (givens_in manner.now job.now.how.rows parts.now) job.now.on_refusal) (writer_contents W.contents out) (writer_contents W.contents result.1) }
+{
+    let holding = Holding {
+        rt,
+        alloc,
+        how: &job.how,
+        parts,
+        manner,
+        on_refusal: job.on_refusal,
+        gate,
+    };
+    hold(&holding, job.hash, input, out, err)
+}
+
+/// Says that there are too many parts.
+fn refuse_parts<E: Write>(count: usize, err: &mut E) -> u8
+    ensures { result ≡ 2 }
+{
+    let _ = write!(
+        err,
+        "error: at most {most} parts are read, and {count} were given\n\nFor more information, try '--help'.\n",
+        most = MAX_PARTS
+    );
+    NOTHING_RUN
+}
+
+/// What a session tells of itself on standard error: nothing, unless it talks with somebody at a terminal.
+#[derive(Drop)]
+struct Prompting<'r, R> {
+    rt: &'r R,
+    prompts: bool,
+}
+
+impl<'r, R: Eprint + Sync> Gate for Prompting<'r, R> {
+    fn published(&self, edition: u64) {
+        if self.prompts {
+            let _ = self.rt.eprintln(format_args!("olap: edition {edition}"));
+        }
+    }
+}
+
+impl<'r, R: Eprint + Sync> Prompt for Prompting<'r, R> {
+    fn ask(&self) {
+        if self.prompts {
+            let _ = self.rt.eprint("olap> ");
+        }
+    }
+}
