@@ -1,6 +1,8 @@
 """`olap query` and `olap schema`: one question of CSV files as other tools write them, the table that is proposed for them, and
 what is said where a file, a query or a word is refused."""
 
+import re
+
 from cases.manual import NAMES
 from cases.table import Case, Text
 
@@ -12,9 +14,21 @@ BY_REGION = "SELECT REGION, COUNT(*), SUM(UNITS) FROM SALES GROUP BY REGION"
 TABLE = "table SALES (ID INT KEY, REGION TEXT, UNITS INT)\n"
 
 
-def answer(*rows):
-    """What a query writes that is answered."""
-    return "\n".join(["line 4 edition 1", *rows, ""])
+def in_csv(cell):
+    """The field of a value that is spelt as in the classic form."""
+    if cell == "NULL":
+        return ""
+    if not cell.startswith("'"):
+        return cell
+    text = cell[1:-1].replace("''", "'")
+    return '"' + text.replace('"', '""') + '"' if re.search('[",\r\n]', text) else text
+
+
+def answer(heading, *rows):
+    """What a query writes that is answered: CSV, of the heading and the rows as the classic form spells them."""
+    lines = [",".join(f'"{name}"' for name in heading.split(" | "))]
+    lines += [",".join(map(in_csv, row.split(" | "))) or '""' for row in rows]
+    return "\n".join([*lines, ""])
 
 
 def query(title, files, text, rows, options=()):
@@ -37,16 +51,30 @@ def fault(title, files, errors, options=(), text="SELECT COUNT(*) FROM SALES", o
     return Case(f"query: {title}", ["query", *options, text, *files], dict(files), output=output, errors=errors, status=status)
 
 
-def refused(number, text, place, why):
+def text_at(field):
+    """What is told of the first field of the regions, which makes them texts."""
+    return f"sales.csv:2: REGION is text here: '{field}'\n"
+
+
+def refused(number, text, place, why, more=""):
     """A query that is refused by the run for this reason; `place` is where the fault is, as a query's text before it, or None."""
-    at = "" if place is None else f":{text.index(place) + 1}"
-    errors = f"query{at}: {why} ({number} {NAMES[number]})\n{STOPPED}"
-    return fault(text, {"sales.csv": SALES}, errors, text=text, output=f"line 4 refused {number}\n")
+    at = "" if place is None else f":{text.rindex(place) + 1}"
+    errors = f"query{at}: {why} ({number} {NAMES[number]})\n{more}{STOPPED}"
+    return fault(text, {"sales.csv": SALES}, errors, text=text, output=f"line,4,refused,{number},{NAMES[number]}\n")
 
 
 def words(title, command, given, why):
     """Words that are refused."""
     return Case(f"{command}: {title}", [command, *given], {"sales.csv": SALES}, errors=f"error: {why}{MORE.format(command)}", status=2)
+
+
+def typed(title, text, line, field, more=None):
+    """A sum of a column that a field makes one of texts, in the last of the files; None: the field is not shown."""
+    files = {"sales.csv": text, **(more or {})}
+    shown = "" if field is None else f": '{field}'"
+    where = f"{list(files)[-1]}:{line}: AMOUNT is text here{shown}\n"
+    why = f"query:12: AMOUNT: a column of texts has no sum (13 WrongType)\n{where}{STOPPED}"
+    return fault(title, files, why, text="SELECT SUM(AMOUNT) FROM SALES", output="line,4,refused,13,WrongType\n")
 
 
 FORTY = ",".join(f"c{number}" for number in range(1, 41)) + "\n" + "".join(
@@ -59,12 +87,11 @@ def form(word, *lines):
 
 
 FORMS = [
-    form("classic", "line 4 edition 1", "REGION | COUNT(*) | SUM(UNITS)", "NULL | 1 | 5", "'north' | 2 | 10", "'south' | 1 | -2"),
-    form("csv", "line,4,edition,1", '"REGION","COUNT(*)","SUM(UNITS)"', ",1,5", "north,2,10", "south,1,-2"),
-    form("json", '{"line":4,"edition":1,"columns":["REGION","COUNT(*)","SUM(UNITS)"],"rows":[[null,1,5],["north",2,10],["south",1,-2]]}'),
+    form("classic", "REGION | COUNT(*) | SUM(UNITS)", "NULL | 1 | 5", "'north' | 2 | 10", "'south' | 1 | -2"),
+    form("csv", '"REGION","COUNT(*)","SUM(UNITS)"', ",1,5", "north,2,10", "south,1,-2"),
+    form("json", '{"columns":["REGION","COUNT(*)","SUM(UNITS)"],"rows":[[null,1,5],["north",2,10],["south",1,-2]]}'),
     form(
         "table",
-        "line 4 edition 1",
         "REGION  COUNT(*)  SUM(UNITS)",
         "------  --------  ----------",
         "NULL           1           5",
@@ -220,7 +247,7 @@ LATIN = b"id,city\n1,K\xf6ln\n"
 LONG = "x" * 1025
 
 FAULTS = [
-    fault("a bad number in line 5, which makes a column of texts", {"sales.csv": "id,units\n1,2\n2,3\n3,4\n4,5x\n"}, f"query:12: UNITS: a column of texts has no sum (13 WrongType)\n{STOPPED}", text="SELECT SUM(UNITS) FROM SALES", output="line 4 refused 13\n"),
+    fault("a bad number in line 5, which makes a column of texts", {"sales.csv": "id,units\n1,2\n2,3\n3,4\n4,5x\n"}, f"query:12: UNITS: a column of texts has no sum (13 WrongType)\nsales.csv:5: UNITS is text here: '5x'\n{STOPPED}", text="SELECT SUM(UNITS) FROM SALES", output="line,4,refused,13,WrongType\n"),
     fault("a record with a field less", {"sales.csv": 'id,note\n1,"a\nb"\n\n2\n'}, "sales.csv:5: record 2 has 1 fields, and the header 2\n"),
     fault("no header", {"sales.csv": ""}, "sales.csv:1: there is no header\n"),
     fault("no header in the second file", {"a.csv": "id\n1\n", "b.csv": "\n\n"}, "b.csv:1: there is no header\n"),
@@ -232,9 +259,9 @@ FAULTS = [
     fault("16 columns and one that counts", {"wide.csv": FORTY}, "wide.csv:1: 17 columns are wanted, and a table has 16 at most; --columns chooses some\n", ["--number", "N", "--columns", ",".join(f"c{number}" for number in range(1, 17))]),
     fault("16 columns without a key", {"wide.csv": ",".join("abcdefghijklmnop") + "\n" + ",".join("1" * 16) + "\n" + ",".join("1" * 16) + "\n"}, "wide.csv:1: no column is a key, and 16 columns leave no room for one that counts records; --columns chooses some\n"),
     fault("a counted column of the name of another", {"sales.csv": SALES}, "sales.csv:1: a column makes the name ID, and --number needs another one\n", ["--number", "id"]),
-    fault("a text in another coding", {"sales.csv": LATIN}, Text(begins="sales.csv:2: record 1, column CITY: "), output="line 2 refused 6 part 1 record 1\n"),
-    fault("a text that is too long", {"sales.csv": f'\nid;"the\nname"\n1;{LONG}\n'}, Text(begins="sales.csv:4: record 1, column THE_NAME: "), ["--delimiter", ";"], output="line 2 refused 6 part 1 record 1\n"),
-    fault("more rows than are allowed", {"sales.csv": SALES}, f"olap: the draft would have more rows than --rows allows (9 TooManyRows)\n{STOPPED}", ["--rows", "3"], output="line 2 refused 9\n"),
+    fault("a text in another coding", {"sales.csv": LATIN}, Text(begins="sales.csv:2: record 1, column CITY: "), output="line,2,refused,6,BadPart,part,1,record,1\n"),
+    fault("a text that is too long", {"sales.csv": f'\nid;"the\nname"\n1;{LONG}\n'}, Text(begins="sales.csv:4: record 1, column THE_NAME: "), ["--delimiter", ";"], output="line,2,refused,6,BadPart,part,1,record,1\n"),
+    fault("more rows than are allowed", {"sales.csv": SALES}, f"olap: the draft would have more rows than --rows allows (9 TooManyRows)\n{STOPPED}", ["--rows", "3"], output="line,2,refused,9,TooManyRows\n"),
     Case("query: a file that is not there", ["query", "SELECT COUNT(*) FROM T", "gone.csv"], errors="olap: cannot read gone.csv: no such file\n", status=2),
     Case("schema: a folder", ["schema", "room"], {"room": None}, errors="olap: cannot read room: it is a folder\n", status=2),
     refused(10, "SELECT COUNT(*) FROM SALES;", ";", ";: no semicolon stands at the end"),
@@ -242,7 +269,16 @@ FAULTS = [
     refused(11, "SELECT COUNT(*) FROM SALE", "SALE", "SALE: the table is SALES"),
     refused(11, "SELECT SUM(UNIT) FROM SALES", "UNIT", "UNIT: no column of the table, in the select list"),
     refused(12, "SELECT REGION FROM SALES", "REGION", "REGION: in no grouping set, though it stands in the select list"),
-    refused(13, "SELECT SUM(REGION) FROM SALES", "REGION", "REGION: a column of texts has no sum"),
+    refused(13, "SELECT SUM(REGION) FROM SALES", "REGION", "REGION: a column of texts has no sum", text_at("north")),
+    refused(13, "SELECT COUNT(*) FROM SALES WHERE UNITS > 1 AND REGION < 7", "7", "7: an integer is compared with a text", text_at("north")),
+    refused(13, "SELECT COUNT(*) FROM SALES WHERE 7 < REGION", "REGION", "REGION: a text is compared with an integer", text_at("north")),
+    refused(13, "SELECT COUNT(*) FROM SALES WHERE UNITS = '7'", "'7'", "'7': a text is compared with an integer"),
+    typed("a number with a comma", "id,amount\n1,7\n2,\n3,\"12,50\"\n4,x\n", 4, "12,50"),
+    typed("the first text in the second file", "id,amount\n1,7\n", 3, "+5", {"more.csv": "amount,id\n-3,2\n+5,3\n"}),
+    typed("a text after records on several lines", 'note,amount\n"a\nb",1\n\n"c",1.5\n', 5, "1.5"),
+    typed("a text with a line end", 'id,amount\n1,"a\nb"\n', 2, None),
+    typed("a long text", f"id,amount\n1,{'x' * 61}\n", 2, None),
+    typed("a text of 60 bytes", f"id,amount\n1,{'x' * 60}\n", 2, "x" * 60),
     Case("schema: 40 columns", ["schema", "wide.csv"], {"wide.csv": FORTY}, errors="wide.csv:1: the header has 40 columns, and a table 16 at most; --columns chooses some\n", status=1),
 ]
 
@@ -280,4 +316,62 @@ WORDS = [
     Case("help tells of query and schema", ["--help"], output=Text(has="\n  olap query 'SELECT ..' FILE...  answers ")),
 ]
 
-CASES = [*FILES, *FORMS, *FAULTS, *WORDS]
+HEADER = "REGION | COUNT(*) | SUM(UNITS)"
+NONE, NORTH, SOUTH = "NULL | 1 | 5", "'north' | 2 | 10", "'south' | 1 | -2"
+LACKS = "'--order' names what is no column of the answer: {}"
+NO_ORDER = "'--order' takes columns of the answer, as its header names them, with commas between them, and asc or desc after each that wants it: {}"
+PLACES = "K,A,B\n1,x,1\n2,x,\n3,y,1\n"
+BY_BOTH = "SELECT GROUPING(A, B), COUNT(DISTINCT K) FROM PLACES GROUP BY CUBE(A, B)"
+
+
+def ordered(options, rows):
+    """The query by regions, whose rows come so."""
+    return query(f"rows by {' '.join(options)}", {"sales.csv": SALES}, BY_REGION, [HEADER, *rows], options)
+
+
+ORDERS = [
+    ordered(["--order", "SUM(UNITS) desc"], [NORTH, NONE, SOUTH]),
+    ordered(["--order=sum( units ) ASC"], [SOUTH, NONE, NORTH]),
+    ordered(["--order", "REGION desc"], [SOUTH, NORTH, NONE]),
+    ordered(["--order", "COUNT(*)"], [NONE, SOUTH, NORTH]),
+    ordered(["--order", "COUNT(*),region desc"], [SOUTH, NONE, NORTH]),
+    ordered(["--order", "COUNT(*) desc , SUM(UNITS)"], [NORTH, SOUTH, NONE]),
+    ordered(["--order", "REGION,REGION desc"], [NONE, NORTH, SOUTH]),
+    ordered(["--limit", "2"], [NONE, NORTH]),
+    ordered(["--order", "SUM(UNITS)", "--limit", "1"], [SOUTH]),
+    ordered(["--limit", "0"], []),
+    ordered(["--limit", "007"], [NONE, NORTH, SOUTH]),
+    query(
+        "an order by GROUPING of two columns and different values",
+        {"places.csv": PLACES},
+        BY_BOTH,
+        ["GROUPING(A, B) | COUNT(DISTINCT K)", "3 | 3", "2 | 2", "2 | 1", "1 | 2", "1 | 1", "0 | 1", "0 | 1", "0 | 1"],
+        ["--order", "grouping(a,b) desc, count(distinct k) desc"],
+    ),
+    Case(
+        "query: rows by a sum, in JSON",
+        ["query", "--format", "json", "--order", "SUM(UNITS) desc", "--limit", "1", BY_REGION, "sales.csv"],
+        {"sales.csv": SALES},
+        output='{"columns":["REGION","COUNT(*)","SUM(UNITS)"],"rows":[["north",2,10]]}\n',
+    ),
+    *[words(f"an order by {text!r}", "query", ["--order", text, BY_REGION, "sales.csv"], LACKS.format(text)) for text in ("UNITS", "REGION, sum(id)", "COUNT(REGION)")],
+    *[
+        words(f"an order by {text!r}", "query", ["--order", text, BY_REGION, "sales.csv"], NO_ORDER.format(text))
+        for text in ("", ",", "REGION,", "REGION up", "REGION desc asc", "'REGION'", "1", "REGION; COUNT(*)", "REGION = 1", "REGION desc (")
+    ],
+    *[words(f"a limit of {text!r}", "query", ["--limit", text, BY_REGION, "sales.csv"], f"'--limit' takes a number of rows: {text}") for text in ("", "-1", "x", "18446744073709551616")],
+    words("an order of a schema", "schema", ["--order", "A", "sales.csv"], "there is no option '--order'"),
+    words("a limit of a schema", "schema", ["--limit", "1", "sales.csv"], "there is no option '--limit'"),
+]
+
+CASES = [*FILES, *FORMS, *FAULTS, *WORDS, *ORDERS]
+
+# Where standard output is a terminal, the answer is a table; what is looked at is what the terminal shows.
+ON_SCREEN = [
+    Case(
+        "query: on a terminal",
+        ["query", BY_REGION, "sales.csv"],
+        {"sales.csv": SALES},
+        errors="REGION  COUNT(*)  SUM(UNITS)\r\n------  --------  ----------\r\nNULL           1           5\r\nnorth          2          10\r\nsouth          1          -2\r\n",
+    ),
+]
