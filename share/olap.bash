@@ -2,10 +2,10 @@
 
 _olap() {
     local word=${COMP_WORDS[COMP_CWORD]} before=${COMP_WORDS[COMP_CWORD - 1]} place
-    local options="--workers --depth --small --hash --rows --format --strict --explain --progress --help"
+    local options="--workers --depth --small --hash --rows --format --strict --explain --progress --part --help"
     COMPREPLY=()
     if ((COMP_CWORD == 1)); then
-        mapfile -t COMPREPLY < <(compgen -W "run live query schema check help --help --version" -- "$word")
+        mapfile -t COMPREPLY < <(compgen -W "run live session query schema check help --help --version" -- "$word")
         return
     fi
     # (the `=` of an option is a word of its own)
@@ -23,19 +23,20 @@ _olap() {
             mapfile -t COMPREPLY < <(compgen -W "classic csv json table" -- "$word")
             return
             ;;
-        --workers | --depth | --small | --rows | --query | --viewers | --shots | --columns | --delimiter | --number | --null)
+        --workers | --depth | --small | --rows | --query | --viewers | --shots | --part | --order | --limit | --columns | --delimiter | --number | --null)
             return
             ;;
     esac
     case ${COMP_WORDS[1]} in
         help)
-            mapfile -t COMPREPLY < <(compgen -W "run live query schema check language $(echo {1..15})" -- "$word")
+            mapfile -t COMPREPLY < <(compgen -W "run live session query schema check language $(echo {1..15})" -- "$word")
             return
             ;;
         live) options+=" --query --viewers --shots" ;;
-        query) options="--columns --delimiter --number --null --trim --workers --rows --format --help" ;;
+        session) options="--workers --depth --small --hash --rows --format --strict --help" ;;
+        query) options="--columns --delimiter --number --null --trim --order --limit --workers --rows --format --help" ;;
         schema) options="--columns --delimiter --number --null --trim --help" ;;
-        check) options="--help" ;;
+        check) options="--part --help" ;;
         run) ;;
         *) return ;;
     esac
