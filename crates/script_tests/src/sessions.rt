@@ -33,7 +33,7 @@ fn is_answered<R: Threads + Wait + Sync>(
         return Ok(false);
     }
     if session.line(REPORT, out)? != Heard::Accepted
-        || out.bytes() != b"line 2 edition 0\nCOUNT(*)\n0\n"
+        || out.bytes() != b"line 2 edition 0\nCOUNT(*)\n0\n".as_slice()
     {
         return Ok(false);
     }
