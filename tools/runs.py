@@ -7,6 +7,7 @@ import pty
 import select
 import subprocess
 import tempfile
+import termios
 
 from cases.table import as_bytes
 
@@ -102,12 +103,14 @@ def held(program, case, first):
 
 def on_screen(program, case):
     """The same where standard error is a screen; where the case says nothing of the output, standard output is the same
-    one."""
+    one, and where it has an input, that is typed there."""
     with tempfile.TemporaryDirectory() as room:
         lay_out(room, case.files)
         screen, terminal = pty.openpty()
         output = subprocess.PIPE if case.output else terminal
-        streams = {"stdin": subprocess.DEVNULL, "stdout": output, "stderr": terminal}
+        streams = {"stdin": terminal if case.given else subprocess.DEVNULL, "stdout": output, "stderr": terminal}
+        if case.given:
+            type_in(screen, terminal, as_bytes(case.files[case.given]))
         ran = subprocess.Popen([program, *case.words], cwd=room, **streams)
         os.close(terminal)
         errors = b""
@@ -120,6 +123,14 @@ def on_screen(program, case):
         os.close(screen)
         output = ran.communicate(timeout=SECONDS)[0] or b""
     return differences(case, ran.returncode, output, errors)
+
+
+def type_in(screen, terminal, text):
+    """Types a text of whole lines and its end at a terminal, which shows nothing of it."""
+    state = termios.tcgetattr(terminal)
+    state[3] &= ~termios.ECHO
+    termios.tcsetattr(terminal, termios.TCSANOW, state)
+    os.write(screen, text + b"\x04")
 
 
 def tables():

@@ -156,3 +156,15 @@ WRITTEN_TO = [
     ends("a full disk, and nothing to write", "\n", "unlimited", "> /dev/full 2> errors", "", "", 0),
     ends("a full disk that nobody reads of", "publish\n", "unlimited", "> /dev/full 2> /dev/full", ""),
 ]
+
+# At a terminal each line is asked for, and each publish is told.
+ON_SCREEN = [
+    Case(
+        "on a terminal",
+        ["session"],
+        {SCRIPT: f"{TABLE}\nput 1\nput 2\npublish\ndelete 1\npublish\n{COUNT}\nput x\n"},
+        SCRIPT,
+        errors="olap> olap> olap> olap> olap: edition 1, rows 2\r\nolap> olap> olap: edition 2, rows 1\r\nolap> "
+        "line 7 edition 2\r\nCOUNT(*)\r\n1\r\nolap> line 8 refused 7\r\nolap> ",
+    ),
+]

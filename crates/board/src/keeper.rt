@@ -217,6 +217,13 @@ impl<H: KeyHash<Cell>> Keeper<H> {
     {
         self.last.edition()
     }
+
+    /// How many rows the last published edition has. It takes no memory.
+    pub fn rows(&self) -> u64
+        ensures { result ≡ map.len (published self.now) }
+    {
+        self.last.root().len()
+    }
 }
 
 /// Whether a draft that keeps the limit still keeps it with a row laid over the key. The key is looked up only where the

@@ -18,9 +18,9 @@ pub trait Gate: Sync {
     /// beside it. Called by the worker that has left it.
     fn laid_out(&self, _piece: u64, _columns: u64) {}
 
-    /// The edition of this number, counted from 1, is the last published one now. Called after each
+    /// The edition of this number, counted from 1, is the last published one now, and has so many rows. Called after each
     /// publish that is accepted, by the thread of the keeper.
-    fn published(&self, _edition: u64) {}
+    fn published(&self, _edition: u64, _rows: u64) {}
 
     /// The viewer of this number, counted from 1, has taken a snapshot of the edition and is about to report on it. Called
     /// by the viewer's thread.

@@ -98,7 +98,7 @@ impl<'a, T: Renew + Sync, C: Clock + Sync> Gate for Progress<'a, T, C> {
         self.renew();
     }
 
-    fn published(&self, edition: u64) {
+    fn published(&self, edition: u64, _rows: u64) {
         self.edition.store(edition, SeqCst);
         self.renew();
     }

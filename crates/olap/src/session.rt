@@ -163,9 +163,11 @@ struct Prompting<'r, R> {
 }
 
 impl<'r, R: Eprint + Sync> Gate for Prompting<'r, R> {
-    fn published(&self, edition: u64) {
+    fn published(&self, edition: u64, rows: u64) {
         if self.prompts {
-            let _ = self.rt.eprintln(format_args!("olap: edition {edition}"));
+            let _ = self
+                .rt
+                .eprintln(format_args!("olap: edition {edition}, rows {rows}"));
         }
     }
 }

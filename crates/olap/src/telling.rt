@@ -31,9 +31,9 @@ impl<'a, T: Renew + Sync, C: Clock + Sync> Gate for Telling<'a, T, C> {
         }
     }
 
-    fn published(&self, edition: u64) {
+    fn published(&self, edition: u64, rows: u64) {
         if let Some(progress) = &self.progress {
-            progress.published(edition);
+            progress.published(edition, rows);
         }
     }
 

@@ -179,6 +179,6 @@ pub fn publish<H: KeyHash<Cell>, G: Gate, R: Wait>(
     if keeper.publish(setup.rt).is_err() {
         return Err(AllocError);
     }
-    setup.gate.published(keeper.edition());
+    setup.gate.published(keeper.edition(), keeper.rows());
     Ok(Vec::new(setup.alloc))
 }

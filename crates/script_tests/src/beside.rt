@@ -49,7 +49,7 @@ impl Until {
 }
 
 impl Gate for Until {
-    fn published(&self, edition: u64) {
+    fn published(&self, edition: u64, _rows: u64) {
         self.published.store(edition, SeqCst);
     }
 
@@ -114,7 +114,7 @@ impl Held {
 }
 
 impl Gate for Held {
-    fn published(&self, edition: u64) {
+    fn published(&self, edition: u64, _rows: u64) {
         self.published.store(edition, SeqCst);
     }
 

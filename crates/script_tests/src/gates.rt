@@ -27,7 +27,7 @@ impl Told {
 }
 
 impl Gate for Told {
-    fn published(&self, edition: u64) {
+    fn published(&self, edition: u64, _rows: u64) {
         let before = self.editions.load(SeqCst);
         self.editions
             .store(before.wrapping_mul(10).wrapping_add(edition), SeqCst);

@@ -59,7 +59,7 @@ impl Gate for Read {
         self.columns.fetch_add(columns, SeqCst);
     }
 
-    fn published(&self, edition: u64) {
+    fn published(&self, edition: u64, _rows: u64) {
         self.published.store(edition, SeqCst);
     }
 

@@ -159,7 +159,7 @@ impl Turns {
 }
 
 impl Gate for Turns {
-    fn published(&self, edition: u64) {
+    fn published(&self, edition: u64, _rows: u64) {
         self.published.store(edition, SeqCst);
         self.wait(&self.seen, edition);
     }

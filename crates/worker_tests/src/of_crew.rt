@@ -201,7 +201,7 @@ fn one_place_without_memory(rt: HostRuntime) -> Result<(), Fail> {
 fn pass<G: Gate>(gate: &G) {
     gate.entered(0);
     gate.left(0);
-    gate.published(7);
+    gate.published(7, 1);
     gate.viewing(0, 7);
 }
 
