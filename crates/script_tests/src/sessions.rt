@@ -1,5 +1,7 @@
 //! Sessions, whose lines are answered one by one.
 
+ghost use Rattle.std.specs.Prelude.{◌≡◌};
+
 use crate::runs::CUTTING;
 use cells::Plain;
 use crew::Open;
