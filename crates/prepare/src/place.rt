@@ -9,15 +9,24 @@ use std::alloc::{AllocError, Global};
 pub fn line_of(alloc: Global, file: &[u8], delimiter: u8, number: u64) -> Result<u64, AllocError> {
     let mut records = Records::new(alloc, file, delimiter);
     let mut row = ByteRecord::new(alloc);
+    if read_record(&mut records, &mut row, number)? {
+        return Ok(line_at(file, &row));
+    }
+    Ok(1)
+}
+
+/// Reads the record of this number, where the next is 0, or answers that it is not there.
+fn read_record(
+    records: &mut Records<'_>,
+    row: &mut ByteRecord,
+    number: u64,
+) -> Result<bool, AllocError> {
     for _ in 0..number {
-        if !records.next(&mut row)? {
-            return Ok(1);
+        if !records.next(row)? {
+            return Ok(false);
         }
     }
-    if !records.next(&mut row)? {
-        return Ok(1);
-    }
-    Ok(line_at(file, &row))
+    records.next(row)
 }
 
 /// The line on which a record of these bytes begins. A reader notes where it began to look for the record, so the ends of empty lines

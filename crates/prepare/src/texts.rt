@@ -4,7 +4,7 @@ ghost use Rattle.prepare.specs.Proposals.{fits_int};
 
 use crate::kinds::fits_int;
 use crate::records::Records;
-use crate::rows::field_in;
+use crate::rows::{after_header, field_in};
 use csv::ByteRecord;
 use std::alloc::{AllocError, Global};
 
@@ -21,13 +21,24 @@ pub struct TextField {
 pub fn first_text(alloc: Global, part: &[u8], place: usize) -> Result<Option<TextField>, AllocError>
     ensures { IfOk result (λ found. IfSome found (λ text. fits_int text.field.items ≡ false)) }
 {
-    let mut records = Records::new(alloc, part, b',');
     let mut row = ByteRecord::new(alloc);
-    records.next(&mut row)?;
+    let mut records = after_header(alloc, part, &mut row)?;
+    first_in(alloc, &mut records, &mut row, place)
+}
+
+/// The first such field of these records, which are read into `row`.
+fn first_in(
+    alloc: Global,
+    records: &mut Records<'_>,
+    row: &mut ByteRecord,
+    place: usize,
+) -> Result<Option<TextField>, AllocError>
+    ensures { IfOk result (λ found. IfSome found (λ text. fits_int text.field.items ≡ false)) }
+{
     let mut record = 0u64;
-    while records.next(&mut row)? {
+    while records.next(row)? {
         record = record.saturating_add(1);
-        let field = field_in(&row, place);
+        let field = field_in(row, place);
         if !fits_int(field) {
             let field = field.to_vec(alloc)?;
             return Ok(Some(TextField { record, field }));
