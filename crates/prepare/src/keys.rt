@@ -124,7 +124,11 @@ fn are_keys<V: Value>(alloc: Global, parts: &[Vec<u8>], place: usize) -> Result<
     let mut rows = Rows::new(alloc, parts);
     let mut row = ByteRecord::new(alloc);
     let mut met = HashSet::<V>::new(alloc);
-    are_new(alloc, &mut rows, &mut row, &mut met, place)
+    let are = are_new(alloc, &mut rows, &mut row, &mut met, place);
+    drop(rows);
+    drop(row);
+    drop(met);
+    are
 }
 
 /// Whether that holds of the rows that are left, where no value was met.

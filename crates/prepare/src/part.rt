@@ -3,6 +3,7 @@ ghost use Rattle.std.specs.Prelude.{◌≡◌, ◌++◌, ◌+◌, ◌<◌, ◌^�
 ghost use Rattle.csv.specs.Records.{fields_of};
 ghost use Rattle.csv.specs.Writing.{default_writer, row_text};
 ghost use Rattle.prepare.specs.Files.{records_of};
+ghost use Rattle.prepare.specs.declared.part.MadePart.{MadePart as Part};
 ghost use Rattle.prepare.specs.Parts.{IsFault, IsPart, IsTextAfter, headed, part_of, places_of, records_from, words_of};
 
 use crate::choice::Choice;
@@ -33,7 +34,10 @@ pub fn prepared(alloc: Global, bytes: &[u8], choice: &Choice) -> Result<MadePart
 {
     let mut records = Records::new(alloc, bytes, choice.delimiter);
     let mut row = ByteRecord::new(alloc);
-    part_of(alloc, choice, &mut records, &mut row)
+    let part = part_of(alloc, choice, &mut records, &mut row);
+    drop(records);
+    drop(row);
+    part
 }
 
 /// The part that is made of records, which are read into `row`.
@@ -57,7 +61,9 @@ fn part_of(
         places,
         width: row.len(),
     };
-    with_records(alloc, records, row, &layout, lines)
+    let part = with_records(alloc, records, row, &layout, lines);
+    drop(layout);
+    part
 }
 
 /// The places of the columns in this header, and the header of the part.
@@ -121,6 +127,31 @@ fn with_records(
     ensures text { IfOk result (IsTextAfter lines (records_from layout.now.choice.now layout.now.places.items layout.now.width 1 records.old)) }
     ensures fault { IfErr result (IsFault (records_from layout.now.choice.now layout.now.places.items layout.now.width 1 records.old)) }
 {
+    match write_records(alloc, records, row, layout, &mut lines) {
+        Ok(records) => Ok(MadePart {
+            text: lines.into_text()?,
+            records,
+        }),
+        Err(fault) => {
+            drop(lines);
+            Err(fault)
+        }
+    }
+}
+
+/// Writes the lines of the records that are left, which are numbered from 1 on, and answers how many they are.
+fn write_records(
+    alloc: Global,
+    records: &mut Records<'_>,
+    row: &mut ByteRecord,
+    layout: &Layout<'_>,
+    lines: &mut Lines,
+) -> Result<u64, PrepareFault>
+    requires { length records.old + 1 < 2 ^ 64 }
+    ensures text { IfOk result (λ count. (part : Part) → part.text.items ≡ lines.new → part.records ≡ count →
+        IsTextAfter lines.old (records_from layout.now.choice.now layout.now.places.items layout.now.width 1 records.old) part) }
+    ensures fault { IfErr result (IsFault (records_from layout.now.choice.now layout.now.places.items layout.now.width 1 records.old)) }
+{
     let mut number = 1;
     while records.next(row)? {
         if row.len() != layout.width {
@@ -130,11 +161,8 @@ fn with_records(
                 header: layout.width,
             });
         }
-        layout.write(alloc, &mut lines, number, row)?;
+        layout.write(alloc, lines, number, row)?;
         number += 1;
     }
-    Ok(MadePart {
-        text: lines.into_text()?,
-        records: number - 1,
-    })
+    Ok(number - 1)
 }

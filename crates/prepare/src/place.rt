@@ -9,24 +9,28 @@ use std::alloc::{AllocError, Global};
 pub fn line_of(alloc: Global, file: &[u8], delimiter: u8, number: u64) -> Result<u64, AllocError> {
     let mut records = Records::new(alloc, file, delimiter);
     let mut row = ByteRecord::new(alloc);
-    if read_record(&mut records, &mut row, number)? {
-        return Ok(line_at(file, &row));
-    }
-    Ok(1)
+    let line = line_in(file, &mut records, &mut row, number);
+    drop(records);
+    drop(row);
+    line
 }
 
-/// Reads the record of this number, where the next is 0, or answers that it is not there.
-fn read_record(
+/// The same, where these are the file's records, which are read into `row`.
+fn line_in(
+    file: &[u8],
     records: &mut Records<'_>,
     row: &mut ByteRecord,
     number: u64,
-) -> Result<bool, AllocError> {
+) -> Result<u64, AllocError> {
     for _ in 0..number {
         if !records.next(row)? {
-            return Ok(false);
+            return Ok(1);
         }
     }
-    records.next(row)
+    if !records.next(row)? {
+        return Ok(1);
+    }
+    Ok(line_at(file, row))
 }
 
 /// The line on which a record of these bytes begins. A reader notes where it began to look for the record, so the ends of empty lines

@@ -61,7 +61,7 @@ impl<'a> Rows<'a> {
 
 /// The records of a part without its header, which is read into `row`.
 #[tactic(auto, using(crate::proofs::RowsLemmas::took_header))]
-pub(crate) fn after_header<'a>(
+fn after_header<'a>(
     alloc: Global,
     part: &'a [u8],
     row: &mut ByteRecord,

@@ -4,7 +4,7 @@ ghost use Rattle.prepare.specs.Proposals.{fits_int};
 
 use crate::kinds::fits_int;
 use crate::records::Records;
-use crate::rows::{after_header, field_in};
+use crate::rows::field_in;
 use csv::ByteRecord;
 use std::alloc::{AllocError, Global};
 
@@ -22,11 +22,14 @@ pub fn first_text(alloc: Global, part: &[u8], place: usize) -> Result<Option<Tex
     ensures { IfOk result (λ found. IfSome found (λ text. fits_int text.field.items ≡ false)) }
 {
     let mut row = ByteRecord::new(alloc);
-    let mut records = after_header(alloc, part, &mut row)?;
-    first_in(alloc, &mut records, &mut row, place)
+    let mut records = Records::new(alloc, part, b',');
+    let found = first_in(alloc, &mut records, &mut row, place);
+    drop(records);
+    drop(row);
+    found
 }
 
-/// The first such field of these records, which are read into `row`.
+/// The same, where these are the part's records, which are read into `row`.
 fn first_in(
     alloc: Global,
     records: &mut Records<'_>,
@@ -35,6 +38,7 @@ fn first_in(
 ) -> Result<Option<TextField>, AllocError>
     ensures { IfOk result (λ found. IfSome found (λ text. fits_int text.field.items ≡ false)) }
 {
+    records.next(row)?;
     let mut record = 0u64;
     while records.next(row)? {
         record = record.saturating_add(1);
