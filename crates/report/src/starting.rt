@@ -86,7 +86,8 @@ impl<'a, 's, 'e: 's, R: Threads + Wait + Sync, G: Gate> Starter<'a, 's, 'e, R, G
         ensures edition { IfOk result (λ started. started.handle.promise.edition.value ≡ snapshot) }
         ensures question { IfOk result (λ started. started.handle.promise.question.value ≡ question) }
     {
-        let (has_ended, ended) = unset(self.answering.alloc)?;
+        let flagged = with_flag(self.answering.alloc, (snapshot, question))?;
+        let ((snapshot, question), has_ended, ended) = flagged;
         let handle = self.start_ending(line, snapshot, question, ended)?;
         Ok(Started { handle, has_ended })
     }
@@ -132,11 +133,16 @@ impl<'a, R: Threads + Wait + Sync, G: Gate> Answering<'a, R, G> {
     }
 }
 
-/// A flag that is not set, for two owners.
-fn unset(alloc: Global) -> Result<(Arc<AtomicBool>, Arc<AtomicBool>), AllocError> {
+/// The value, and a flag that is not set, for two owners. It stands over any value, so that letting go of it is one call.
+fn with_flag<T: Drop>(
+    alloc: Global,
+    value: T,
+) -> Result<(T, Arc<AtomicBool>, Arc<AtomicBool>), AllocError>
+    ensures { IfOk result (λ x. x.0 ≡ value) }
+{
     let flag = Arc::new(alloc, AtomicBool::new(false))?;
     let same = Arc::try_clone(&flag)?;
-    Ok((flag, same))
+    Ok((value, flag, same))
 }
 
 /// Starts a thread of the scope for a job that keeps the promise; [`Want::Worker`] where it can't be started. It stands over
