@@ -104,10 +104,61 @@ impl Columns {
             return Ok(self.column_count() as u64);
         };
         let laid = AtomicU64::new(0);
+        self.lay_out_missing(rt, alloc, piece, &kept, &laid)?;
         for place in 0..self.column_count() {
             self.take_kept_at(rt, alloc, place, piece, &kept, &laid)?;
         }
         Ok(laid.load(SeqCst))
+    }
+
+    /// Lays out those of the columns that do not lie beside the piece yet. Several are laid out in one walk, in which each row is
+    /// fetched once for all of them; a single one is left to who takes it. Nothing rests on which are there then.
+    fn lay_out_missing<H: KeyHash<Cell>, R: Wait>(
+        &self,
+        rt: &R,
+        alloc: Global,
+        piece: &RowPiece<H>,
+        kept: &PieceColumns,
+        laid: &AtomicU64,
+    ) -> Result<(), AllocError>
+        requires { ArePlacesFor piece.now kept.now.places.items }
+    {
+        let missing = self.missing(alloc, kept)?;
+        if missing.len() < 2 {
+            return Ok(());
+        }
+        let mut all = Columns::of_named(alloc, missing.as_slice())?;
+        all.take(piece)?;
+        all.put_beside(rt, piece, kept, laid);
+        Ok(())
+    }
+
+    /// The indexes of the columns that do not lie beside the piece yet. Nothing rests on them.
+    fn missing(&self, alloc: Global, kept: &PieceColumns) -> Result<Vec<usize>, AllocError> {
+        let mut missing = Vec::new(alloc);
+        for named in &self.columns {
+            if kept.wants(named.index) {
+                missing.push(named.index)?;
+            }
+        }
+        Ok(missing)
+    }
+
+    /// Puts these columns, which hold the piece's rows, beside the piece, where none are by then.
+    fn put_beside<H: KeyHash<Cell>, R: Wait>(
+        self,
+        rt: &R,
+        piece: &RowPiece<H>,
+        kept: &PieceColumns,
+        laid: &AtomicU64,
+    )
+        requires places { ArePlacesFor piece.now kept.now.places.items }
+        requires held { Hold (rows_of piece.now) self }
+    {
+        for named in self.columns {
+            let NamedColumn { index, column, .. } = named;
+            kept.put(rt, piece, index, column.kept(), laid);
+        }
     }
 
     /// These columns with the rows of other ones of the same table behind their own. A column that the other ones have not is

@@ -1,5 +1,5 @@
 //! The columns that lie beside a piece of a table.
-ghost use Rattle.std.specs.Prelude.{◌≡◌, IfOk, IfSome};
+ghost use Rattle.std.specs.Prelude.{◌≡◌, IfOk, IfSome, None, Some};
 ghost use Rattle.columns.specs.Beside.{ArePlacesFor, IsPlaceFor};
 ghost use Rattle.columns.specs.Columns.{cells_at, cells_of, rows_of};
 
@@ -63,6 +63,42 @@ impl Place {
             index,
             shelf: Shelf::new(alloc, &promise)?,
         })
+    }
+
+    /// Whether it is empty. Nothing rests on it.
+    fn is_empty(&self) -> bool {
+        let nothing = move || -> Option<KeptColumn>
+            ensures { result ≡ None }
+        { None };
+        self.shelf.value_or_make_again(nothing).is_none()
+    }
+
+    /// Puts the column there, unless there is one by then, or it is of another index. `laid` is one more where it is put there.
+    fn put<H: KeyHash<Cell>, R: Wait>(
+        &self,
+        rt: &R,
+        piece: &RowPiece<H>,
+        index: usize,
+        column: KeptColumn,
+        laid: &AtomicU64,
+    )
+        requires place { IsPlaceFor piece.now self.now }
+        requires cells { cells_of column ≡ cells_at index (rows_of piece.now) }
+    {
+        if self.index != index {
+            return;
+        }
+        drop(
+            self.shelf.value_or_make(
+                rt,
+                move || -> Option<KeptColumn>
+                    ensures { result ≡ Some column }
+                {
+                    laid.fetch_add(1, SeqCst);
+                    Some(column)
+                },
+            ),
+        );
     }
 
     /// As of [`PieceColumns::column_or_make`].
@@ -147,6 +183,32 @@ impl PieceColumns {
             places.push(place)?;
         }
         Ok(PieceColumns { places })
+    }
+
+    /// Whether the rows have a column of the index that is not laid out yet. Nothing rests on it.
+    pub(crate) fn wants(&self, index: usize) -> bool {
+        match self.places.get(index) {
+            Some(place) => place.is_empty(),
+            None => false,
+        }
+    }
+
+    /// Puts a column of the index, which has the cells of the piece's rows, beside the piece, unless there is one by then. `laid`
+    /// is one more where it is put there.
+    pub(crate) fn put<H: KeyHash<Cell>, R: Wait>(
+        &self,
+        rt: &R,
+        piece: &RowPiece<H>,
+        index: usize,
+        column: KeptColumn,
+        laid: &AtomicU64,
+    )
+        requires places { ArePlacesFor piece.now self.now.places.items }
+        requires cells { cells_of column ≡ cells_at index (rows_of piece.now) }
+    {
+        if let Some(place) = self.places.get(index) {
+            place.put(rt, piece, index, column, laid);
+        }
     }
 
     /// One owner more of the column of the index, which is laid out at the first call. Whoever comes meanwhile waits for it.

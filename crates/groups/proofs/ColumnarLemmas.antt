@@ -188,3 +188,11 @@ module _ {H : Type 0} where
   pool_next aggregations rows new filled added pool covers e = record {
     each = subst (AllByRecursion (λ (f : SetBag H). Covers aggregations f.set.items rows f.bag)) (sym e) (all_push (λ (f : SetBag H). Covers aggregations f.set.items rows f.bag) filled new pool.each covers);
   }
+
+-- what holds of the pair at i, where the first of the pair is also another's
+pub zip_at : {A B C : Type 0} (R : A → B → Type 0) (f : C → B) (xs : List A) (ys : List C) (i : ℕ) (d wanted : A) (y : C) → i < length ys → get_or xs i d ≡ wanted → y ≡ get_or ys i y →
+    AllZip R (take (length ys) xs) (map f ys) → R wanted (f y)
+zip_at R f xs [] i d wanted y h is at all = absurd (omega (arith, h))
+zip_at R f [] (z ∷ ys) i d wanted y h is at all = absurd all
+zip_at R f (x ∷ xs) (z ∷ ys) zero d wanted y h is at all = subst (λ b. R wanted (f b)) (sym at) (subst (λ a. R a (f z)) is all.0)
+zip_at R f (x ∷ xs) (z ∷ ys) (suc i) d wanted y h is at all = zip_at R f xs ys i d wanted y (omega (arith, h)) is at all.1

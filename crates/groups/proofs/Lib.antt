@@ -20,6 +20,7 @@ pub mod DealingLemmas
 pub mod KeepingLemmas
 pub mod PoolLemmas
 pub mod PoolRowsLemmas
+pub mod RenumberingLemmas
 pub mod ReportLemmas
 pub mod RisingLemmas
 pub mod SetTuplesLemmas

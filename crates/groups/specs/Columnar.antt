@@ -11,6 +11,10 @@ use Rattle.groups.specs.Groups.{column_of}
 use Rattle.groups.specs.Tallying.{AreTallied}
 use Rattle.groups.specs.declared.aggregation.Aggregation.{Aggregation}
 
+-- the aggregate at i
+abbrev pub aggregation_at : List Aggregation → ℕ → Aggregation
+aggregation_at aggregations i = slice_index_or aggregations i (record { kind = kind.CountRows; column = 0 })
+
 module _ {H : Type 0} where
   -- the accumulators of the aggregate over these rows, which are numbered
   abbrev pub TalliesRows : List RowValue → List ℕ → ℕ → Aggregation → List (Acc H) → Type 0

@@ -36,3 +36,14 @@ AreOfGroups groups parts = AllByRecursion (λ part. part.group < groups) parts
 -- the tuples of parts: each is its group's with the cell of its code behind it
 abbrev pub parted_tuples : List (List Cell) → Option (List Cell) → List Part → List (List Cell)
 parted_tuples tuples cells parts = map (λ part. slice_index_or tuples part.group [] ++ cell_of cells part.code ∷ []) parts
+
+-- the second list has at that place of the first the place
+abbrev pub IsTurned : List ℕ → List ℕ → ℕ → Type 0
+IsTurned first second n = (slice_index_or first n 0 < length second) × (slice_index_or second (slice_index_or first n 0) 0 ≡ n)
+
+-- so many numbers in an order, and for each its place there
+pub record AreTurned (count : ℕ) (order ranks : List ℕ) : Type 0 where
+  pub ordered : length order ≡ count
+  pub ranked : length ranks ≡ count
+  pub there : (n : ℕ) → n < count → IsTurned order ranks n
+  pub back : (n : ℕ) → n < count → IsTurned ranks order n

@@ -1,11 +1,11 @@
 //! The groups of a set over rows whose columns are at hand: all rows are numbered by their groups first, and then each
 //! aggregate goes over its column (Boncz, Zukowski and Nes, MonetDB/X100, 2005).
-ghost use Rattle.std.specs.Prelude.{◌≡◌, List, IfOk, ◌<◌, length, map};
+ghost use Rattle.std.specs.Prelude.{◌≡◌, List, IfOk, IfSome, IsTrue, ◌<◌, length, map, take};
 ghost use Rattle.std.specs.List.{AllByRecursion, AllZip};
 ghost use Rattle.cells.specs.Values.{RowValue};
 ghost use Rattle.columns.specs.Columns.{HaveAll, Hold};
 ghost use Rattle.groups.specs.Bags.{Covers};
-ghost use Rattle.groups.specs.Columnar.{TalliesRows, accs_at, groups_from};
+ghost use Rattle.groups.specs.Columnar.{TalliesRows, accs_at, aggregation_at, groups_from};
 ghost use Rattle.groups.specs.Needed.{read_by, read_by_all};
 ghost use Rattle.groups.specs.Numbered.{HaveRows, NumberAll, picked_rows};
 ghost use Rattle.groups.specs.Pools.{IsPool, sets_of};
@@ -81,11 +81,76 @@ fn tallies<H: KeyHash<Cell>>(
         IfOk result (λ v. AllZip (TalliesRows (picked_rows all rows.now) groups.now.numbers.items (length groups.now.tuples.items)) aggregations.now (map (λ accs. accs.items) v.items)) }
 {
     let mut tallies = Vec::with_capacity(alloc, aggregations.len())?;
-    for aggregation in aggregations {
-        let accs = tally(alloc, columns, aggregation, rows, groups)?;
+    for _at in 0..aggregations.len() {
+        let before = tallies.as_slice();
+        let accs = tally_next(alloc, columns, aggregations, rows, groups, before)?;
         tallies.push(accs)?;
     }
     Ok(tallies)
+}
+
+/// The accumulators of the next aggregate behind those of which `before` has them. The same aggregate is tallied once: HAVING
+/// often asks for what the select list shows.
+fn tally_next<H: KeyHash<Cell>>(
+    alloc: Global,
+    columns: &Columns,
+    aggregations: &[Aggregation],
+    rows: &[u32],
+    groups: &NumberedRows,
+    before: &[Vec<Acc<H>>],
+) -> Result<Vec<Acc<H>>, AllocError>
+    requires rows { HaveRows columns.now rows.now }
+    requires read { HaveAll (read_by_all aggregations.now) columns.now }
+    requires all { NumberAll (length rows.now) groups.now.numbers.items groups.now.tuples.items }
+    requires left { length before.now < length aggregations.now }
+    ensures { (all : List RowValue) → Hold all columns.now →
+        AllZip (TalliesRows (picked_rows all rows.now) groups.now.numbers.items (length groups.now.tuples.items)) (take (length before.now) aggregations.now) (map (λ accs. accs.items) before.now) →
+        IfOk result (λ v. TalliesRows (picked_rows all rows.now) groups.now.numbers.items (length groups.now.tuples.items) (aggregation_at aggregations.now (length before.now)) v.items) }
+{
+    let at = before.len();
+    if let Some(same) = alike_before(aggregations, at) {
+        let copies = copies_of(&before[same])?;
+        return Ok(copies);
+    }
+    let accs = tally(alloc, columns, &aggregations[at], rows, groups)?;
+    Ok(accs)
+}
+
+/// Copies of the accumulators.
+fn copies_of<H: KeyHash<Cell>>(accs: &Vec<Acc<H>>) -> Result<Vec<Acc<H>>, AllocError>
+    ensures { IfOk result (λ v. v.items ≡ accs.now.items) }
+{
+    accs.clone()
+}
+
+/// The place of an aggregate that is the one at this place, before it, if there is one.
+fn alike_before(aggregations: &[Aggregation], at: usize) -> Option<usize>
+    requires { at < length aggregations.now }
+    ensures { IfSome result (λ i. (i < at) × (aggregation_at aggregations.now i ≡ aggregation_at aggregations.now at)) }
+{
+    for before in 0..at {
+        if are_alike(&aggregations[before], &aggregations[at]) {
+            return Some(before);
+        }
+    }
+    None
+}
+
+/// Whether both are the same aggregate of the same column.
+fn are_alike(first: &Aggregation, second: &Aggregation) -> bool
+    ensures { IsTrue result → first.now ≡ second.now }
+{
+    if first.column != second.column {
+        return false;
+    }
+    match first.kind {
+        Kind::CountRows => matches!(second.kind, Kind::CountRows),
+        Kind::Count => matches!(second.kind, Kind::Count),
+        Kind::CountDistinct => matches!(second.kind, Kind::CountDistinct),
+        Kind::Sum => matches!(second.kind, Kind::Sum),
+        Kind::Min => matches!(second.kind, Kind::Min),
+        Kind::Max => matches!(second.kind, Kind::Max),
+    }
 }
 
 /// The accumulators of an aggregate for all groups.

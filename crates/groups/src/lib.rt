@@ -25,6 +25,7 @@ mod pool;
 mod pool_rows;
 mod pool_tries;
 mod ranked;
+mod renumbering;
 mod report_row;
 mod rising;
 mod set_columns;

@@ -3,6 +3,7 @@ ghost use Rattle.std.specs.Prelude.{◌≡◌, ◌<◌, ◌≤◌, ◌^◌, IfOk
 ghost use Rattle.std.specs.List.{AllByRecursion};
 ghost use Rattle.groups.specs.Parting.{AreParted, IsNumbered, codes_at, entry_limit};
 
+use crate::renumbering::in_slot_order;
 use columns::Span;
 use std::alloc::{AllocError, Global};
 
@@ -21,13 +22,16 @@ pub struct Parts {
 }
 
 /// No part has this number.
-const NONE: u32 = u32::MAX;
+pub(crate) const NONE: u32 = u32::MAX;
 
 /// How many entries a table may have for each row.
 const ENTRIES_PER_ROW: usize = 4;
 
 /// How many entries it may have beside these: with few rows, memory for it is no matter.
 const SPARE_ENTRIES: usize = 65_536;
+
+/// With fewer parts all that is made of them is near, in whatever order.
+const MANY_PARTS: usize = 4_096;
 
 /// In how many slots a part is looked for.
 const PROBES: usize = 64;
@@ -36,7 +40,7 @@ const PROBES: usize = 64;
 const MIXER: usize = 0x9E37_79B9_7F4A_7C15;
 
 /// The parts of the groups. `groups` has the number of each row's group, `rows` the index of its code among the codes, which
-/// lie in the span; `count` is the number of groups.
+/// lie in the span; `count` is the number of groups. Many parts are numbered by their groups and codes where they can be.
 pub fn parted(
     alloc: Global,
     groups: &[u32],
@@ -51,6 +55,38 @@ pub fn parted(
     ensures { IfOk result (λ p. AreParted groups.now (codes_at codes.now rows.now) p.numbers.items p.parts.items) }
 {
     let slots = Slots::of(count, span, rows.len());
+    let met = parted_as_met(alloc, groups, slots, rows, codes)?;
+    let Met { made, table } = met;
+    if slots.span.is_none() {
+        return Ok(made);
+    }
+    if made.parts.len() < MANY_PARTS {
+        return Ok(made);
+    }
+    let turned = in_slot_order(alloc, made, table.as_slice())?;
+    Ok(turned)
+}
+
+/// Parts in the order in which their rows came, and the table of their numbers.
+#[derive(Drop)]
+struct Met {
+    made: Parts,
+    table: Vec<u32>,
+}
+
+/// The parts, numbered as their rows come.
+fn parted_as_met(
+    alloc: Global,
+    groups: &[u32],
+    slots: Slots,
+    rows: &[u32],
+    codes: &[u32],
+) -> Result<Met, AllocError>
+    requires one { length groups.now ≡ length rows.now }
+    requires few { length rows.now ≤ 2 ^ 32 }
+    requires rows { AllByRecursion (λ row. row < length codes.now) rows.now }
+    ensures { IfOk result (λ m. AreParted groups.now (codes_at codes.now rows.now) m.made.numbers.items m.made.parts.items) }
+{
     let mut numbering = Numbering {
         table: Vec::from_elem(alloc, NONE, slots.count)?,
         slots,
@@ -64,8 +100,11 @@ pub fn parted(
         };
         numbers.push(numbering.number(part)?)?;
     }
-    let Numbering { parts, .. } = numbering;
-    Ok(Parts { numbers, parts })
+    let Numbering { table, parts, .. } = numbering;
+    Ok(Met {
+        made: Parts { numbers, parts },
+        table,
+    })
 }
 
 /// How many slots a table of parts has, and by what a part's first one is found.

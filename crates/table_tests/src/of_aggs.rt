@@ -210,8 +210,9 @@ fn a_refused_step_changes_nothing(rt: HostRuntime) -> Result<(), Fail> {
 fn keys_of(alloc: Global, acc: &Acc<Plain>) -> Result<(u64, usize), AllocError> {
     match acc {
         Acc::CountDistinct(counted) => {
-            let shape = counted.cells().shape(alloc)?;
-            Ok((counted.cells().len(), shape.len()))
+            let cells = counted.cells(alloc)?;
+            let shape = cells.shape(alloc)?;
+            Ok((cells.len(), shape.len()))
         }
         _ => Ok((0, 0)),
     }

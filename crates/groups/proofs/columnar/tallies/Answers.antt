@@ -1,28 +1,31 @@
-use Rattle.std.proofs.Common.{arith, get_or, length, map, refl, subst, ◌≡◌, true}
-use Rattle.std.proofs.lemmas.List.{take_all}
+use Rattle.std.proofs.Common.{[], ◌∷◌, ap, arith, get_or, sym, length, map, refl, subst, take, ◌≡◌, ◌∙◌}
+use Rattle.std.proofs.lemmas.List.{length-append, take_all}
 use Rattle.std.specs.List.{AllZip}
 use Rattle.aggs.specs.declared.acc.Kind.TheVariants.{CountRows}
-use Rattle.columns.specs.Columns.{has}
 use Rattle.groups.specs.declared.aggregation.Aggregation.{Aggregation}
-use Rattle.groups.specs.Columnar.{TalliesRows}
+use Rattle.groups.specs.Columnar.{TalliesRows, aggregation_at}
 use Rattle.groups.specs.Numbered.{picked_rows}
 use Rattle.groups.proofs.ColumnarLemmas.{zip_next}
-use Rattle.groups.proofs.NeededLemmas.{read_at}
 use Rattle.groups.proofs.columnar.tallies.Goals as goal
 
-pub tally-requires-clause-read : goal.tally-requires-clause-read
-tally-requires-clause-read g c =
-    read_at (λ index. has c.args.columns.now index ≡ true) c.args.aggregations.now c.loop-aggregation.aggregation-index (record { kind = CountRows; column = 0 }) c.loop-aggregation-test.true c.requires.read
+pub tally_next-requires-clause-left : goal.tally_next-requires-clause-left
+tally_next-requires-clause-left g c = omega (arith, ap (λ l. length l) c.as_slice-before.ensures.value, c.loop-at.invariant.made, c.loop-at-test.true)
 
-pub loop-aggregation-preserved : goal.loop-aggregation-preserved
-loop-aggregation-preserved g c = λ all held.
-    let none : Aggregation = record { kind = CountRows; column = 0 } in
-    let a : Aggregation = get_or c.args.aggregations.now c.loop-aggregation.aggregation-index none in
-    zip_next (TalliesRows (picked_rows all c.args.rows.now) c.args.groups.now.numbers.items (length c.args.groups.now.tuples.items)) (λ accs. accs.items) c.args.aggregations.now
-    c.loop-aggregation.tallies.items c.push.new.self.items c.loop-aggregation.aggregation-index a none c.in_ok-accs.accs c.loop-aggregation-test.true refl
-    (c.loop-aggregation.invariant all held) (c.in_ok-accs.ensures all held) c.in_ok-push.ensures.items
+pub loop-at-preserved : goal.loop-at-preserved
+loop-at-preserved g c = record {
+  made = omega (arith, ap (λ l. length l) c.in_ok-push.ensures.items, length-append c.loop-at.tallies.items (c.in_ok-accs.accs ∷ []), c.loop-at.invariant.made);
+  all = λ all held.
+      let R = TalliesRows (picked_rows all c.args.rows.now) c.args.groups.now.numbers.items (length c.args.groups.now.tuples.items) in
+      let now = c.loop-at.invariant.all all held in
+      let there = ap (λ l. length l) c.as_slice-before.ensures.value ∙ c.loop-at.invariant.made in
+      zip_next R (λ accs. accs.items) c.args.aggregations.now c.loop-at.tallies.items c.push.new.self.items c.loop-at._at (aggregation_at c.args.aggregations.now c.loop-at._at)
+      (record { kind = CountRows; column = 0 }) c.in_ok-accs.accs c.loop-at-test.true refl now
+      (subst (λ n. R (aggregation_at c.args.aggregations.now n) c.in_ok-accs.accs.items) there
+      (c.in_ok-accs.ensures all held (subst (λ n. AllZip R (take n c.args.aggregations.now) (map (λ accs. accs.items) c.as_slice-before.result.now)) (sym there)
+      (subst (λ l. AllZip R (take c.loop-at._at c.args.aggregations.now) (map (λ accs. accs.items) l)) (sym c.as_slice-before.ensures.value) now)))) c.in_ok-push.ensures.items;
+}
 
 pub returns : goal.returns
 returns g c = λ all held.
-    subst (λ l. AllZip (TalliesRows (picked_rows all c.args.rows.now) c.args.groups.now.numbers.items (length c.args.groups.now.tuples.items)) l (map (λ accs. accs.items) c.loop-aggregation.tallies.items))
-    (take_all c.loop-aggregation.aggregation-index c.args.aggregations.now (omega (arith, c.loop-aggregation-test.false, c.loop-aggregation.auto.aggregation-index-end))) (c.loop-aggregation.invariant all held)
+    subst (λ l. AllZip (TalliesRows (picked_rows all c.args.rows.now) c.args.groups.now.numbers.items (length c.args.groups.now.tuples.items)) l (map (λ accs. accs.items) c.loop-at.tallies.items))
+    (take_all c.loop-at._at c.args.aggregations.now (omega (arith, c.loop-at-test.false, c.loop-at.auto._at-end))) (c.loop-at.invariant.all all held)

@@ -3,7 +3,7 @@ use Rattle.std.proofs.lemmas.List.{length-map, length-take, take_all}
 use Rattle.groups.specs.Parting.{AreParted, codes_at, no_part}
 use Rattle.groups.proofs.PartingLemmas.{parted_next}
 use Rattle.groups.proofs.TuplesLemmas.{all_at}
-use Rattle.groups.proofs.parting.parted.Goals as goal
+use Rattle.groups.proofs.parting.parted_as_met.Goals as goal
 
 pub loop-at-init : goal.loop-at-init
 loop-at-init c = rw (c.in_ok-numbers.ensures.items, c.new.ensures.items) (record {
