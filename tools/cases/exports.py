@@ -134,15 +134,19 @@ CASES = [
 
 FORMS = ("classic", "csv", "json", "table")
 MANY = "id,city\n" + "".join(f"{number},city {number}\n" for number in range(1, 20_001))
-
-
-def unread(form, streams, title):
-    """A query whose answer nobody takes: the full disk or the closed pipe is told, and nothing more."""
-    words = ["query", "--format", form, "SELECT CITY, COUNT(*) FROM MANY GROUP BY CITY", "many.csv"]
-    case = Case(f"query: {title}, in the form {form}", words, {"many.csv": MANY, "errors": ""}, errors="olap: ended 92\n", status=3)
-    return case, streams
-
-
-WRITTEN_TO = [unread(form, '"$@" > /dev/full 2> errors; echo $? > status', "a full disk") for form in FORMS]
+QUESTION = "SELECT CITY, COUNT(*) FROM MANY GROUP BY CITY"
+# The same question of the same file, by a script.
+ASKED = f"table MANY (ID INT KEY, CITY TEXT)\nload 1\npublish\nreport {QUESTION}\n"
+COMMANDS = {"query": [QUESTION, "many.csv"], "run": ["many.olap", "many.csv"]}
 # (of the answer, which is more than a pipe holds, a reader that ends at once takes nothing)
-WRITTEN_TO += [unread(form, '{ sleep 1; "$@" 2> errors; echo $? > status; } | true', "a closed pipe") for form in FORMS]
+UNTAKEN = {"a full disk": '"$@" > /dev/full 2> errors; echo $? > status', "a closed pipe": '{ sleep 1; "$@" 2> errors; echo $? > status; } | true'}
+
+
+def unread(command, form, title):
+    """An answer that nobody takes: the full disk or the closed pipe is told, and nothing more."""
+    files = {"many.csv": MANY, "many.olap": ASKED, "errors": ""}
+    case = Case(f"{command}: {title}, in the form {form}", [command, "--format", form, *COMMANDS[command]], files, errors="olap: ended 92\n", status=3)
+    return case, UNTAKEN[title]
+
+
+WRITTEN_TO = [unread(command, form, title) for command in COMMANDS for title in UNTAKEN for form in FORMS]

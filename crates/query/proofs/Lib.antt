@@ -24,3 +24,4 @@ pub mod Decisions
 pub mod Shorter
 pub mod Deciding
 pub mod QueriesLaws
+pub mod MarkingLemmas

@@ -27,3 +27,4 @@ pub mod Having
 pub mod Headings
 pub mod Plans
 pub mod Worked
+pub mod Marking

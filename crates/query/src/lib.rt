@@ -16,6 +16,7 @@ mod item;
 mod laws;
 mod leaf;
 mod limits;
+mod marking;
 mod names;
 mod naming;
 mod owned;

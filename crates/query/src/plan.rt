@@ -1,8 +1,9 @@
 //! Plans: what a query means for a table.
-ghost use Rattle.std.specs.Prelude.{◌≡◌, IfOk, false, map};
+ghost use Rattle.std.specs.Prelude.{◌≡◌, ◌++◌, IfOk, false, length, map};
 ghost use Rattle.std.specs.List.{list_any};
 ghost use Rattle.std.specs.Option.{option_copied};
 ghost use Rattle.query.specs.Headings.{heading};
+ghost use Rattle.query.specs.Marking.{marked, with_marks};
 ghost use Rattle.query.specs.Plans.{plan_of, resolved_item};
 ghost use Rattle.query.specs.Sets.{resolved_sets};
 ghost use Rattle.query.specs.Values.{is_long, items_of};
@@ -10,6 +11,7 @@ ghost use Rattle.query.specs.Values.{is_long, items_of};
 use crate::headings::headings;
 use crate::indexes::{resolved_condition, resolved_items};
 use crate::item::Item;
+use crate::marking::{twice, with_marks};
 use crate::owned::beside;
 use crate::predicate::Predicate;
 use crate::query::Query;
@@ -74,6 +76,29 @@ impl Outline {
             sets,
         })
     }
+
+    /// The outline with the marks of its select list behind that; each has the heading of its item.
+    fn marked(self, alloc: Global) -> Result<Outline, AllocError>
+        requires { list_any is_long self.items.items ≡ false }
+        ensures items { IfOk result (λ outline. outline.items.items ≡ with_marks (length self.headings.items) self.items.items) }
+        ensures short { IfOk result (λ outline. list_any is_long outline.items.items ≡ false) }
+        ensures headings { IfOk result (λ outline. outline.headings.items ≡ self.headings.items ++ self.headings.items) }
+        ensures sets { IfOk result (λ outline. outline.sets ≡ self.sets) }
+    {
+        let Outline {
+            items,
+            headings,
+            sets,
+        } = self;
+        let many = headings.len();
+        let ((headings, sets), items) = beside(with_marks(alloc, items, many), (headings, sets))?;
+        let ((items, sets), headings) = beside(twice(headings), (items, sets))?;
+        Ok(Outline {
+            items,
+            headings,
+            sets,
+        })
+    }
 }
 
 impl Plan {
@@ -86,6 +111,34 @@ impl Plan {
         let (condition, having) = query.into_predicates();
         let condition = resolved_condition(alloc, columns, condition);
         let ((outline, having), condition) = beside(condition, (outline, having))?;
+        Ok(Plan {
+            items: outline.items,
+            headings: outline.headings,
+            condition,
+            sets: outline.sets,
+            having,
+        })
+    }
+
+    /// The plan that tells, too, which columns the grouping set of a row lacks: behind the select list stands a mark for each of
+    /// its items, with the item's heading. That of a column is GROUPING of the column, that of another item is 0. The only error
+    /// is that a growth was refused.
+    pub fn marked(self, alloc: Global) -> Result<Plan, AllocError>
+        ensures { IfOk result (λ plan. plan ≡ marked self) }
+    {
+        let Plan {
+            items,
+            headings,
+            condition,
+            sets,
+            having,
+        } = self;
+        let outline = Outline {
+            items,
+            headings,
+            sets,
+        };
+        let ((condition, having), outline) = beside(outline.marked(alloc), (condition, having))?;
         Ok(Plan {
             items: outline.items,
             headings: outline.headings,

@@ -3,6 +3,7 @@ pub mod CrossingLemmas
 pub mod PiecesLemmas
 pub mod SortingLemmas
 pub mod StartedLemmas
+pub mod SubtotalsLemmas
 pub mod WaitingLemmas
 pub mod WantsLemmas
 pub mod WatchingLemmas

@@ -5,6 +5,7 @@ pub mod Limits
 pub mod Pieces
 pub mod Reports
 pub mod Standing
+pub mod Subtotals
 pub mod Taken
 pub mod Tapes
 pub mod Waiting

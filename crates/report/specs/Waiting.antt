@@ -5,9 +5,8 @@ use Rattle.board.specs.Editions.{Edition}
 use Rattle.cells.specs.Tables.{Rows, table}
 use Rattle.cells.specs.Updates.{AreLeft}
 use Rattle.cells.specs.Values.{RowValue}
-use Rattle.groups.specs.Groups.{report_rows}
 use Rattle.report.specs.declared.question.Question.{Question}
-use Rattle.report.specs.Reports.{text_of}
+use Rattle.report.specs.Reports.{answer_to}
 use Rattle.report.specs.Taken.{TakesBeginning, TakesUpTo}
 use Rattle.report.specs.declared.backlog.Pending.{Pending}
 use Rattle.report.specs.declared.unwritten.Unwritten.{Unwritten}
@@ -15,7 +14,7 @@ use Rattle.report.specs.declared.unwritten.Unwritten.TheVariants.{WriteFailed}
 
 -- the text is what is asked of these rows, in whatever order they are listed
 pub record IsReportText (rows : Rows) (question : Question) (text : List ℕ) : Type 0 where
-  pub is : (rs : List RowValue) → AreLeft rs → rows ≡ table rs → text ≡ text_of question (report_rows question.plan rs)
+  pub is : (rs : List RowValue) → AreLeft rs → rows ≡ table rs → text ≡ answer_to question rs
 
 -- a report under way: the text before it, the edition that it is on, and what it is asked
 pub record UnderWay : Type 0 where

@@ -5,7 +5,7 @@ ghost use Rattle.cells.specs.declared.refused.Refused.TheVariants as Refused;
 ghost use Rattle.crew.specs.Gathering.{rows_in};
 ghost use Rattle.crew.specs.Limits.{piece_limit};
 ghost use Rattle.groups.specs.Groups.{report_rows};
-ghost use Rattle.report.specs.Reports.{asked_in, classic};
+ghost use Rattle.report.specs.Reports.{classic, question_of};
 ghost use Rattle.report.specs.Standing.{AreRowsFor};
 ghost use Rattle.report.specs.Waiting.{IsReportText};
 
@@ -115,7 +115,7 @@ impl<'a, R: Threads + Wait + Sync, G: Gate> Answering<'a, R, G> {
         plan: &Plan,
         arrangement: &Arrangement,
     ) -> Result<Vec<u8>, Want>
-        ensures { IfOk result (λ text. IsReportText snapshot.now.rows (asked_in form plan.now arrangement.now) text.items) }
+        ensures { IfOk result (λ text. IsReportText snapshot.now.rows (question_of form plan.now arrangement.now) text.items) }
     {
         // These do nothing: the order of rows does not count, and a list of an edition's rows has those of its map.
         any_order::<H>();
@@ -123,13 +123,10 @@ impl<'a, R: Threads + Wait + Sync, G: Gate> Answering<'a, R, G> {
         let mut rows = self.rows(snapshot, plan)?;
         let headings = plan.headings();
         arrange(self.alloc, arrangement, headings, &mut rows)?;
-        let text = text_in(self.alloc, form, headings, rows.as_slice())?;
-        self.gate.reported(
-            line,
-            snapshot.edition(),
-            snapshot.root().len(),
-            rows.len() as u64,
-        );
+        let groups = rows.len() as u64;
+        let text = text_in(self.alloc, form, headings, rows)?;
+        self.gate
+            .reported(line, snapshot.edition(), snapshot.root().len(), groups);
         Ok(text)
     }
 

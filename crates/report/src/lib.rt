@@ -16,6 +16,7 @@ mod pour;
 mod printing;
 mod question;
 mod starting;
+mod subtotals;
 mod tape;
 mod unwritten;
 mod want;

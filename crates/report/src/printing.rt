@@ -1,10 +1,12 @@
 //! The text of a report, in each form.
 ghost use Rattle.std.specs.Prelude.{◌≡◌, ◌∷◌, [], ◌++◌, IfErr, IfOk, OnOk};
 ghost use Rattle.std.specs.List.{flat_map, join_by};
+ghost use Rattle.forms.specs.Forms.{report_in};
 ghost use Rattle.forms.specs.Json.{json_row};
 ghost use Rattle.forms.specs.Tables.{table_row, widths_of};
 ghost use Rattle.report.specs.Reports.{report_of, report_text};
 
+use crate::subtotals::{told_rows, unmarked};
 use cells::{Refused, Text};
 use forms::table::Widths;
 use forms::{Form, classic, commas, json, table};
@@ -19,7 +21,7 @@ pub fn text(alloc: Global, plan: &Plan, rows: &[ReportRow]) -> Result<Vec<u8>, R
     ensures text { IfOk result (λ text. text.items ≡ report_text plan.now rows.now) }
     ensures refused { IfErr result (λ e. e ≡ Refused.OutOfMemory) }
 {
-    Ok(text_in(alloc, Form::Classic, plan.headings(), rows)?)
+    Ok(classic_text(alloc, plan.headings(), rows)?)
 }
 
 /// The text of a report in a form, of whose rows each stands where it is written.
@@ -27,14 +29,14 @@ pub(crate) fn text_in(
     alloc: Global,
     form: Form,
     headings: &[Text],
-    rows: &[ReportRow],
+    rows: Vec<ReportRow>,
 ) -> Result<Vec<u8>, AllocError>
-    ensures { IfOk result (λ text. text.items ≡ report_of form headings.now rows.now) }
+    ensures { IfOk result (λ text. text.items ≡ report_of form headings.now rows.items) }
 {
     match form {
-        Form::Classic => classic_text(alloc, headings, rows),
-        Form::Csv => csv_text(alloc, headings, rows),
-        Form::Json => json_text(alloc, headings, rows),
+        Form::Classic => classic_text(alloc, headings, rows.as_slice()),
+        Form::Csv => csv_text(alloc, headings, rows.as_slice()),
+        Form::Json => json_text(alloc, headings, rows.as_slice()),
         Form::Table => table_text(alloc, headings, rows),
     }
 }
@@ -99,8 +101,21 @@ fn push_later_rows(text: &mut Vec<u8>, rows: &[ReportRow]) -> Result<(), AllocEr
 }
 
 /// The headings over dashes, and then a line for each row, in columns as wide as what stands in them.
-fn table_text(alloc: Global, headings: &[Text], rows: &[ReportRow]) -> Result<Vec<u8>, AllocError>
-    ensures { IfOk result (λ text. text.items ≡ report_of Form.Table headings.now rows.now) }
+/// Where the grouping set of a row lacks a column, `(all)` stands there, and no NULL.
+fn table_text(alloc: Global, headings: &[Text], rows: Vec<ReportRow>) -> Result<Vec<u8>, AllocError>
+    ensures { IfOk result (λ text. text.items ≡ report_of Form.Table headings.now rows.items) }
+{
+    let rows = told_rows(alloc, rows)?;
+    unmarked_table(alloc, unmarked(headings), rows.as_slice())
+}
+
+/// The table of these headings and rows.
+fn unmarked_table(
+    alloc: Global,
+    headings: &[Text],
+    rows: &[ReportRow],
+) -> Result<Vec<u8>, AllocError>
+    ensures { IfOk result (λ text. text.items ≡ report_in Form.Table headings.now rows.now) }
 {
     let widths = widths_of(alloc, headings, rows)?;
     let mut text = Vec::new(alloc);

@@ -97,10 +97,9 @@ left_back manner viewing k old new result back all = ((subst (AllByRecursion (Is
 pub some_back : {manner : Manner} (givens : Givens) (before : Lines) (viewing : Viewing) (k : Editions) (old new : List Watch) (result : Result Watching Want) → Keeps givens before k → ComesBack old new result → AllByRecursion (IsStarted manner viewing k) old →
     (viewer count : ℕ) → (bytes : List ℕ) × AreViewers manner (keeper.schema k) (editions givens before) (keeper.edition k) viewing viewer count bytes
 some_back {manner = manner} givens before viewing k old new result keeps back all =
-    let plan = back.watch.before.question.plan in
-    let means = (subst (AllByRecursion (IsStarted manner viewing k)) back.first all).0.asked.plan in
+    let asked = (subst (AllByRecursion (IsStarted manner viewing k)) back.first all).0.asked in
     subst (λ last. (viewer count : ℕ) → (bytes : List ℕ) × AreViewers manner (keeper.schema k) (editions givens before) last viewing viewer count bytes) (sym keeps.edition)
-    (some_viewers manner (keeper.schema k) (editions givens before) (edition givens before) viewing (some_view manner givens before (keeper.schema k) viewing plan means))
+    (some_viewers manner (keeper.schema k) (editions givens before) (edition givens before) viewing (some_view manner givens before (keeper.schema k) viewing asked.plan asked.means))
 
 -- one of them ended the run behind a beginning of its blocks
 pub delivers_more : {W S T : Type 0} {manner : Manner} (taken : W → Option (List ℕ)) (faults : W → ℕ) (old middle new : W) (givens : Givens) (before : Lines) (viewing : Viewing) (k : Editions) (number many left : ℕ) (e : Ended) (one : Result S Ended) (result : Result T Ended) →

@@ -16,13 +16,12 @@ use Rattle.cells.specs.Values.{RowValue, Table}
 use Rattle.cells.specs.declared.cell.Cell.{Cell}
 use Rattle.cells.specs.declared.refused.Refused.{Refused}
 use Rattle.cells.specs.declared.refused.Refused.TheVariants.{Limit, NoTable}
-use Rattle.groups.specs.Groups.{report_rows}
 use Rattle.query.specs.Checks.{fault_of}
 use Rattle.query.specs.Plans.{PlanTree, plan_of}
 use Rattle.query.specs.Queries.{IsAnswered, IsQuery, a_fault, a_query}
 use Rattle.query.specs.Values.{QueryTree}
 use Rattle.report.specs.Laws.{takes_beginning, takes_last, takes_more, takes_start}
-use Rattle.report.specs.Reports.{text_of}
+use Rattle.report.specs.Reports.{answer_to}
 use Rattle.report.specs.Taken.{TakesBeginning}
 use Rattle.report.specs.Watching.{GoUpTo, IsShot, Sight, Watch, at_last, before_last, watch_from}
 use Rattle.report.specs.declared.question.Question.{Question}
@@ -111,12 +110,12 @@ module _ (manner : Manner) (givens : Givens) (before : Lines) (k : Editions) (qu
   view_of : (shot : Sight) → IsShot (keeper.history k) question shot → IsView manner (keeper.schema k) (editions givens before) query viewer shot.edition (view_block manner.form viewer shot)
   view_of shot is =
       let lists = lists_at (editions givens before) shot.edition is.rows (subst (λ h. slice_get h shot.edition ≡ Some is.rows) history is.at) in
-      let text = is.is.is lists.list (left_at givens before shot.edition lists.list lists.at) lists.same ∙ ap (λ q. text_of q (report_rows question.plan lists.list)) asked.is in
+      let text = is.is.is lists.list (left_at givens before shot.edition lists.list lists.at) lists.same ∙ ap (λ (q : Question). answer_to q lists.list) asked.is in
       record {
         rows = lists.list;
-        answer = answer_of question.plan lists.list;
+        answer = answer_of asked.plan lists.list;
         at = lists.at;
-        says = asked.plan lists.list;
+        says = asked.means lists.list;
         is = ap (λ t. view_heading manner.form viewer shot.edition ++ t) text;
       }
 

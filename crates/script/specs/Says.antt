@@ -3,28 +3,25 @@ use Rattle.std.specs.Prelude.{◌≡◌, ◌⊎◌, ℕ, List, Some, None, Resul
 use Rattle.cells.specs.Values.{RowValue, Table}
 use Rattle.cells.specs.declared.refused.Refused.{Refused}
 use Rattle.cells.specs.declared.refused.Refused.TheVariants.{OutOfMemory}
-use Rattle.cells.specs.declared.total.Total.{Total}
-use Rattle.groups.specs.Groups.{report_rows}
 use Rattle.query.specs.Checks.{fault_of}
 use Rattle.query.specs.Plans.{PlanTree, plan_of}
 use Rattle.query.specs.Queries.{FirstFault, IsQuery}
 use Rattle.query.specs.Values.{QueryTree}
-use Rattle.report.specs.Arranging.{arranged}
-use Rattle.report.specs.Reports.{report_of}
+use Rattle.report.specs.Reports.{answer_to}
+use Rattle.script.specs.Manners.{question_in}
 use Rattle.script.specs.declared.manner.Manner.{Manner}
 
--- what a report answers: its headings and its rows
+-- what a report answers: a plan, over these rows
 pub record Answer : Type 0 where
-  pub headings : List (List ℕ)
-  pub rows : List (List Total)
+  pub plan : PlanTree
+  pub rows : List RowValue
 
--- those of a plan's report over these rows
 abbrev pub answer_of : PlanTree → List RowValue → Answer
-answer_of plan rs = record { headings = plan.headings; rows = report_rows plan rs }
+answer_of plan rs = record { plan = plan; rows = rs }
 
 -- the text of an answer that is told in this way
 abbrev pub spelt : Manner → Answer → List ℕ
-spelt manner answer = report_of manner.form answer.headings (arranged manner.arrangement answer.headings answer.rows)
+spelt manner answer = answer_to (question_in manner answer.plan) answer.rows
 
 -- over the rows of the table the text says this: the first fault of a text that is no query, the first fault of a query
 -- for the table, or the answer of its plan

@@ -11,6 +11,7 @@ use Rattle.script.specs.declared.fault.Fault.TheVariants.{Line}
 use Rattle.board.specs.Editions.{Editions}
 use Rattle.board.specs.Editions as keeper
 use Rattle.forms.specs.declared.form.Form.{Form}
+use Rattle.query.specs.Plans.{PlanTree}
 use Rattle.report.specs.Waiting.{Waits}
 use Rattle.report.specs.Watching.{Sight, Watch}
 use Rattle.report.specs.declared.question.Question.{Question}
@@ -58,8 +59,9 @@ IsWritten hash givens (Some viewing) script bytes = IsLive hash givens viewing s
 
 -- the query is asked, so that its answers are told in this way
 pub record IsAskedSo (manner : Manner) (t : Table) (query : List ℕ) (question : Question) : Type 0 where
-  pub is : question ≡ question_in manner question.plan
-  pub plan : MeansPlan t query question.plan
+  pub plan : PlanTree
+  pub means : MeansPlan t query plan
+  pub is : question ≡ question_in manner plan
 
 abbrev pub AreAsked : Manner → Table → List ℕ → List Question → Type 0
 AreAsked manner t query questions = AllByRecursion (IsAskedSo manner t query) questions

@@ -227,7 +227,7 @@ fn question_of(
     ensures refused { IfErr result (IsRefused schema.now query.now) }
 {
     let plan = read_plan(alloc, query, schema)?;
-    Ok(manner.question(plan)?)
+    Ok(manner.question(alloc, plan)?)
 }
 
 /// Tells the gate that the viewers are refused, and writes what stands in place of all their blocks.

@@ -30,13 +30,9 @@ impl Manner {
     }
 
     /// What is asked of a plan, so that its answer is told in this way.
-    pub(crate) fn question(&self, plan: Plan) -> Result<Question, AllocError>
+    pub(crate) fn question(&self, alloc: Global, plan: Plan) -> Result<Question, AllocError>
         ensures { IfOk result (λ question. question ≡ question_in self.now plan) }
     {
-        Ok(Question {
-            form: self.form,
-            plan,
-            arrangement: self.arrangement.clone()?,
-        })
+        Question::new(alloc, self.form, plan, self.arrangement.clone()?)
     }
 }

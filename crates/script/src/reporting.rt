@@ -55,7 +55,7 @@ fn ask<H: KeyHash<Cell>>(
     let Ok(snapshot) = keeper.snapshot() else {
         return Err(AllocError);
     };
-    let question = manner.question(plan)?;
+    let question = manner.question(alloc, plan)?;
     let opening = report_opening(alloc, manner, number, snapshot.edition())?;
     Ok(Block::Report(Asked {
         opening,

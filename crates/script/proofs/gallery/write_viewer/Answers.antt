@@ -10,13 +10,13 @@ use Rattle.script.proofs.gallery.write_viewer.Goals as goal
 pub returns-in_err-shots-clause-views : goal.returns-in_err-shots-clause-views
 returns-in_err-shots-clause-views g c = λ given before keeps.
     let p = err_from_is_err_and c.from_residual.result c.from_residual.ensures.1 in
-    let some = some_blocks_of c.args.manner.now given before c.args.keeper.now (viewing_of c.args.viewing) c.args.watcher.question.plan keeps c.requires.asked.plan c.args.number in
+    let some = some_blocks_of c.args.manner.now given before c.args.keeper.now (viewing_of c.args.viewing) c.requires.asked.plan keeps c.requires.asked.means c.args.number in
     delivers_for g.O.Out.taken g.O.Out.faults c.args.out.now c.args.out.now _ _ c.from_residual.result p.1 (nothing_yet _ (g.O.Out.taken c.args.out.now) some.0 some.1) _ p.2
 
 pub returns-in_err-text-clause-views : goal.returns-in_err-text-clause-views
 returns-in_err-text-clause-views g c = λ given before keeps.
     let p = err_from_is_err_and c.from_residual-in_err-text.result c.from_residual-in_err-text.ensures.1 in
-    let some = some_blocks_of c.args.manner.now given before c.args.keeper.now (viewing_of c.args.viewing) c.args.watcher.question.plan keeps c.requires.asked.plan c.args.number in
+    let some = some_blocks_of c.args.manner.now given before c.args.keeper.now (viewing_of c.args.viewing) c.requires.asked.plan keeps c.requires.asked.means c.args.number in
     delivers_for g.O.Out.taken g.O.Out.faults c.args.out.now c.args.out.now _ _ c.from_residual-in_err-text.result p.1 (nothing_yet _ (g.O.Out.taken c.args.out.now) some.0 some.1) Memory p.2
 
 pub returns-in_default-clause-views : goal.returns-in_default-clause-views

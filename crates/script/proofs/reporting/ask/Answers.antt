@@ -1,7 +1,6 @@
 use Rattle.std.proofs.Common.{◌≡◌, ◌∙◌, ◌++◌, ap, refl, sym}
 use Rattle.board.specs.Editions as editions
-use Rattle.groups.specs.Groups.{report_rows}
-use Rattle.report.specs.Reports.{text_of}
+use Rattle.report.specs.Reports.{answer_to}
 use Rattle.report.specs.declared.question.Question.{Question}
 use Rattle.script.specs.Says.{answer_of, spelt}
 use Rattle.script.specs.Spelling.{opening}
@@ -16,7 +15,7 @@ returns g c = record {
         answer = spelt c.args.manner.now (answer_of c.args.plan rs);
         has = λ answer answers.
             let asked = c.in_ok-question.ensures in
-            answers.is rs left (c.in-Ok.ensures.rows ∙ same) ∙ ap (λ (q : Question). text_of q (report_rows q.plan rs)) asked;
+            answers.is rs left (c.in-Ok.ensures.rows ∙ same) ∙ ap (λ (q : Question). answer_to q rs) asked;
         joined = ap (λ text. text ++ spelt c.args.manner.now (answer_of c.args.plan rs)) (sym named);
       };
   accepted = refl;

@@ -12,5 +12,5 @@ returns g c = record {
       let moved = listed_as c.a_map_has_its_entries.ensures _ _ rs all.all left same in
       let came = all.are ∙ c.any_order.ensures.report plan _ rs moved in
       c.in_ok-text.ensures
-      ∙ ap₂ (report_of c.args.form) c.headings-headings.ensures (c.as_slice.ensures.value ∙ c.in_ok-arrange.ensures ∙ ap₂ (arranged c.args.arrangement.now) c.headings-headings.ensures came);
+      ∙ ap₂ (report_of c.args.form) c.headings-headings.ensures (c.in_ok-arrange.ensures ∙ ap₂ (arranged c.args.arrangement.now) c.headings-headings.ensures came);
 }
