@@ -1,24 +1,16 @@
 -- The entries of a trie of cells as a set of cells, and the steps of that set.
 use Rattle.std.specs.Prelude.{is_some}
-use Rattle.std.specs.List.{AllZip, IsDistinct, dedup, fold, list_any}
-use Rattle.std.specs.List.Retain.{DiffersFromLast, IsFiltered}
-use Rattle.std.specs.List.Sorted.{IsPermutation, IsSorted, IsStrictlySortedBy}
-use Rattle.std.proofs.lemmas.List.Filters.{dedup_is}
-use Rattle.std.proofs.lemmas.List.Folds.{list_any-append}
-use Rattle.std.proofs.lemmas.List.Kept.{Contains-dedup, Contains-from_dedup, IsStrictlySortedBy-dedup}
-use Rattle.std.proofs.lemmas.List.Sorted.{list_any-IsPermutation}
-use Rattle.std.proofs.lemmas.Map.Keys.{IsDistinct-from_sorted}
-use Rattle.std.proofs.lemmas.Map.Made.{distinct_count-from_IsDistinct}
-use Rattle.std.proofs.lemmas.Map.Views.{Contains-from_any, list_any-from_Contains}
-use Rattle.std.proofs.Common.{Bor, ◌≡◌, ◌≢◌, ◌||◌, ◌+◌, ℕ, Bool, true, false, cond, Option, Some, None, List, [], ◌∷◌, ◌++◌, length, refl, subst, sym, ap, ap₂, ◌∙◌}
+use Rattle.std.specs.List.{fold, list_any}
+use Rattle.std.proofs.lemmas.List.{append_assoc, append-nil, map-append}
+use Rattle.std.proofs.Common.{Bor, ◌≡◌, ◌≢◌, ◌||◌, ◌+◌, ℕ, Bool, true, false, cond, Option, Some, None, List, [], ◌∷◌, ◌++◌, refl, sym, ap, ap₂, ◌∙◌}
 use Rattle.std.specs.FinMap as map
 use Rattle.std.specs.FinMap.Entries.{is_some-find}
 use Rattle.std.specs.FinSet.{contains, contains-empty, contains-from_list, contains-insert, contains-union, empty, from_list, insert, len, len-empty, len-insert, same_set, union}
 use Rattle.std.specs.Map.{keys_of}
 use Rattle.std.specs.Option.{option_copied}
 use Rattle.std.specs.declared.cmp.Ordering.{Ordering}
-use Rattle.aggs.specs.Differing.{Cells, contains_different, different, nothing_second, set_count, union_turns}
-use Rattle.aggs.specs.Held.{AreOnceEach}
+use Rattle.aggs.specs.Counts.{present_append}
+use Rattle.aggs.specs.Differing.{Cells, contains_different, different, nothing_second, union_turns}
 use Rattle.aggs.specs.Values.{is_null, present}
 use Rattle.cells.specs.CellOrder.{cell_cmp, cell_cmp-total, cell_eq, cell_eq-equiv}
 use Rattle.cells.specs.SameKeys.{exact_cells, same_cells}
@@ -75,50 +67,21 @@ one_more_held es new s c is e = same (held new) (insert s c) (λ q.
     ∙ ap (λ b. cell_eq q c || b) (sym (contains_held es s q (map.get (map_of cell_cmp es) q) is refl))
     ∙ sym (contains-insert cell_cmp-total s c q))
 
--- ---- the cells of a list, each once
+-- ---- the cells of a list, as keys one after another
 
-alike_if : (a b : Bool) → (a ≡ true → b ≡ true) → (b ≡ true → a ≡ true) → a ≡ b
-alike_if true b there back = sym (there refl)
-alike_if false true there back = back refl
-alike_if false false there back = refl
+pub null_behind : (keys : List Cell) (c : Cell) → is_null c ≡ true → keys ≡ keys ++ present (c ∷ [])
+null_behind keys Null e = sym (append-nil keys)
+null_behind keys (Int n) e = absurd (cc)
+null_behind keys (Text t) e = absurd (cc)
 
-still_there : (cells : List Cell) (q : Cell) → list_any (cell_eq q) (dedup cell_eq cells) ≡ list_any (cell_eq q) cells
-still_there cells q = alike_if (list_any (cell_eq q) (dedup cell_eq cells)) (list_any (cell_eq q) cells)
-    (λ e. list_any-from_Contains cell_eq-equiv q cells (Contains-from_dedup cell_eq cells q (Contains-from_any same_cells q (dedup cell_eq cells) e)))
-    (λ e. list_any-from_Contains cell_eq-equiv q (dedup cell_eq cells) (Contains-dedup cell_eq-equiv same_cells cells q (Contains-from_any same_cells q cells e)))
+pub one_behind : (pairs : Entries) (c : Cell) → is_null c ≡ false → keys_of (pairs ++ (c, tt) ∷ []) ≡ keys_of pairs ++ present (c ∷ [])
+one_behind pairs Null e = absurd (cc)
+one_behind pairs (Int n) e = map-append (λ (p : Cell × Unit {0}). p.0) pairs ((Int n, tt) ∷ [])
+one_behind pairs (Text t) e = map-append (λ (p : Cell × Unit {0}). p.0) pairs ((Text t, tt) ∷ [])
 
-pub sorted_once : (cells sorted once : List Cell) → IsPermutation cells sorted → IsSorted cell_cmp sorted → IsFiltered (DiffersFromLast cell_eq) [] sorted once → AreOnceEach cells once
-sorted_once cells sorted once moved rise left =
-    let is : once ≡ dedup cell_eq sorted = dedup_is cell_eq sorted once left in
-    record {
-      same = same (from_list once) (from_list cells) (λ q.
-          contains-from_list cell_cmp-total once q
-          ∙ ap (list_any (cell_eq q)) is
-          ∙ still_there sorted q
-          ∙ sym (list_any-IsPermutation (cell_eq q) cells sorted moved)
-          ∙ sym (contains-from_list cell_cmp-total cells q));
-      distinct = IsDistinct-from_sorted cell_cmp once (subst (IsStrictlySortedBy cell_cmp) (sym is) (IsStrictlySortedBy-dedup cell_cmp-total {E = cell_eq} (λ x y. refl) sorted rise));
-    }
-
-pub cloned : (cells copies : List Cell) → AllZip (λ (s t : Cell). t ≡ s) cells copies → copies ≡ cells
-cloned [] [] all = refl
-cloned [] (y ∷ ys) all = absurd all
-cloned (x ∷ xs) [] all = absurd all
-cloned (x ∷ xs) (y ∷ ys) all = ap₂ (λ (c : Cell) (cs : List Cell). c ∷ cs) all.0 (cloned xs ys all.1)
-
-pub both_listed : (first second both : List Cell) → both ≡ first ++ second → from_list {R = cell_cmp} both ≡ union (from_list first) (from_list second)
-both_listed first second both is = same (from_list both) (union (from_list first) (from_list second)) (λ q.
-    contains-from_list cell_cmp-total both q
-    ∙ ap (list_any (cell_eq q)) is
-    ∙ list_any-append (cell_eq q) first second
-    ∙ ap₂ (λ (a b : Bool). a || b) (sym (contains-from_list cell_cmp-total first q)) (sym (contains-from_list cell_cmp-total second q))
-    ∙ sym (contains-union cell_cmp-total (from_list first) (from_list second) q))
-
-pub number_listed : (cells : List Cell) (s : Cells) → IsDistinct cell_eq cells → from_list cells ≡ s → len s ≡ length cells
-number_listed cells s distinct is = ap (λ (t : Cells). len t) (sym is) ∙ set_count cells ∙ distinct_count-from_IsDistinct cell_eq-equiv cells distinct
-
-pub contains_listed : (cells : List Cell) (s : Cells) (q : Cell) → from_list cells ≡ s → contains s q ≡ list_any (cell_eq q) cells
-contains_listed cells s q is = ap (λ (t : Cells). contains t q) (sym is) ∙ contains-from_list cell_cmp-total cells q
+pub key_more : (keys more rest cells : List Cell) (c : Cell) → keys ++ present (c ∷ rest) ≡ present cells → more ≡ keys ++ present (c ∷ []) → more ++ present rest ≡ present cells
+key_more keys more rest cells c so e =
+    ap (λ l. l ++ present rest) e ∙ append_assoc keys (present (c ∷ [])) (present rest) ∙ ap (λ l. keys ++ l) (sym (present_append (c ∷ []) rest)) ∙ so
 
 has_swapped : (a b c : Bool) → (a || (b || c)) ≡ ((b || a) || c)
 has_swapped true true c = refl
@@ -134,16 +97,16 @@ all_put (p ∷ pairs) m q =
     ∙ ap (λ b. list_any (cell_eq q) (keys_of pairs) || b) (ap is_some (map.get-insert cell_cmp-total m p.0 p.1 q) ∙ some_or (cell_eq q p.0) (map.get m q))
     ∙ has_swapped (list_any (cell_eq q) (keys_of pairs)) (cell_eq q p.0) (is_some (map.get m q))
 
-pub all_held : (pairs new : Entries) (cells : List Cell) → keys_of pairs ≡ cells →
-    map_of cell_cmp new ≡ fold (λ (m : map.FinMap cell_cmp (Unit {0})) (p : Cell × Unit {0}). map.insert m p.0 p.1) (map_of cell_cmp []) pairs → held new ≡ from_list cells
-all_held pairs new cells are e = same (held new) (from_list cells) (λ q.
+pub all_held : (pairs new : Entries) (xs : List Cell) → keys_of pairs ≡ present xs →
+    map_of cell_cmp new ≡ fold (λ (m : map.FinMap cell_cmp (Unit {0})) (p : Cell × Unit {0}). map.insert m p.0 p.1) (map_of cell_cmp []) pairs → held new ≡ different xs
+all_held pairs new xs are e = same (held new) (different xs) (λ q.
     contains_keys new q
     ∙ ap (λ m. is_some (map.get m q)) e
     ∙ all_put pairs (map_of cell_cmp []) q
     ∙ ap (λ b. list_any (cell_eq q) (keys_of pairs) || b) (sym (contains_keys [] q) ∙ contains-empty cell_cmp q)
     ∙ or_false (list_any (cell_eq q) (keys_of pairs))
     ∙ ap (list_any (cell_eq q)) are
-    ∙ sym (contains-from_list cell_cmp-total cells q))
+    ∙ sym (contains_different xs q))
   where
     or_false : (b : Bool) → (b || false) ≡ b
     or_false true = refl

@@ -62,7 +62,7 @@ counted_once : (b : Bool) (c : Cell) (n : ℕ) (us : List Cell) → n ≡ length
 counted_once true c n us e = e
 counted_once false c n us e = add-one n ∙ ap suc e
 
-pub set_count : (cs : List Cell) → len (from_list {R = cell_cmp} cs) ≡ distinct_count cell_eq cs
+set_count : (cs : List Cell) → len (from_list {R = cell_cmp} cs) ≡ distinct_count cell_eq cs
 set_count [] = len-empty cell_cmp
 set_count (c ∷ cs) =
     len-insert cell_cmp-total (from_list cs) c

@@ -3,7 +3,6 @@ pub mod Bags
 pub mod Counts
 pub mod Differing
 pub mod Extremes
-pub mod Held
 pub mod Picks
 pub mod Reducing
 pub mod Room

@@ -71,12 +71,11 @@ impl<H: KeyHash<Cell>> Acc<H> {
         }
     }
 
-    /// The accumulator of COUNT DISTINCT of a list, which is made at once: as if it had been stepped with each cell. It takes no
-    /// memory.
-    pub fn of_different(cells: Vec<Cell>) -> Acc<H>
-        ensures { result ≡ acc_of kind.CountDistinct cells.items }
+    /// The accumulator of COUNT DISTINCT of a list, which is made at once: as if it had been stepped with each cell.
+    pub fn of_different(alloc: Global, cells: Vec<Cell>) -> Result<Acc<H>, AllocError>
+        ensures { IfOk result (λ acc. acc ≡ acc_of kind.CountDistinct cells.items) }
     {
-        Acc::CountDistinct(CountDistinct::of_cells(cells))
+        Ok(Acc::CountDistinct(CountDistinct::of_cells(alloc, cells)?))
     }
 
     /// Makes it the accumulator of its list and the cell behind it. It takes memory only where the

@@ -57,8 +57,7 @@ fn cells_by_group(
     requires { AreOfGroups count parts.now }
     ensures { IfOk result (λ v. AreListed count (groups_of_parts parts.now) (cells_of_parts column.now.cells parts.now) (lists_of v.items)) }
 {
-    let sizes = sizes_of(alloc, count, parts)?;
-    let mut lists = empty_lists(alloc, sizes.as_slice())?;
+    let mut lists = empty_lists(alloc, count)?;
     for part in parts {
         let cell = column.cell(part.code)?;
         lists[part.group as usize].push(cell)?;
@@ -66,26 +65,13 @@ fn cells_by_group(
     Ok(lists)
 }
 
-/// How many parts each of `count` groups has. Nothing rests on the numbers.
-fn sizes_of(alloc: Global, count: usize, parts: &[Part]) -> Result<Vec<u32>, AllocError>
-    ensures { IfOk result (λ v. length v.items ≡ count) }
+/// So many lists of no cells.
+fn empty_lists(alloc: Global, count: usize) -> Result<Vec<Vec<Cell>>, AllocError>
+    ensures { IfOk result (λ v. lists_of v.items ≡ replicate count []) }
 {
-    let mut sizes = Vec::from_elem(alloc, 0u32, count)?;
-    for part in parts {
-        if let Some(size) = sizes.get_mut(part.group as usize) {
-            *size = size.wrapping_add(1);
-        }
-    }
-    Ok(sizes)
-}
-
-/// Lists of no cells, each with room for so many.
-fn empty_lists(alloc: Global, sizes: &[u32]) -> Result<Vec<Vec<Cell>>, AllocError>
-    ensures { IfOk result (λ v. lists_of v.items ≡ replicate (length sizes.now) []) }
-{
-    let mut lists = Vec::with_capacity(alloc, sizes.len())?;
-    for size in sizes {
-        lists.push(Vec::with_capacity(alloc, *size as usize)?)?;
+    let mut lists = Vec::with_capacity(alloc, count)?;
+    for _list in 0..count {
+        lists.push(Vec::new(alloc))?;
     }
     Ok(lists)
 }
@@ -99,7 +85,7 @@ fn accumulators_of<H: KeyHash<Cell>>(
 {
     let mut accs = Vec::with_capacity(alloc, lists.len())?;
     for list in lists {
-        accs.push(Acc::of_different(list))?;
+        accs.push(Acc::of_different(alloc, list)?)?;
     }
     Ok(accs)
 }

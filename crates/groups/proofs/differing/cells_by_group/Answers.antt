@@ -1,4 +1,4 @@
-use Rattle.std.proofs.Common.{◌<◌, ◌∙◌, List, [], ap, arith, get_or, length, replicate, rules}
+use Rattle.std.proofs.Common.{◌<◌, List, arith, get_or, rules}
 use Rattle.std.proofs.lemmas.List.{length-map}
 use Rattle.groups.specs.Differing.{lists_of}
 use Rattle.groups.specs.Parting.{no_part}
@@ -8,7 +8,7 @@ use Rattle.groups.proofs.TuplesLemmas.{all_at}
 use Rattle.groups.proofs.differing.cells_by_group.Goals as goal
 
 pub loop-part-init : goal.loop-part-init
-loop-part-init c = listed_none c.args.count _ (c.in_ok-lists.ensures ∙ ap (λ n. replicate n []) (ap (λ l. length l) c.as_slice.ensures.value ∙ c.in_ok-sizes.ensures))
+loop-part-init c = listed_none c.args.count _ c.in_ok-lists.ensures
 
 pub index_mut-requires : goal.index_mut-requires
 index_mut-requires c =
