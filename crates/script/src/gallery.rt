@@ -1,7 +1,7 @@
 //! The viewers beside a run: they are started once a table is declared, and their blocks come behind those of all lines.
 ghost use Rattle.std.specs.Prelude.{◌≡◌, ◌+◌, ◌<◌, ◌^◌, ℕ, [], List, length, IfErr, IfOk, OnOk};
 ghost use Rattle.std.specs.List.{AllByRecursion};
-ghost use Rattle.board.specs.Editions.{edition, schema as schema_of};
+ghost use Rattle.board.specs.Editions.{IsNewViewer, edition, schema as schema_of};
 ghost use Rattle.report.specs.Watching.{IsOf};
 ghost use Rattle.script.specs.Desks.{IsBehind, Keeps};
 ghost use Rattle.script.specs.Endings.{Delivers, Ends};
@@ -16,12 +16,13 @@ ghost use Rattle.script.specs.Viewers.{AreAsked, Attend, HasAttended, HasViewers
 use crate::block::{view_text, viewers_refused_block};
 use crate::ended::Ended;
 use crate::manner::Manner;
+use crate::owned::beside;
 use crate::reporting::read_plan;
 use crate::setup::SpeltSetup;
 use crate::stage::Stage;
 use crate::unstarted::Unstarted;
 use crate::viewing::Viewing;
-use board::Keeper;
+use board::{Keeper, Viewer};
 use cells::{Cell, KeyHash, Refused, Schema, Tuple};
 use crew::Gate;
 use forms::Form;
@@ -130,9 +131,7 @@ impl<H: KeyHash<Cell> + KeyHash<Tuple> + Send + Sync> Gallery<H> {
             OnOk result (AllByRecursion (IsStarted manner (viewing_of viewing.entry) keeper.old) self.new.audience.watches) }
     {
         for question in questions {
-            let Ok(viewer) = keeper.viewer() else {
-                return Err(Unstarted::NotShown);
-            };
+            let (question, viewer) = beside(viewer_of(keeper), question)?;
             self.audience
                 .begin(starter, viewer, question, viewing.shots)?;
         }
@@ -195,6 +194,17 @@ impl<H: KeyHash<Cell> + KeyHash<Tuple> + Send + Sync> Gallery<H> {
             )?;
         }
         Ok(())
+    }
+}
+
+/// A viewer of the keeper's table.
+fn viewer_of<H: KeyHash<Cell>>(keeper: &mut Keeper<H>) -> Result<Viewer<H>, Unstarted>
+    ensures same { keeper.new ≡ keeper.old }
+    ensures viewer { IfOk result (IsNewViewer keeper.old) }
+{
+    match keeper.viewer() {
+        Ok(viewer) => Ok(viewer),
+        Err(_) => Err(Unstarted::NotShown),
     }
 }
 

@@ -1,6 +1,6 @@
 //! Scripts: the runner, which goes from line to line over one table, what a script writes, and the laws of that. A
 //! program that runs scripts calls [`run`] or [`run_by`], with viewers beside the lines [`live`], and where it ends behind its
-//! run [`run_last`], or [`run_in`] in a manner of its choice. One that answers lines as they come holds a [`Session`].
+//! run [`run_in`], in a manner of its choice. One that answers lines as they come holds a [`Session`].
 #![tactic(auto)]
 
 mod block;
@@ -23,6 +23,7 @@ mod listing;
 mod load_line;
 mod manner;
 mod on_refusal;
+mod owned;
 mod refusal_name;
 mod reporting;
 mod running;
@@ -52,7 +53,7 @@ pub use limits::{
 };
 pub use manner::Manner;
 pub use on_refusal::OnRefusal;
-pub use running::{live, run, run_by, run_in, run_last};
+pub use running::{live, run, run_by, run_in};
 pub use session::Session;
 pub use setup::Setup;
 pub use viewing::Viewing;

@@ -2,6 +2,7 @@
 ghost use Rattle.std.specs.Prelude.{◌≡◌, IfOk};
 ghost use Rattle.script.specs.Manners.{in_form, question_in};
 
+use crate::owned::beside;
 use forms::Form;
 use query::Plan;
 use report::{Arrangement, Question};
@@ -33,6 +34,7 @@ impl Manner {
     pub(crate) fn question(&self, alloc: Global, plan: Plan) -> Result<Question, AllocError>
         ensures { IfOk result (λ question. question ≡ question_in self.now plan) }
     {
-        Question::new(alloc, self.form, plan, self.arrangement.clone()?)
+        let (plan, arrangement) = beside(self.arrangement.clone(), plan)?;
+        Question::new(alloc, self.form, plan, arrangement)
     }
 }

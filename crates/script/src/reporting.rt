@@ -1,13 +1,15 @@
 //! The reports of a run: what a text asks is read and checked at its line, over the edition that stands published there.
 ghost use Rattle.std.specs.Prelude.{◌≡◌, IfOk};
+ghost use Rattle.board.specs.Editions as editions;
 ghost use Rattle.script.specs.Blocks.{WillReport, WillReportPlan};
 ghost use Rattle.script.specs.Says.{GivesPlan};
 
 use crate::block::{Asked, Block, refuse, report_opening};
 use crate::fault::Fault;
 use crate::manner::Manner;
+use crate::owned::beside;
 use crate::setup::SpeltSetup;
-use board::Keeper;
+use board::{Keeper, Snapshot};
 use cells::{Cell, KeyHash, Refused, Schema};
 use crew::Gate;
 use query::{Plan, a_text_has_one_answer, check, read};
@@ -52,14 +54,23 @@ fn ask<H: KeyHash<Cell>>(
 ) -> Result<Block<H>, AllocError>
     ensures { IfOk result (WillReportPlan manner.now keeper.now number plan) }
 {
-    let Ok(snapshot) = keeper.snapshot() else {
-        return Err(AllocError);
-    };
     let question = manner.question(alloc, plan)?;
-    let opening = report_opening(alloc, manner, number, snapshot.edition())?;
+    let opening = report_opening(alloc, manner, number, keeper.edition());
+    let (question, opening) = beside(opening, question)?;
+    let (question, snapshot) = beside(published(keeper), question)?;
     Ok(Block::Report(Asked {
         opening,
         snapshot,
         question,
     }))
+}
+
+/// The last published edition.
+fn published<H: KeyHash<Cell>>(keeper: &Keeper<H>) -> Result<Snapshot<H>, AllocError>
+    ensures { IfOk result (λ s. s.rows ≡ editions.published keeper.now) }
+{
+    let Ok(snapshot) = keeper.snapshot() else {
+        return Err(AllocError);
+    };
+    Ok(snapshot)
 }

@@ -26,6 +26,7 @@ use crate::limits::{MAX_PARTS, MAX_SCRIPT_BYTES};
 use crate::lines::lines_of;
 use crate::manner::Manner;
 use crate::on_refusal::OnRefusal;
+use crate::owned::beside;
 use crate::setup::{Setup, SpeltSetup};
 use crate::step::{Line, execute};
 use crate::too_much::refuse_whole;
@@ -171,30 +172,8 @@ pub fn run_by<O: Out, G: Gate, R: Threads + Wait + Sync>(
 /// [`Finish::Stopped`], the bytes that the writer took are the blocks of the lines up to that one, and nothing of viewers.
 /// A script that is refused as a whole stops it, too. Where it answers [`Finish::Through`], no line was refused. Where it
 /// ends early, a beginning of such bytes was taken.
-pub fn run_last<O: Out, G: Gate, R: Threads + Wait + Sync>(
-    setup: &Setup<'_, R, G>,
-    hash: HashChoice,
-    script: &[u8],
-    out: &mut O,
-) -> Result<Finish, Ended>
-    requires { O.faults out.old + 1 < 2 ^ 64 }
-    ensures by { EndsBy setup.now.on_refusal (hash_of_choice hash) O.taken O.faults out.old out.new (givens setup.now.how.now.rows setup.now.parts.now) (asked_of setup.now.viewing) script.now result }
-    ensures goes_on { setup.now.on_refusal ≡ OnRefusal.GoesOn → EndsRun (hash_of_choice hash) O.taken O.faults out.old out.new (givens setup.now.how.now.rows setup.now.parts.now) (asked_of setup.now.viewing) script.now result }
-{
-    let same = Setup {
-        rt: setup.rt,
-        alloc: setup.alloc,
-        how: setup.how,
-        parts: setup.parts,
-        viewing: setup.viewing,
-        on_refusal: setup.on_refusal,
-        gate: setup.gate,
-    };
-    let manner = Manner::of(setup.alloc, Form::Classic);
-    run_in(&same, &manner, hash, script, out)
-}
-
-/// [`run_last`] that tells its answers in a way of its own. The form is that of all that the run writes: what a report answers,
+///
+/// Answers are told in the manner that is given. Its form is that of all that the run writes: what a report answers,
 /// the headings of blocks, refusals, shapes, and what viewers report. Reports and shapes have headings where these are wanted,
 /// and the rows of each report, of viewers, too, are so arranged; they are those of [`run`].
 pub fn run_in<'a, O: Out, G: Gate, R: Threads + Wait + Sync>(
@@ -384,9 +363,9 @@ fn go_over<
     for bytes in lines_of(script) {
         number += 1;
         let block = execute(setup, desk, Line { number, bytes })?;
-        gallery.attend(setup, starter, desk)?;
-        let stops = setup.on_refusal.stops(block.is_refused());
-        add(starter, backlog, out, number, block)?;
+        let (given, _attended) = beside(gallery.attend(setup, starter, desk), block)?;
+        let stops = setup.on_refusal.stops(given.is_refused());
+        add(starter, backlog, out, number, given)?;
         if stops {
             return Ok(Finish::Stopped);
         }

@@ -1,6 +1,6 @@
 //! Where the lines that came have left a session.
 ghost use Rattle.std.specs.Prelude.{◌≡◌, ◌+◌, ◌<◌, ◌^◌, ◌∷◌, [], ℕ, List, None, false, length, min, true, IfOk, IsErrOf, OnErr, OnOk};
-ghost use Rattle.report.specs.Waiting.{WritesAll};
+ghost use Rattle.report.specs.Waiting.{Heads, WritesAll};
 ghost use Rattle.report.specs.declared.unwritten.Unwritten.TheVariants as unwritten;
 ghost use Rattle.report.specs.declared.want.Want.TheVariants as want;
 ghost use Rattle.script.specs.Blocks.{IsAsked, WillBe, is_refused};
@@ -208,16 +208,26 @@ fn write_block<
         Block::Text(text) => write_text(out, text.as_slice()),
         Block::Refusal(text) => write_text(out, text.as_slice()),
         Block::Report(asked) => {
-            let Asked {
-                opening,
-                snapshot,
-                question,
-            } = asked;
-            setup
-                .answering()
-                .write(out, number, opening.as_slice(), &snapshot, &question)
+            let written = write_asked(setup, number, &asked, out);
+            drop(asked);
+            written
         }
     }
+}
+
+/// Writes how the block of a report begins, and the answer.
+fn write_asked<
+    H: KeyHash<Cell> + KeyHash<Tuple> + Send + Sync,
+    O: Out,
+    G: Gate,
+    R: Threads + Wait + Sync,
+>(setup: &SpeltSetup<'_, R, G>, number: u64, asked: &Asked<H>, out: &mut O) -> Result<(), Unwritten>
+    requires { O.faults out.old + 1 < 2 ^ 64 }
+    ensures { WritesAll O.taken O.faults out.old out.new (Heads asked.now.opening.items asked.now.snapshot asked.now.question) result }
+{
+    let answering = setup.answering();
+    let opening = asked.opening.as_slice();
+    answering.write(out, number, opening, &asked.snapshot, &asked.question)
 }
 
 /// Writes a text. It wants nothing.

@@ -9,13 +9,15 @@ use Rattle.script.proofs.reporting.ask.Goals as goal
 pub returns : goal.returns
 returns g c = record {
   is = λ rs left same.
-      let named : c.in_ok-opening.opening.items ≡ opening c.args.manner.now c.args.number (editions.edition c.args.keeper.now) =
-      c.in_ok-opening.ensures ∙ ap (opening c.args.manner.now c.args.number) (c.edition.ensures ∙ c.in-Ok.ensures.edition) in
+      let begins = rw c.in_ok-question-2.ensures.0 at c.report_opening-opening.ensures in
+      let named : c.in_ok-question-2.opening.items ≡ opening c.args.manner.now c.args.number (editions.edition c.args.keeper.now) =
+      begins ∙ ap (opening c.args.manner.now c.args.number) c.edition.ensures in
+      let rows = rw c.in_ok-question-3.ensures.0 at c.published.ensures in
       record {
         answer = spelt c.args.manner.now (answer_of c.args.plan rs);
         has = λ answer answers.
-            let asked = c.in_ok-question.ensures in
-            answers.is rs left (c.in-Ok.ensures.rows ∙ same) ∙ ap (λ (q : Question). answer_to q rs) asked;
+            let asked = c.in_ok-question-3.ensures.1 ∙ c.in_ok-question-2.ensures.1 ∙ c.in_ok-question.ensures in
+            answers.is rs left (rows ∙ same) ∙ ap (λ (q : Question). answer_to q rs) asked;
         joined = ap (λ text. text ++ spelt c.args.manner.now (answer_of c.args.plan rs)) (sym named);
       };
   accepted = refl;

@@ -45,53 +45,56 @@ pub attend-requires-clause-attend : goal.attend-requires-clause-attend
 attend-requires-clause-attend g c = λ κs outlives.
     may_attend (asked_of c.args.setup.now.viewing) c.loop-bytes.desk c.execute.new.desk c.loop-bytes.gallery.stage c.loop-bytes.gallery.audience.watches c.in_ok-block.ensures.step.stays c.loop-bytes.invariant.attended
 
-pub returns-in_err-attend : goal.returns-in_err-attend
-returns-in_err-attend g c =
-    let p = err_from_is_err_and c.from_residual-in_err-attend.result c.from_residual-in_err-attend.ensures.1 in
-    match_err _ _ c.from_residual-in_err-attend.result p.0 p.1 (ends_unstarted g.O.Out.taken g.O.Out.faults _ _ _ p.0 (Err p.0) refl
+pub returns-in_err-given : goal.returns-in_err-given
+returns-in_err-given g c =
+    let p = err_from_is_err_and c.from_residual-in_err-given.result c.from_residual-in_err-given.ensures.1 in
+    match_err _ _ c.from_residual-in_err-given.result p.0 p.1 (ends_unstarted g.O.Out.taken g.O.Out.faults _ _ _ p.0 (Err p.0) refl
     (begins_tailed c.each_text_has_an_answer.ensures g.H.KeyHash-1.hash_of (givens_in c.args.setup.now.manner.now c.args.setup.now.how.now.rows c.args.setup.now.parts.now) c.args.setup.now.on_refusal (asked_of c.args.setup.now.viewing) (lines c.args.script.now) _ _
     (reached_so_far _ _ g.H.KeyHash-1.hash_of (givens_in c.args.setup.now.manner.now c.args.setup.now.how.now.rows c.args.setup.now.parts.now) c.args.setup.now.on_refusal (last_first c.loop-bytes.yielded) c.loop-bytes.bytes-iterator (lines c.args.script.now) c.loop-bytes.desk c.loop-bytes.backlog c.loop-bytes.number
     c.loop-bytes.invariant.reached c.each_text_has_an_answer.ensures (record { one_query = c.a_text_has_one_answer.ensures.one_query; one_fault = c.a_text_has_one_answer.ensures.one_fault; no_both = c.a_text_has_one_answer.ensures.no_both })))
-    _ _ _ p.2 (has_want (givens_in c.args.setup.now.manner.now c.args.setup.now.how.now.rows c.args.setup.now.parts.now) (asked_of c.args.setup.now.viewing) (lines c.args.script.now) c.in_err-attend.ensures.asked) c.in_err-attend.ensures.asked)
+    _ _ _ p.2 (has_want (givens_in c.args.setup.now.manner.now c.args.setup.now.how.now.rows c.args.setup.now.parts.now) (asked_of c.args.setup.now.viewing) (lines c.args.script.now) (rw c.in_err-given.ensures at c.attend.ensures.asked)) (rw c.in_err-given.ensures at c.attend.ensures.asked))
 
 pub loop-bytes-preserved : goal.loop-bytes-preserved
 loop-bytes-preserved g c =
+    let step = rw (sym c.in_ok-given.ensures.1) at c.in_ok-block.ensures.step in
     let next = told _ _ g.H.KeyHash-1.hash_of (givens_in c.args.setup.now.manner.now c.args.setup.now.how.now.rows c.args.setup.now.parts.now) c.args.setup.now.on_refusal (last_first c.loop-bytes.yielded) c.loop-bytes.bytes-iterator (lines c.args.script.now) c.loop-bytes.desk c.loop-bytes.backlog c.loop-bytes.number
-    c.loop-bytes.invariant.reached c.in-Some.bytes.now c.next.new.self c.execute.new.desk c.in_ok-block.block c.in-Some.ensures.steps c.in_ok-block.ensures.step in
+    c.loop-bytes.invariant.reached c.in-Some.bytes.now c.next.new.self c.execute.new.desk c.in_ok-given.given c.in-Some.ensures.steps step in
     record {
-      reached = rw (last_first-more, c.in_ok-attend.ensures.same)
+      reached = rw (last_first-more, c.attend.ensures.same)
           (reached_more _ _ g.H.KeyHash-1.hash_of (givens_in c.args.setup.now.manner.now c.args.setup.now.how.now.rows c.args.setup.now.parts.now) c.args.setup.now.on_refusal (last_first c.loop-bytes.yielded) c.loop-bytes.bytes-iterator (lines c.args.script.now) c.loop-bytes.desk c.loop-bytes.backlog c.loop-bytes.number
-          c.loop-bytes.invariant.reached c.in-Some.bytes.now c.next.new.self c.execute.new.desk c.in_ok-block.block c.in-Some.ensures.steps c.in_ok-block.ensures.step _ c.add.new.backlog _
+          c.loop-bytes.invariant.reached c.in-Some.bytes.now c.next.new.self c.execute.new.desk c.in_ok-given.given c.in-Some.ensures.steps step _ c.add.new.backlog _
           (c.in_ok-add.ensures.goes_on.written _ (record { waiting = c.loop-bytes.invariant.reached.waiting; more = next.text; awaits = c.loop-bytes.invariant.reached.awaits; is_more = next.will; joined = refl })) c.in_ok-add.ensures.asked (ap (stops c.args.setup.now.on_refusal) (sym c.is_refused.ensures) ∙ sym c.stops-stops.ensures ∙ c.if-stops.false));
-      attended = c.in_ok-attend.ensures.attended;
+      attended = (rw c.in_ok-given.ensures.0 at c.attend.ensures.attended);
       sound = c.in_ok-add.ensures.goes_on.sound ∙ c.loop-bytes.invariant.sound;
     }
 
 pub returns-in_err-add : goal.returns-in_err-add
 returns-in_err-add g c =
+    let step = rw (sym c.in_ok-given.ensures.1) at c.in_ok-block.ensures.step in
     let p = err_from_is_err_and c.from_residual-in_err-add.result c.from_residual-in_err-add.ensures.1 in
     let next = told _ _ g.H.KeyHash-1.hash_of (givens_in c.args.setup.now.manner.now c.args.setup.now.how.now.rows c.args.setup.now.parts.now) c.args.setup.now.on_refusal (last_first c.loop-bytes.yielded) c.loop-bytes.bytes-iterator (lines c.args.script.now) c.loop-bytes.desk c.loop-bytes.backlog c.loop-bytes.number
-    c.loop-bytes.invariant.reached c.in-Some.bytes.now c.next.new.self c.execute.new.desk c.in_ok-block.block c.in-Some.ensures.steps c.in_ok-block.ensures.step in
+    c.loop-bytes.invariant.reached c.in-Some.bytes.now c.next.new.self c.execute.new.desk c.in_ok-given.given c.in-Some.ensures.steps step in
     match_err _ _ c.from_residual-in_err-add.result p.0 p.1 (ends_unwritten g.O.Out.taken g.O.Out.faults _ _ _ p.0 (Err p.0) refl
     (begins_tailed c.each_text_has_an_answer.ensures g.H.KeyHash-1.hash_of (givens_in c.args.setup.now.manner.now c.args.setup.now.how.now.rows c.args.setup.now.parts.now) c.args.setup.now.on_refusal (asked_of c.args.setup.now.viewing) (lines c.args.script.now) _ _
     (reached_beginning _ _ g.H.KeyHash-1.hash_of (givens_in c.args.setup.now.manner.now c.args.setup.now.how.now.rows c.args.setup.now.parts.now) c.args.setup.now.on_refusal (last_first c.loop-bytes.yielded) c.loop-bytes.bytes-iterator (lines c.args.script.now) c.loop-bytes.desk c.loop-bytes.backlog c.loop-bytes.number
-    c.loop-bytes.invariant.reached c.in-Some.bytes.now c.next.new.self c.execute.new.desk c.in_ok-block.block c.in-Some.ensures.steps c.in_ok-block.ensures.step c.each_text_has_an_answer.ensures (record { one_query = c.a_text_has_one_answer.ensures.one_query; one_fault = c.a_text_has_one_answer.ensures.one_fault; no_both = c.a_text_has_one_answer.ensures.no_both }) _
+    c.loop-bytes.invariant.reached c.in-Some.bytes.now c.next.new.self c.execute.new.desk c.in_ok-given.given c.in-Some.ensures.steps step c.each_text_has_an_answer.ensures (record { one_query = c.a_text_has_one_answer.ensures.one_query; one_fault = c.a_text_has_one_answer.ensures.one_fault; no_both = c.a_text_has_one_answer.ensures.no_both }) _
     (c.in_err-add.ensures.goes_on.written _ (record { waiting = c.loop-bytes.invariant.reached.waiting; more = next.text; awaits = c.loop-bytes.invariant.reached.awaits; is_more = next.will; joined = refl })).beginning))
     _ _ _ p.2 (λ writer. let failed = c.in_err-add.ensures.goes_on.fault (ap Err writer) in omega (arith, failed, c.loop-bytes.invariant.sound))
     (λ late. may_want (givens_in c.args.setup.now.manner.now c.args.setup.now.how.now.rows c.args.setup.now.parts.now) (asked_of c.args.setup.now.viewing) (lines c.args.script.now)
     (asked_for_workers _ _ g.H.KeyHash-1.hash_of (givens_in c.args.setup.now.manner.now c.args.setup.now.how.now.rows c.args.setup.now.parts.now) c.args.setup.now.on_refusal (last_first c.loop-bytes.yielded) c.loop-bytes.bytes-iterator (lines c.args.script.now) c.loop-bytes.desk c.loop-bytes.backlog c.loop-bytes.number
-    c.loop-bytes.invariant.reached c.in-Some.bytes.now c.next.new.self c.execute.new.desk c.in_ok-block.block c.in-Some.ensures.steps c.in_ok-block.ensures.step (c.in_err-add.ensures.worker (ap Err late)))))
+    c.loop-bytes.invariant.reached c.in-Some.bytes.now c.next.new.self c.execute.new.desk c.in_ok-given.given c.in-Some.ensures.steps step (c.in_err-add.ensures.worker (ap Err late)))))
 
 pub returns-then-stops : goal.returns-then-stops
 returns-then-stops g c =
+    let step = rw (sym c.in_ok-given.ensures.1) at c.in_ok-block.ensures.step in
     let next = told _ _ g.H.KeyHash-1.hash_of (givens_in c.args.setup.now.manner.now c.args.setup.now.how.now.rows c.args.setup.now.parts.now) c.args.setup.now.on_refusal (last_first c.loop-bytes.yielded) c.loop-bytes.bytes-iterator (lines c.args.script.now) c.loop-bytes.desk c.loop-bytes.backlog c.loop-bytes.number
-    c.loop-bytes.invariant.reached c.in-Some.bytes.now c.next.new.self c.execute.new.desk c.in_ok-block.block c.in-Some.ensures.steps c.in_ok-block.ensures.step in
+    c.loop-bytes.invariant.reached c.in-Some.bytes.now c.next.new.self c.execute.new.desk c.in_ok-given.given c.in-Some.ensures.steps step in
     record {
-      over = rw c.in_ok-attend.ensures.same
+      over = rw c.attend.ensures.same
           (stopped _ _ g.H.KeyHash-1.hash_of (givens_in c.args.setup.now.manner.now c.args.setup.now.how.now.rows c.args.setup.now.parts.now) c.args.setup.now.on_refusal (last_first c.loop-bytes.yielded) c.loop-bytes.bytes-iterator (lines c.args.script.now) c.loop-bytes.desk c.loop-bytes.backlog c.loop-bytes.number
-          c.loop-bytes.invariant.reached c.in-Some.bytes.now c.next.new.self c.execute.new.desk c.in_ok-block.block c.in-Some.ensures.steps c.in_ok-block.ensures.step _ c.add.new.backlog _
+          c.loop-bytes.invariant.reached c.in-Some.bytes.now c.next.new.self c.execute.new.desk c.in_ok-given.given c.in-Some.ensures.steps step _ c.add.new.backlog _
           (c.in_ok-add.ensures.goes_on.written _ (record { waiting = c.loop-bytes.invariant.reached.waiting; more = next.text; awaits = c.loop-bytes.invariant.reached.awaits; is_more = next.will; joined = refl })) c.in_ok-add.ensures.asked (ap (stops c.args.setup.now.on_refusal) (sym c.is_refused.ensures) ∙ sym c.stops-stops.ensures ∙ c.if-stops.true));
-      attended = c.in_ok-attend.ensures.attended;
+      attended = (rw c.in_ok-given.ensures.0 at c.attend.ensures.attended);
       sound = c.in_ok-add.ensures.goes_on.sound ∙ c.loop-bytes.invariant.sound;
     }
 

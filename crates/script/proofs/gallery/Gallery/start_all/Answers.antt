@@ -17,15 +17,17 @@ loop-question-preserved g c =
     let inv = c.loop-question.invariant in
     let fewer = ap length c.in-Some.ensures.steps.0 in
     let more = ap (λ a. length a.watches) c.in_ok-begin.ensures.watching in
+    let same = c.in_ok-question.ensures.1 in
+    let viewer = rw c.in_ok-question.ensures.0 at c.viewer_of.ensures.viewer in
     record {
-      same = c.in-Ok.ensures.same ∙ inv.same;
-      many = omega (arith, inv.many, fewer, more, length-append c.loop-question.self.audience.watches (watch_from (c.loop-question.self.audience.begun + 1) c.in-Ok.viewer c.in-Some.question c.args.viewing.shots ∷ []));
+      same = c.viewer_of.ensures.same ∙ inv.same;
+      many = omega (arith, inv.many, fewer, more, length-append c.loop-question.self.audience.watches (watch_from (c.loop-question.self.audience.begun + 1) c.in_ok-question.viewer c.in_ok-question.question c.args.viewing.shots ∷ []));
       started = λ manner asked.
           let so = inv.started manner asked in
           let left = subst (AreAsked manner (schema c.args.keeper.now) c.args.viewing.query.now) c.in-Some.ensures.steps.0 so.0 in (
             left.1,
-            rw c.in_ok-begin.ensures.watching (started_more manner (viewing_of c.args.viewing) c.args.keeper.now c.loop-question.self.audience.watches (c.loop-question.self.audience.begun + 1) c.in-Ok.viewer c.in-Some.question so.1
-                (c.in-Ok.ensures.viewer.board ∙ ap board inv.same) (c.in-Ok.ensures.viewer.schema ∙ ap schema inv.same) left.0),
+            rw c.in_ok-begin.ensures.watching (started_more manner (viewing_of c.args.viewing) c.args.keeper.now c.loop-question.self.audience.watches (c.loop-question.self.audience.begun + 1) c.in_ok-question.viewer c.in_ok-question.question so.1
+                (viewer.board ∙ ap board inv.same) (viewer.schema ∙ ap schema inv.same) (rw (sym same) at left.0)),
           );
     }
 
