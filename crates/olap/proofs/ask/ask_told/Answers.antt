@@ -2,7 +2,7 @@ use Rattle.std.proofs.Common.{List, map, ℕ}
 use Rattle.std.specs.Io.Buffered.{writer_buffer, writer_contents}
 use Rattle.olap.specs.Queries.{IsAnswer, IsStrictOutput}
 use Rattle.olap.proofs.QueriesLemmas.{answer_of, leaves_as, leaves_nothing, not_1_3}
-use Rattle.olap.proofs.ask.ask_files.Goals as goal
+use Rattle.olap.proofs.ask.ask_told.Goals as goal
 
 pub returns-in-Ok-clause-leaves : goal.returns-in-Ok-clause-leaves
 returns-in-Ok-clause-leaves g c =
