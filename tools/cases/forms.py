@@ -1,5 +1,7 @@
 """The forms of what a run writes: `--format classic`, which is the default, `csv`, `json` and `table`."""
 
+import json
+
 from cases.reasons import told
 from cases.table import Case, OneOf, SCRIPT, script
 
@@ -123,6 +125,41 @@ def refusals(form, text):
         yield of_form(form, f"refusal {code}", lines, told, (), ("--rows", "1"))
 
 
+# Texts, as they stand in a table and as fields of CSV, where quotes stand if they would not be read back without them.
+TEXTS = [
+    (" a", " a", '" a"'),
+    ("a\t", r"a\t", '"a\t"'),
+    ("a\rb", r"a\rb", '"a\rb"'),
+    ("a b", "a b", "a b"),
+    ("a,b", "a,b", '"a,b"'),
+    ("\u0001\u00e9'", "\\u0001\u00e9'", "\u0001\u00e9'"),
+    ('say "so", \\twice\n', 'say "so", \\twice\\n', '"say ""so"", \\twice\n"'),
+    ("\ufeffa", "\ufeffa", '"\ufeffa"'),
+    ("a\ufeff", "a\ufeff", "a\ufeff"),
+]
+
+
+def texts(form, before, row, between="\n", after="\n"):
+    """A report on these texts, and what a form makes of it: `row` spells one by its number, its text, as it is shown, and its
+    field."""
+    part = "K,S\n" + "".join(f"{number},{field}\n" for number, (_, _, field) in enumerate(TEXTS))
+    lines = ["table T (K INT KEY, S TEXT)", "load 1", "publish", "report SELECT K, S FROM T GROUP BY K, S"]
+    rows = between.join(row(number, *each) for number, each in enumerate(TEXTS))
+    return of_form(form, "texts", lines, before + rows + after, [part])
+
+
+def in_json(*values):
+    return json.dumps(values, ensure_ascii=False, separators=(",", ":"))
+
+
+WIDTH = max(len(shown) for _, shown, _ in TEXTS)
+SPELLED = [
+    texts("classic", "line 4 edition 1\nK | S\n", lambda number, text, *_: f"{number} | " + "'" + text.replace("'", "''") + "'"),
+    texts("csv", 'line,4,edition,1\n"K","S"\n', lambda number, _, __, field: f"{number},{field}"),
+    texts("json", '{"line":4,"edition":1,"columns":["K","S"],"rows":[', lambda number, text, *_: in_json(number, text), ",", "]}\n"),
+    texts("table", f"line 4 edition 1\nK  S\n-  {'-' * WIDTH}\n", lambda number, _, shown, __: f"{number}  {shown}"),
+]
+
 VIEWED = ["table T (K INT KEY)", "put 1", "publish"]
 QUERY = "SELECT COUNT(*) FROM T"
 
@@ -140,6 +177,7 @@ def views(of_edition):
 
 
 CASES = [
+    *SPELLED,
     *[of_form(form, "a script", LINES, output, [PART], PLAIN) for form, output in FORMS.items()],
     script("a script of no form", "".join(f"{line}\n" for line in LINES), CLASSIC, [PART], PLAIN),
     *refusals("csv", "line,NUMBER,refused,CODE,NAME\n"),

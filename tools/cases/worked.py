@@ -241,8 +241,12 @@ REPORTS = [
 OPTIONS = [("--depth", depth, "--hash", hash) for depth in ("0", "1", "13") for hash in ("fnv", "plain")]
 OPTIONS += [("--workers", workers, "--depth", "13") for workers in ("2", "64")]
 
+# All reports on loaded sales, one after another on one edition.
+TOGETHER = [*SALES, *[(f"report {query}", gives) for _, before, query, gives in REPORTS if before is SALES]]
+
 CASES = [
     case
     for title, before, query, gives in REPORTS
     for case in lines_by(title, [*before, (f"report {query}", gives)], [SALES_PART], OPTIONS)
 ]
+CASES += lines_by("all reports on sales", TOGETHER, [SALES_PART], OPTIONS)

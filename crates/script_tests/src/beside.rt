@@ -1,11 +1,11 @@
 //! Reports that run beside later lines: each answers the edition that stood at its line, at most eight are under way, and
-//! blocks are written in line order. Each gate gives up after so many turns, and yields in each.
+//! blocks are written in line order. The gate gives up after so many turns, and yields in each.
 
-use crate::runs::CUTTING;
-use cells::{Fnv, Plain, Refused};
+use crate::written::{CUTTING, run_into};
+use cells::Refused;
 use crew::Gate;
-use report::{Failing, Pour, Tape};
-use script::{Ended, How, run};
+use report::{Failing, Tape};
+use script::{Ended, How};
 use std::alloc::{AllocError, Global};
 use std::sync::Wait;
 use std::sync::atomic::AtomicU64;
@@ -28,61 +28,17 @@ pub(crate) fn reaches(count: &AtomicU64, number: u64) -> bool {
     false
 }
 
-/// Holds each report until an edition is published.
-#[derive(Drop)]
-struct Until {
-    edition: u64,
-    published: AtomicU64,
-    entered: AtomicU64,
-    late: AtomicU64,
+/// What a gate saw: the last edition, how many reports came and left, how many waited in vain, and how many were there at most.
+#[derive(Clone, Copy)]
+struct Seen {
+    published: u64,
+    entered: u64,
+    left: u64,
+    late: u64,
+    most: u64,
 }
 
-impl Until {
-    fn edition(edition: u64) -> Until {
-        Until {
-            edition,
-            published: AtomicU64::new(0),
-            entered: AtomicU64::new(0),
-            late: AtomicU64::new(0),
-        }
-    }
-}
-
-impl Gate for Until {
-    fn published(&self, edition: u64) {
-        self.published.store(edition, SeqCst);
-    }
-
-    fn entered(&self, _piece: u64) {
-        self.entered.fetch_add(1, SeqCst);
-        if !reaches(&self.published, self.edition) {
-            self.late.fetch_add(1, SeqCst);
-        }
-    }
-}
-
-const CORRECTED: &[u8] =
-    b"table T (K INT KEY, V INT)\nput 1,5\npublish\nreport SELECT COUNT(*), SUM(V) FROM T\ndelete 1\npublish\nreport SELECT COUNT(*), SUM(V) FROM T\nput x\n";
-
-const CORRECTED_REPORTS: &str =
-    "line 4 edition 1\nCOUNT(*) | SUM(V)\n1 | 5\nline 7 edition 2\nCOUNT(*) | SUM(V)\n0 | NULL\nline 8 refused 7\n";
-
-/// The first report is held until its row is deleted and that is published.
-#[test]
-fn a_report_runs_beside_later_lines(rt: HostRuntime) -> Result<(), Fail> {
-    let gate = Until::edition(2);
-    let mut out = Pour::new(Vec::new(rt.alloc()));
-    let how = How::of(1, CUTTING, 9);
-    run::<Fnv, _, _, _>(&rt, rt.alloc(), CORRECTED, &[], &how, &gate, &mut out)?;
-    assert_eq!(rt; out.into_inner().as_slice(), CORRECTED_REPORTS.as_bytes());
-    assert_eq!(rt; gate.late.load(SeqCst), 0);
-    // The second is of no rows, and so of no piece.
-    assert_eq!(rt; gate.entered.load(SeqCst), 1);
-    Ok(())
-}
-
-/// Holds the first reports until so many have come and an edition is published, and keeps how many were there at most, and the
-/// last edition.
+/// Holds the first reports until so many have come and an edition is published.
 #[derive(Drop)]
 struct Held {
     until: u64,
@@ -104,6 +60,16 @@ impl Held {
             left: AtomicU64::new(0),
             late: AtomicU64::new(0),
             most: AtomicU64::new(0),
+        }
+    }
+
+    fn seen(&self) -> Seen {
+        Seen {
+            published: self.published.load(SeqCst),
+            entered: self.entered.load(SeqCst),
+            left: self.left.load(SeqCst),
+            late: self.late.load(SeqCst),
+            most: self.most.load(SeqCst),
         }
     }
 
@@ -147,84 +113,107 @@ fn ten(alloc: Global) -> Result<(String, String), AllocError> {
     Ok((script, reports))
 }
 
+/// How a run of the ten ends.
+struct Outcome {
+    ended: Result<(), Ended>,
+    /// How many bytes it wrote, and how many of the reports it did not; None where it wrote others.
+    bytes: Option<(usize, usize)>,
+    seen: Seen,
+}
+
+/// How many bytes of the reports were taken, and how many were not.
+fn taken_of(reports: &[u8], taken: &[u8]) -> Option<(usize, usize)> {
+    match reports.strip_prefix(taken) {
+        Some(rest) => Some((taken.len(), rest.len())),
+        None => None,
+    }
+}
+
+/// Runs the ten into a tape that takes seven bytes a call.
+fn run_taped<R: Threads + Wait + Sync>(
+    rt: &R,
+    alloc: Global,
+    (script, reports): (&[u8], &[u8]),
+    how: &How,
+    failing: Option<Failing>,
+    gate: &Held,
+) -> Result<Outcome, Refused> {
+    let mut tape = Tape::new(alloc, 1000, 7, failing)?;
+    let ended = run_into(rt, alloc, script, &[], how, None, gate, &mut tape);
+    let bytes = taken_of(reports, tape.bytes());
+    drop(tape);
+    Ok(Outcome {
+        ended,
+        bytes,
+        seen: gate.seen(),
+    })
+}
+
+/// The same, with the ten made.
+fn run_ten<R: Threads + Wait + Sync>(
+    rt: &R,
+    alloc: Global,
+    how: &How,
+    failing: Option<Failing>,
+    gate: &Held,
+) -> Result<Outcome, Refused> {
+    let (script, reports) = ten(alloc)?;
+    let given = (script.as_bytes(), reports.as_bytes());
+    run_taped(rt, alloc, given, how, failing, gate)
+}
+
+/// The same of one worker, under a gate that holds the first eight reports until an edition is published.
+fn run_held<R: Threads + Wait + Sync>(
+    rt: &R,
+    alloc: Global,
+    failing: Option<Failing>,
+    edition: u64,
+) -> Result<Outcome, Refused> {
+    let gate = Held::until(8, edition);
+    let outcome = run_ten(rt, alloc, &How::of(1, WHOLE, 20), failing, &gate);
+    drop(gate);
+    outcome
+}
+
 /// One piece for a report.
 const WHOLE: Cutting = Cutting { depth: 0, small: 0 };
 
+/// The first report goes on when seven later ones have come, each on an edition of its own.
 #[test]
 fn eight_reports_are_under_way(rt: HostRuntime) -> Result<(), Fail> {
-    let gate = Held::until(8, 0);
-    let (script, reports) = ten(rt.alloc())?;
-    let mut out = Pour::new(Vec::new(rt.alloc()));
-    let how = How::of(1, WHOLE, 20);
-    run::<Fnv, _, _, _>(
-        &rt,
-        rt.alloc(),
-        script.as_bytes(),
-        &[],
-        &how,
-        &gate,
-        &mut out,
-    )?;
-    assert_eq!(rt; out.into_inner().as_slice(), reports.as_bytes());
-    assert_eq!(rt; gate.late.load(SeqCst), 0);
-    assert_eq!(rt; gate.most.load(SeqCst), 8);
-    assert_eq!(rt; gate.left.load(SeqCst), 10);
+    let Outcome { ended, bytes, seen } = run_held(&rt, rt.alloc(), None, 0)?;
+    assert_eq!(rt; ended, Ok(()));
+    assert!(rt; matches!(bytes, Some((_, 0))));
+    assert_eq!(rt; (seen.late, seen.most, seen.left), (0, 8, 10));
     Ok(())
 }
 
-/// The writer fails while eight are under way: no ninth begins, the eight are joined, and no line behind that of the
-/// ninth is read.
+/// The writer fails behind `line 4 edition` while eight are under way: no ninth begins, the eight are joined, and no line behind
+/// that of the ninth is read. A report that ends is written with the next line, so none may end before the line of the ninth.
 #[test]
 fn a_fault_of_the_writer_leaves_no_report_under_way(rt: HostRuntime) -> Result<(), Fail> {
-    // A report that ends is written with the next line, so none may end before the line of the ninth.
-    let gate = Held::until(8, 9);
-    let (script, _reports) = ten(rt.alloc())?;
-    let how = How::of(1, WHOLE, 20);
-    let failing = Failing { call: 3, taking: 0 };
-    let mut tape = Tape::new(rt.alloc(), 1000, 7, Some(failing))?;
-    let ended = run::<Fnv, _, _, _>(
-        &rt,
-        rt.alloc(),
-        script.as_bytes(),
-        &[],
-        &how,
-        &gate,
-        &mut tape,
-    );
+    let failing = Some(Failing { call: 3, taking: 0 });
+    let Outcome { ended, bytes, seen } = run_held(&rt, rt.alloc(), failing, 9)?;
     assert_eq!(rt; ended, Err(Ended::WriteFailed));
-    assert_eq!(rt; tape.bytes(), b"line 4 edition".as_slice());
-    assert_eq!(rt; gate.entered.load(SeqCst), 8);
-    assert_eq!(rt; gate.left.load(SeqCst), 8);
-    assert_eq!(rt; gate.published.load(SeqCst), 9);
+    assert!(rt; matches!(bytes, Some((14, _))));
+    assert_eq!(rt; (seen.entered, seen.left, seen.published), (8, 8, 9));
     Ok(())
 }
 
-/// Whether a run writes its reports, or ends for want of memory or of a thread behind a beginning of them; with every
-/// report that was entered left again when it answers.
-fn ends_behind_a_beginning<R: Threads + Wait + Sync>(
-    rt: &R,
-    alloc: Global,
-    script: &[u8],
-    reports: &[u8],
-) -> Result<bool, Refused> {
-    let gate = Held::until(0, 0);
-    let how = How::of(2, CUTTING, 20);
-    let mut tape = Tape::new(alloc, 1000, 1000, None)?;
-    let ended = run::<Plain, _, _, _>(rt, alloc, script, &[], &how, &gate, &mut tape);
-    let is_whole = tape.bytes() == reports;
-    let is_ended = match ended {
-        Ok(()) => is_whole,
-        Err(why) => why != Ended::WriteFailed && reports.starts_with(tape.bytes()),
-    };
-    Ok(is_ended && gate.entered.load(SeqCst) == gate.left.load(SeqCst))
-}
-
-/// With each allocation failing in turn, too: a report that is refused memory, or a thread, while others run ends the
-/// run, and the others are joined first.
+/// With each allocation failing in turn, too: a report that is refused memory, or a thread, while others run ends the run behind
+/// a beginning of the reports, and the others are joined first.
 #[test]
 fn a_report_that_is_refused_memory_ends_the_run(rt: HostRuntime) -> Result<(), Fail> {
-    let (script, reports) = ten(rt.alloc())?;
-    let is_ended = ends_behind_a_beginning(&rt, rt.alloc(), script.as_bytes(), reports.as_bytes())?;
-    assert!(rt; is_ended);
+    let gate = Held::until(0, 0);
+    let outcome = run_ten(&rt, rt.alloc(), &How::of(2, CUTTING, 20), None, &gate);
+    drop(gate);
+    let Outcome { ended, bytes, seen } = outcome?;
+    assert!(rt;
+        match ended {
+            Ok(()) => matches!(bytes, Some((_, 0))),
+            Err(why) => why != Ended::WriteFailed && bytes.is_some(),
+        }
+    );
+    assert_eq!(rt; seen.entered, seen.left);
     Ok(())
 }

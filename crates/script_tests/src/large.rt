@@ -2,10 +2,9 @@
 //! run and for viewers.
 
 use crate::beside::reaches;
-use cells::Plain;
+use crate::written::{Viewed, written};
 use crew::Gate;
-use report::Pour;
-use script::{Ended, How, live, run};
+use script::{Ended, How};
 use std::alloc::{AllocError, Global};
 use std::sync::Wait;
 use std::sync::atomic::AtomicU64;
@@ -70,17 +69,37 @@ impl Gate for Read {
     }
 }
 
-/// How many pieces were read, and how many columns of pieces were laid out.
-type Counts = (u64, u64);
+/// How many pieces were read, how many columns of pieces were laid out, and how many viewers waited in vain.
+type Counts = (u64, u64, u64);
 
-/// What the reports of a run read and laid out.
-fn read_by<R: Threads + Wait + Sync>(rt: &R, alloc: Global, lines: &[u8]) -> Result<Counts, Ended> {
+/// Runs these lines over both parts.
+fn run_over_parts<R: Threads + Wait + Sync>(
+    rt: &R,
+    alloc: Global,
+    lines: &[u8],
+    viewed: Option<Viewed>,
+    gate: &Read,
+) -> Result<(), Ended> {
     let parts = [part(alloc)?, Vec::from_slice(alloc, ONE)?];
-    let how = How::default();
+    written(rt, alloc, lines, &parts, &How::default(), viewed, gate)?;
+    Ok(())
+}
+
+/// What such a run reads and lays out, and how often a viewer waited in vain.
+fn read_by<R: Threads + Wait + Sync>(
+    rt: &R,
+    alloc: Global,
+    lines: &[u8],
+    viewed: Option<Viewed>,
+) -> Result<Counts, Ended> {
     let gate = Read::nothing();
-    let mut out = Pour::new(Vec::new(alloc));
-    run::<Plain, _, _, _>(rt, alloc, lines, &parts, &how, &gate, &mut out)?;
-    Ok((gate.pieces.load(SeqCst), gate.columns.load(SeqCst)))
+    let ended = run_over_parts(rt, alloc, lines, viewed, &gate);
+    let pieces = gate.pieces.load(SeqCst);
+    let columns = gate.columns.load(SeqCst);
+    let late = gate.late.load(SeqCst);
+    drop(gate);
+    ended?;
+    Ok((pieces, columns, late))
 }
 
 /// Three reports over two columns.
@@ -95,8 +114,8 @@ report SELECT MIN(V), MAX(W) FROM T
 /// Each report reads each piece, and a column of a piece is laid out once.
 #[test]
 fn columns_are_laid_out_once(rt: HostRuntime) -> Result<(), Fail> {
-    let counts = read_by(&rt, rt.alloc(), THREE_REPORTS)?;
-    assert_eq!(rt; counts, (3 * PIECES, 2 * PIECES));
+    let counts = read_by(&rt, rt.alloc(), THREE_REPORTS, None)?;
+    assert_eq!(rt; counts, (3 * PIECES, 2 * PIECES, 0));
     Ok(())
 }
 
@@ -119,8 +138,8 @@ report SELECT V, SUM(W) FROM T GROUP BY V
 /// After each change the columns of one piece alone are laid out.
 #[test]
 fn a_change_lays_out_one_piece_anew(rt: HostRuntime) -> Result<(), Fail> {
-    let counts = read_by(&rt, rt.alloc(), FOUR_EDITIONS)?;
-    assert_eq!(rt; counts, (4 * PIECES, 2 * PIECES + 2 * 3));
+    let counts = read_by(&rt, rt.alloc(), FOUR_EDITIONS, None)?;
+    assert_eq!(rt; counts, (4 * PIECES, 2 * PIECES + 2 * 3, 0));
     Ok(())
 }
 
@@ -131,24 +150,17 @@ report SELECT V, COUNT(*) FROM T GROUP BY V
 report SELECT MAX(V) FROM T
 ";
 
-const QUERY: &str = "SELECT V, COUNT(*) FROM T GROUP BY V";
-
-/// How many columns of pieces are laid out for two reports and two viewers who are asked five times and once more, and how often
-/// one waited in vain.
-fn laid_out_for_all<R: Threads + Wait + Sync>(rt: &R, alloc: Global) -> Result<Counts, Ended> {
-    let parts = [part(alloc)?];
-    let how = How::default();
-    let gate = Read::nothing();
-    let mut out = Pour::new(Vec::new(alloc));
-    live::<Plain, _, _, _>(
-        rt, alloc, PUBLISHED, &parts, &how, 2, 5, QUERY, &gate, &mut out,
-    )?;
-    Ok((gate.columns.load(SeqCst), gate.late.load(SeqCst)))
-}
+/// Two viewers who are asked five times and once more.
+const TWO_VIEWERS: Viewed = Viewed {
+    query: "SELECT V, COUNT(*) FROM T GROUP BY V",
+    viewers: 2,
+    shots: 5,
+};
 
 /// All go over the same columns, of each piece that was laid out once, whoever came first.
 #[test]
 fn viewers_and_reports_share_the_columns_of_pieces(rt: HostRuntime) -> Result<(), Fail> {
-    assert_eq!(rt; laid_out_for_all(&rt, rt.alloc())?, (PIECES, 0));
+    let (_, columns, late) = read_by(&rt, rt.alloc(), PUBLISHED, Some(TWO_VIEWERS))?;
+    assert_eq!(rt; (columns, late), (PIECES, 0));
     Ok(())
 }

@@ -1,11 +1,9 @@
-//! Tests of `script` by its public items: plain runs, gates and what runs at the same time, failing writers, and want of
-//! memory. What a script alone can say is told by the cases of `tools/program`.
+//! Tests of `script` by its public items: gates and what runs at the same time, failing writers, and want of memory. What a
+//! script alone can say is told by the cases of `tools/program`.
 #![tactic(auto)]
 
 #[cfg(test)]
 mod beside;
-#[cfg(test)]
-mod by_columns;
 #[cfg(test)]
 mod faults;
 #[cfg(test)]
@@ -13,16 +11,10 @@ mod gates;
 #[cfg(test)]
 mod large;
 #[cfg(test)]
-mod laying;
-#[cfg(test)]
 mod live;
 #[cfg(test)]
 mod runs;
 #[cfg(test)]
-mod sessions;
-#[cfg(test)]
-mod settings;
-#[cfg(test)]
 mod workers;
 #[cfg(test)]
-mod writers;
+mod written;

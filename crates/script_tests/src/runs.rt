@@ -1,16 +1,12 @@
-//! Plain runs of a script, by a hash that the caller names and by one that is chosen.
+//! Plain runs of a script, by a hash that is chosen.
 
-use cells::Plain;
 use crew::Open;
 use report::Pour;
-use script::{Ended, HashChoice, How, run, run_by};
+use script::{Ended, HashChoice, How, run_by};
 use std::alloc::Global;
 use std::sync::Wait;
 use std::test::Fail;
 use std::thread::Threads;
-use trie::Cutting;
-
-pub(crate) const CUTTING: Cutting = Cutting { depth: 1, small: 0 };
 
 /// All commands, over two keys that end in the same digit.
 const LINES: &[u8] = b"table T (K INT KEY)
@@ -46,16 +42,6 @@ line 8 refused 3
 ";
 
 const PART: &[u8] = b"K\n2\n34\n";
-
-#[test]
-fn a_script_is_run(rt: HostRuntime) -> Result<(), Fail> {
-    let how = How::of(1, CUTTING, 3);
-    let parts = [Vec::from_slice(rt.alloc(), PART)?];
-    let mut out = Pour::new(Vec::new(rt.alloc()));
-    run::<Plain, _, _, _>(&rt, rt.alloc(), LINES, &parts, &how, &Open, &mut out)?;
-    assert_eq!(rt; out.into_inner().as_slice(), BY_PLAIN.as_bytes());
-    Ok(())
-}
 
 /// Whether the script writes this under the hash of this choice. Want of memory is an error.
 fn writes_by<R: Threads + Wait + Sync>(

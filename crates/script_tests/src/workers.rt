@@ -1,20 +1,16 @@
 //! Reports and loads by workers who run at the same time, over the pieces and the parts that they are to share.
 
-use crate::runs::CUTTING;
-use cells::Plain;
+use crate::beside::reaches;
+use crate::written::{CUTTING, written};
 use crew::Gate;
-use report::Pour;
-use script::{Ended, How, run};
+use script::{Ended, How};
 use std::alloc::Global;
 use std::sync::Wait;
 use std::sync::atomic::AtomicU64;
 use std::sync::atomic::Ordering::SeqCst;
 use std::test::Fail;
-use std::thread::{self, Threads};
+use std::thread::Threads;
 use trie::Cutting;
-
-/// More turns than any worker of these tests needs.
-const TURNS: u64 = 10_000_000;
 
 /// Two workers who meet: the one at place 0 waits until another is at place 1.
 #[derive(Drop)]
@@ -35,18 +31,8 @@ impl Meeting {
         if place == 1 {
             self.came.store(1, SeqCst);
         }
-        if place == 0 {
-            self.wait();
-        }
-    }
-
-    fn wait(&self) {
-        for _ in 0..TURNS {
-            if self.came.load(SeqCst) == 1 {
-                self.met.store(1, SeqCst);
-                return;
-            }
-            thread::yield_now();
+        if place == 0 && reaches(&self.came, 1) {
+            self.met.store(1, SeqCst);
         }
     }
 
@@ -90,24 +76,9 @@ const THREE_PIECES: &[u8] =
 
 const COUNTED: &str = "line 7 edition 1\nCOUNT(*)\n4\n";
 
-/// Four sales, each a piece by itself, which are rolled up by region.
-const SALES: &[u8] = b"table SALES (ID INT KEY, REGION TEXT, ITEM TEXT, UNITS INT)
-load 1
-publish
-report SELECT REGION, GROUPING(REGION), COUNT(*), COUNT(UNITS), SUM(UNITS) FROM SALES GROUP BY ROLLUP(REGION)";
+const LISTED_TWICE: &[u8] = b"table T (K INT KEY)\nload 1 1\n";
 
-const LISTED_TWICE: &[u8] =
-    b"table SALES (ID INT KEY, REGION TEXT, ITEM TEXT, UNITS INT)\nload 1 1\n";
-
-const SALES_PART: &[u8] = b"ID,REGION,ITEM,UNITS
-1,north,pen,10
-2,north,ink,
-3,,pen,5
-4,south,pen,-2
-";
-
-const ROLLED_UP: &str =
-    "line 4 edition 1\nREGION | GROUPING(REGION) | COUNT(*) | COUNT(UNITS) | SUM(UNITS)\nNULL | 0 | 1 | 1 | 5\n'north' | 0 | 2 | 1 | 10\n'south' | 0 | 1 | 1 | -2\nNULL | 1 | 4 | 3 | 13\n";
+const PART: &[u8] = b"K\n1\n2\n";
 
 /// A table is cut as deep as can be.
 const DEEP: Cutting = Cutting {
@@ -124,10 +95,9 @@ fn writes<R: Threads + Wait + Sync>(
     script: &[u8],
     wanted: &str,
 ) -> Result<bool, Ended> {
-    let parts = [Vec::from_slice(alloc, SALES_PART)?];
-    let mut out = Pour::new(Vec::new(alloc));
-    run::<Plain, _, _, _>(rt, alloc, script, &parts, how, hold, &mut out)?;
-    Ok(out.into_inner().as_slice() == wanted.as_bytes())
+    let parts = [Vec::from_slice(alloc, PART)?];
+    let text = written(rt, alloc, script, &parts, how, None, hold)?;
+    Ok(text.as_slice() == wanted.as_bytes())
 }
 
 #[test]
@@ -135,9 +105,6 @@ fn two_workers_answer_a_report_at_the_same_time(rt: HostRuntime) -> Result<(), F
     let how = How::of(2, CUTTING, 100);
     let hold = Hold::new();
     assert!(rt; writes(&rt, rt.alloc(), &hold, &how, THREE_PIECES, COUNTED)?);
-    assert!(rt; hold.pieces.is_met());
-    let hold = Hold::new();
-    assert!(rt; writes(&rt, rt.alloc(), &hold, &how, SALES, ROLLED_UP)?);
     assert!(rt; hold.pieces.is_met());
     Ok(())
 }

@@ -1,5 +1,5 @@
-//! Tests of `cells`, `trie`, `aggs`, `columns`, `groups`, `board`, `forms` and `prepare` by their public items: what no clause says of
-//! them, and no script can show.
+//! Tests of `cells`, `trie`, `aggs`, `columns`, `groups` and `board` by their public items: what no clause says of them, and no
+//! script can show.
 #![tactic(auto)]
 
 #[cfg(test)]
@@ -11,13 +11,7 @@ mod of_cells;
 #[cfg(test)]
 mod of_columns;
 #[cfg(test)]
-mod of_forms;
-#[cfg(test)]
 mod of_groups;
-#[cfg(test)]
-mod of_pieces;
-#[cfg(test)]
-mod of_prepare;
 #[cfg(test)]
 mod of_trie;
 #[cfg(test)]

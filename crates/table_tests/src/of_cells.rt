@@ -1,12 +1,9 @@
-//! Cells and tuples, their order and their hashes; how texts are read and values printed; the names of refusals. The
-//! hashes of the table were computed by a program outside the project.
+//! Cells and tuples, their order and their hashes, and the names of refusals. The hashes of the table were computed by a
+//! program outside the project.
 
 use crate::written::Written::{self, Int, Null, Text};
 use crate::written::cells_of;
-use cells::{
-    Cell, Fnv, KeyHash, Mark, Plain, Refused, Row, Schema, Token, Total, Tuple, literal, tokens,
-    tokens_or, whole_number_of, worked_hashes,
-};
+use cells::{Cell, Fnv, KeyHash, Plain, Refused, Tuple, worked_hashes};
 use std::alloc::{AllocError, Global};
 use std::test::Fail;
 
@@ -84,17 +81,18 @@ fn rise_and_clone<K: Clone + Drop + Ord>(keys: &[K]) -> Result<bool, AllocError>
     equal_their_clones(keys)
 }
 
-#[test]
-fn cells_have_one_order(rt: HostRuntime) -> Result<(), Fail> {
-    let cells = cells_of(rt.alloc(), CELLS.as_slice())?;
-    assert!(rt; rise_and_clone(cells.as_slice())?);
-    Ok(())
+/// The same of keys that may not have been made.
+fn made_rise_and_clone<K: Clone + Drop + Ord>(
+    keys: Result<Vec<K>, AllocError>,
+) -> Result<bool, AllocError> {
+    let keys = keys?;
+    rise_and_clone(keys.as_slice())
 }
 
 #[test]
-fn tuples_have_one_order(rt: HostRuntime) -> Result<(), Fail> {
-    let tuples = tuples_of(rt.alloc(), TUPLES.as_slice())?;
-    assert!(rt; rise_and_clone(tuples.as_slice())?);
+fn cells_and_tuples_have_one_order(rt: HostRuntime) -> Result<(), Fail> {
+    assert!(rt; made_rise_and_clone(cells_of(rt.alloc(), CELLS.as_slice()))?);
+    assert!(rt; made_rise_and_clone(tuples_of(rt.alloc(), TUPLES.as_slice()))?);
     Ok(())
 }
 
@@ -178,75 +176,6 @@ fn is_named(alloc: Global, refused: &Refused, wanted: &str) -> Result<bool, Allo
 fn refusals_have_numbers_and_names(rt: HostRuntime) -> Result<(), Fail> {
     for (refused, wanted) in &NAMES {
         assert!(rt; is_named(rt.alloc(), refused, wanted)?);
-    }
-    Ok(())
-}
-
-/// Whether they are the tokens of `select_1`, `-007`, `<>` and `'it''s'`.
-fn are_four(found: &[Token]) -> bool {
-    match found {
-        [
-            Token::Word(word),
-            Token::Number(-7),
-            Token::Mark(Mark::NotEquals),
-            Token::Quoted(text),
-        ] => word.as_str() == "SELECT_1" && text.as_str() == "it's",
-        _ => false,
-    }
-}
-
-/// Whether it is the row of a line feed and the key 7.
-fn is_seven(row: &Row) -> bool {
-    match row.cells() {
-        [Cell::Text(text), Cell::Int(7)] => text.as_str() == "\n" && *row.key() == Cell::Int(7),
-        _ => false,
-    }
-}
-
-#[test]
-fn texts_are_read(rt: HostRuntime) -> Result<(), Fail> {
-    let alloc = rt.alloc();
-    let found = tokens(alloc, "select_1\n-007<>'it''s'")?;
-    assert!(rt; are_four(found.as_slice()));
-    let schema = Schema::read(alloc, "T (V TEXT,\nK INT KEY)")?;
-    let row = Row::read(alloc, &[b"\n", b"7"], &schema)?;
-    assert!(rt; is_seven(&row));
-    assert_eq!(rt; schema.key(), 1);
-    Ok(())
-}
-
-/// How many tokens a text spells, or the refusal asked for.
-fn number_or(alloc: Global, text: &str) -> Result<usize, Refused> {
-    Ok(tokens_or(alloc, text, Refused::BadKey)?.len())
-}
-
-#[test]
-fn texts_are_refused(rt: HostRuntime) -> Result<(), Fail> {
-    assert_eq!(rt; number_or(rt.alloc(), "a 1")?, 2);
-    assert_eq!(rt; number_or(rt.alloc(), "1a"), Err(Refused::BadKey));
-    assert_eq!(rt; whole_number_of("007"), Some(7));
-    assert_eq!(rt; whole_number_of("+7"), None);
-    Ok(())
-}
-
-/// Whether the value is printed so.
-fn is_printed(alloc: Global, total: &Total, text: &str) -> Result<bool, Refused> {
-    Ok(literal(alloc, total)?.as_str() == text)
-}
-
-/// Whether the text is printed so.
-fn is_quoted(alloc: Global, text: &str, printed: &str) -> Result<bool, Refused> {
-    let total = Total::Text(cells::Text::copied(alloc, text)?);
-    is_printed(alloc, &total, printed)
-}
-
-#[test]
-fn values_are_printed_as_literals(rt: HostRuntime) -> Result<(), Fail> {
-    let low = Total::Int(-27_670_116_110_564_327_424);
-    assert!(rt; is_printed(rt.alloc(), &low, "-27670116110564327424")?);
-    assert!(rt; is_printed(rt.alloc(), &Total::Null, "NULL")?);
-    for (text, printed) in [("", "''"), ("''", "''''''"), ("é'", "'é'''")] {
-        assert!(rt; is_quoted(rt.alloc(), text, printed)?);
     }
     Ok(())
 }

@@ -9,7 +9,7 @@ use groups::{Folding, Partial, ReportRow};
 use query::{Plan, check, read};
 use std::alloc::{AllocError, Global};
 use std::test::Fail;
-use trie::{Cutting, Piece, Ticks, Trie};
+use trie::{Cutting, Piece, Trie};
 
 const TABLE: &str = "SALES (ID INT KEY, REGION TEXT)";
 
@@ -40,21 +40,36 @@ const DIFFERENT: [[&str; 2]; 13] = [
     ["1", "ab"],
 ];
 
-/// The pieces of a table of one row, of which there is one.
-fn one_row(
+/// Rows beside their keys.
+type Pairs = Vec<(Cell, Row)>;
+
+/// What a table of rows is cut into: one piece, if there are any.
+type Pieces = Vec<Piece<Cell, Row, Plain>>;
+
+/// One row more.
+fn push_row(
     alloc: Global,
     schema: &Schema,
+    pairs: &mut Pairs,
     record: &[&[u8]],
-) -> Result<Vec<Piece<Cell, Row, Plain>>, Refused> {
+) -> Result<(), Refused> {
     let row = Row::read(alloc, record, schema)?;
     let key = row.key().clone()?;
-    let rows = Trie::empty().put(alloc, key, row, &mut Ticks::new())?;
-    Ok(rows.split(alloc, &Cutting { depth: 0, small: 0 })?)
+    pairs.push((key, row))?;
+    Ok(())
 }
 
-/// The pieces of a table of one sale, of which there is one.
-fn one_sale(alloc: Global, schema: &Schema) -> Result<Vec<Piece<Cell, Row, Plain>>, Refused> {
-    one_row(alloc, schema, &[b"1", b"north"])
+/// The piece of the rows.
+fn piece_of(alloc: Global, pairs: Pairs) -> Result<Pieces, AllocError> {
+    let rows: Trie<Cell, Row, Plain> = Trie::from_pairs(alloc, pairs)?;
+    rows.split(alloc, &Cutting { depth: 0, small: 0 })
+}
+
+/// The piece of a table of one row.
+fn one_row(alloc: Global, schema: &Schema, record: &[&[u8]]) -> Result<Pieces, Refused> {
+    let mut pairs = Vec::new(alloc);
+    push_row(alloc, schema, &mut pairs, record)?;
+    Ok(piece_of(alloc, pairs)?)
 }
 
 /// Whether the piece has one row at most, so that it may be folded a thousand times.
@@ -89,91 +104,98 @@ fn planned(alloc: Global, schema: &Schema, query: &str) -> Result<Plan, Refused>
     check(alloc, query, schema)
 }
 
-/// How many groups the query has when foldings of both pieces were joined five times in turn.
+/// How many groups there are by tuple when foldings of both pieces were joined five times in turn.
 fn counted(
     alloc: Global,
     schema: &Schema,
-    query: &str,
     first: &Piece<Cell, Row, Plain>,
     second: &Piece<Cell, Row, Plain>,
 ) -> Result<u128, Refused> {
-    let plan = planned(alloc, schema, query)?;
-    Ok(groups_of(alloc, &plan, first, second)?)
+    let plan = planned(alloc, schema, BY_TUPLE)?;
+    let groups = groups_of(alloc, &plan, first, second);
+    drop(plan);
+    Ok(groups?)
 }
 
-/// How many groups there are by tuple when foldings of rows of both tuples were joined five times in turn.
+/// The piece of a table of one row of a tuple.
+fn one_tuple(alloc: Global, schema: &Schema, tuple: &[&str; 2]) -> Result<Pieces, Refused> {
+    let [number, text] = *tuple;
+    one_row(alloc, schema, &[b"1", number.as_bytes(), text.as_bytes()])
+}
+
+/// How many groups there are by tuple when foldings of the piece and of a row of the tuple were joined five times in turn.
+fn groups_beside(
+    alloc: Global,
+    schema: &Schema,
+    first: &[Piece<Cell, Row, Plain>],
+    second: &[&str; 2],
+) -> Result<u128, Refused> {
+    let pieces = one_tuple(alloc, schema, second)?;
+    let groups = match (first, pieces.as_slice()) {
+        ([one], [two]) => counted(alloc, schema, one, two),
+        _ => Ok(0),
+    };
+    drop(pieces);
+    groups
+}
+
+/// The same of rows of both tuples.
 fn groups_in_turn(
     alloc: Global,
     schema: &Schema,
     first: &[&str; 2],
     second: &[&str; 2],
 ) -> Result<u128, Refused> {
-    let firsts = one_row(
-        alloc,
-        schema,
-        &[b"1", first[0].as_bytes(), first[1].as_bytes()],
-    )?;
-    let seconds = one_row(
-        alloc,
-        schema,
-        &[b"2", second[0].as_bytes(), second[1].as_bytes()],
-    )?;
-    let Some(one) = firsts.first() else {
-        return Ok(0);
-    };
-    let Some(two) = seconds.first() else {
-        return Ok(0);
-    };
-    counted(alloc, schema, BY_TUPLE, one, two)
+    let pieces = one_tuple(alloc, schema, first)?;
+    let groups = groups_beside(alloc, schema, pieces.as_slice(), second);
+    drop(pieces);
+    groups
 }
 
-#[test]
-fn a_thousand_rows_of_one_region_are_one_group(rt: HostRuntime) -> Result<(), Fail> {
-    let schema = Schema::read(rt.alloc(), TABLE)?;
-    let sales = one_sale(rt.alloc(), &schema)?;
-    assert_eq!(rt; sales.len(), 1);
-    for sale in &sales {
-        assert_eq!(rt; counted(rt.alloc(), &schema, QUERY, sale, sale)?, 1);
+/// The first two tuples that have other than a group each when they come in turn.
+fn first_grouped_again(alloc: Global, schema: &Schema) -> Result<Option<(usize, usize)>, Refused> {
+    for (i, first) in DIFFERENT.iter().enumerate() {
+        for (j, second) in DIFFERENT.iter().enumerate() {
+            let expected = if i == j { 1 } else { 2 };
+            if groups_in_turn(alloc, schema, first, second)? != expected {
+                return Ok(Some((i, j)));
+            }
+        }
     }
-    Ok(())
+    Ok(None)
 }
 
 /// A group is found again however NULL, integers and texts follow each other: else each change would make one more.
 #[test]
 fn two_tuples_in_turn_are_two_groups(rt: HostRuntime) -> Result<(), Fail> {
     let schema = Schema::read(rt.alloc(), TUPLES)?;
-    for (i, first) in DIFFERENT.iter().enumerate() {
-        for (j, second) in DIFFERENT.iter().enumerate() {
-            let expected = if i == j { 1 } else { 2 };
-            assert_eq!(rt;
-                groups_in_turn(rt.alloc(), &schema, first, second)?,
-                expected
-            );
-        }
+    let found = first_grouped_again(rt.alloc(), &schema);
+    drop(schema);
+    assert_eq!(rt; found?, None);
+    Ok(())
+}
+
+/// One row more of the key, whose columns have a value of a thousand.
+fn push_pair(alloc: Global, schema: &Schema, pairs: &mut Pairs, key: u64) -> Result<(), Refused> {
+    let key_text = format!(in alloc; "{key}")?;
+    let value = format!(in alloc; "{}", key % 1_000)?;
+    let record = [key_text.as_bytes(), value.as_bytes(), value.as_bytes()];
+    push_row(alloc, schema, pairs, &record)
+}
+
+/// Two rows of each of a thousand pairs, where a table of all pairs of values would be too large for so few rows.
+fn push_pairs(alloc: Global, schema: &Schema, pairs: &mut Pairs) -> Result<(), Refused> {
+    for key in 0..2_000u64 {
+        push_pair(alloc, schema, pairs, key)?;
     }
     Ok(())
 }
 
-/// A row of the key, whose columns have a value of a thousand.
-fn pair_row(alloc: Global, schema: &Schema, key: u64) -> Result<Row, Refused> {
-    let id = format!(in alloc; "{key}")?;
-    let value = format!(in alloc; "{}", key % 1_000)?;
-    Row::read(
-        alloc,
-        &[id.as_bytes(), value.as_bytes(), value.as_bytes()],
-        schema,
-    )
-}
-
-/// Two rows of each of a thousand pairs, where a table of all pairs of values would be too large for so few rows.
-fn pairs_twice(alloc: Global, schema: &Schema) -> Result<Vec<Piece<Cell, Row, Plain>>, Refused> {
+/// The piece of these rows.
+fn pairs_twice(alloc: Global, schema: &Schema) -> Result<Pieces, Refused> {
     let mut pairs = Vec::new(alloc);
-    for key in 0..2_000u64 {
-        let row = pair_row(alloc, schema, key)?;
-        pairs.push((row.key().clone()?, row))?;
-    }
-    let rows = Trie::from_pairs(alloc, pairs)?;
-    Ok(rows.split(alloc, &Cutting { depth: 0, small: 0 })?)
+    push_pairs(alloc, schema, &mut pairs)?;
+    Ok(piece_of(alloc, pairs)?)
 }
 
 /// How many rows the piece has.
@@ -199,25 +221,36 @@ fn groups_in(
     Ok(folding.groups())
 }
 
-/// The same by both columns.
+/// How many groups the rows of the piece have by both columns.
 fn counted_by_columns(
     alloc: Global,
     schema: &Schema,
     piece: &Piece<Cell, Row, Plain>,
 ) -> Result<u128, Refused> {
     let plan = planned(alloc, schema, BY_PAIR)?;
-    Ok(groups_in(alloc, &plan, piece)?)
+    let groups = groups_in(alloc, &plan, piece);
+    drop(plan);
+    Ok(groups?)
+}
+
+/// The same of two rows of each pair.
+fn groups_of_pairs(alloc: Global, schema: &Schema) -> Result<u128, Refused> {
+    let pieces = pairs_twice(alloc, schema)?;
+    let groups = match pieces.as_slice() {
+        [piece] => counted_by_columns(alloc, schema, piece),
+        _ => Ok(0),
+    };
+    drop(pieces);
+    groups
 }
 
 /// A part of a group is found again in a table of hashes: else each row would make one more.
 #[test]
 fn two_rows_of_each_pair_are_one_group(rt: HostRuntime) -> Result<(), Fail> {
     let schema = Schema::read(rt.alloc(), PAIRS)?;
-    let pieces = pairs_twice(rt.alloc(), &schema)?;
-    assert_eq!(rt; pieces.len(), 1);
-    for piece in &pieces {
-        assert_eq!(rt; counted_by_columns(rt.alloc(), &schema, piece)?, 1_000);
-    }
+    let groups = groups_of_pairs(rt.alloc(), &schema);
+    drop(schema);
+    assert_eq!(rt; groups?, 1_000);
     Ok(())
 }
 
@@ -250,35 +283,23 @@ fn joined<H: KeyHash<Cell> + KeyHash<Tuple>>(
     first.join(alloc, second)
 }
 
-/// The report of both partial results together; where it is refused, of the same ones joined again.
+/// Whether the report of both partial results together has one row that counts two; where it is refused, that of the same ones
+/// joined again.
 fn finished<H: KeyHash<Cell> + KeyHash<Tuple>>(
     alloc: Global,
     plan: &Plan,
     first: &Partial<H>,
     second: &Partial<H>,
-) -> Result<Vec<ReportRow>, AllocError>
+) -> Result<bool, AllocError>
     requires { MayMeet H.KeyHash-2.hash_of first.now second.now }
 {
     let both = joined(alloc, first, second)?;
     if let Ok(rows) = Partial::finish(alloc, plan, both) {
-        return Ok(rows);
+        return Ok(counts_two(rows.as_slice()));
     }
     let both = joined(alloc, first, second)?;
-    Partial::finish(alloc, plan, both)
-}
-
-/// The report of the sale, which is taken twice.
-fn report_of_two<H: KeyHash<Cell> + KeyHash<Tuple>>(
-    alloc: Global,
-    plan: &Plan,
-    sale: &Piece<Cell, Row, H>,
-) -> Result<Vec<ReportRow>, AllocError> {
-    if !is_short(alloc, sale)? {
-        return Ok(Vec::new(alloc));
-    }
-    let first = folded(alloc, plan, sale)?;
-    let second = folded(alloc, plan, sale)?;
-    finished(alloc, plan, &first, &second)
+    let rows = Partial::finish(alloc, plan, both)?;
+    Ok(counts_two(rows.as_slice()))
 }
 
 /// Whether the report has one row, whose second value is 2.
@@ -290,24 +311,48 @@ fn counts_two(rows: &[ReportRow]) -> bool {
 }
 
 /// Whether the report of the sale, which is taken twice, has one row that counts two.
+fn report_of_two<H: KeyHash<Cell> + KeyHash<Tuple>>(
+    alloc: Global,
+    plan: &Plan,
+    sale: &Piece<Cell, Row, H>,
+) -> Result<bool, AllocError> {
+    if !is_short(alloc, sale)? {
+        return Ok(false);
+    }
+    let first = folded(alloc, plan, sale)?;
+    let second = folded(alloc, plan, sale)?;
+    finished(alloc, plan, &first, &second)
+}
+
+/// The same of the query.
 fn are_two(
     alloc: Global,
     schema: &Schema,
     sale: &Piece<Cell, Row, Plain>,
 ) -> Result<bool, Refused> {
     let plan = planned(alloc, schema, QUERY)?;
-    let rows = report_of_two(alloc, &plan, sale)?;
-    Ok(counts_two(rows.as_slice()))
+    let are_two = report_of_two(alloc, &plan, sale);
+    drop(plan);
+    Ok(are_two?)
+}
+
+/// The same of a sale.
+fn are_two_of_one(alloc: Global, schema: &Schema) -> Result<bool, Refused> {
+    let pieces = one_row(alloc, schema, &[b"1", b"north"])?;
+    let are_two = match pieces.as_slice() {
+        [sale] => are_two(alloc, schema, sale),
+        _ => Ok(false),
+    };
+    drop(pieces);
+    are_two
 }
 
 /// Run with each allocation refused in turn, too: what is folded, joined and finished again gives what it would have given.
 #[test]
 fn partial_results_behind_a_refusal(rt: HostRuntime) -> Result<(), Fail> {
     let schema = Schema::read(rt.alloc(), TABLE)?;
-    let sales = one_sale(rt.alloc(), &schema)?;
-    assert_eq!(rt; sales.len(), 1);
-    for sale in &sales {
-        assert!(rt; are_two(rt.alloc(), &schema, sale)?);
-    }
+    let are_two = are_two_of_one(rt.alloc(), &schema);
+    drop(schema);
+    assert!(rt; are_two?);
     Ok(())
 }
