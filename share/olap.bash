@@ -34,7 +34,7 @@ _olap() {
             ;;
         live) options+=" --query --viewers --shots" ;;
         session) options="--workers --depth --small --hash --rows --format --strict --help" ;;
-        query) options="--columns --delimiter --number --null --trim --order --limit --workers --rows --format --help" ;;
+        query) options="--columns --delimiter --number --null --trim --order --limit --workers --rows --format --progress --help" ;;
         schema) options="--columns --delimiter --number --null --trim --help" ;;
         check) options="--part --help" ;;
         run) ;;

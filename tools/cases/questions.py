@@ -4,7 +4,7 @@ what is said where a file, a query or a word is refused."""
 import re
 
 from cases.manual import NAMES
-from cases.table import Case, Text
+from cases.table import Case, Like, Text
 
 MORE = "\n\nFor more information, try 'olap {} --help'.\n"
 STOPPED = "olap: stopped after a refused line\n"
@@ -364,10 +364,66 @@ ORDERS = [
     words("a limit of a schema", "schema", ["--limit", "1", "sales.csv"], "there is no option '--limit'"),
 ]
 
-CASES = [*FILES, *FORMS, *FAULTS, *WORDS, *ORDERS]
+MORE_SALES = "Units,Note,ID,,Region,id\n7,new,5,x,west,6\n"
+
+
+def told_progress(title, files, text, heading, row, unread, records, options=()):
+    """A question whose answer is one row, with --progress: which columns of the files are not read, the records of each part and
+    those before it, and the report."""
+    parts = [f"olap: part {at} of {len(records)}, records {count}" for at, count in enumerate(records, 1)]
+    report = rf"olap: line 4 edition 1, rows {records[-1]}, groups 1, seconds \d+\.\d"
+    lines = [f"olap: {name}: columns that are not read: {names}" for name, names in unread.items()]
+    words = ["query", "--progress", "--workers", "1", *options, text, *files]
+    return Case(f"query: {title}", words, files, output=answer(heading, row), errors=Like(*map(re.escape, lines), *parts, report))
+
+
+UNITS = "SELECT SUM(UNITS) FROM SALES"
+PROGRESS = [
+    told_progress("columns that are not chosen", {"sales.csv": SALES}, UNITS, "SUM(UNITS)", "13", {"sales.csv": "REGION"}, [4], ["--columns", "id,units"]),
+    told_progress("columns of the first file alone", {"sales.csv": SALES, "more.csv": MORE_SALES}, UNITS, "SUM(UNITS)", "20", {"more.csv": "Note, column 4, id"}, [4, 5]),
+    told_progress("columns of no file", {"sales.csv": SALES}, UNITS, "SUM(UNITS)", "13", {}, [4]),
+    told_progress(
+        "columns that a query of forty names",
+        {"sales.csv": FORTY},
+        "SELECT SUM(C2), MAX(C40) FROM SALES",
+        # (2, 4, 6, 1 and 3; 5, 3, 1, 6 and 4)
+        "SUM(C2) | MAX(C40)",
+        "16 | 6",
+        {"sales.csv": ", ".join(f"c{number}" for number in range(1, 40) if number != 2)},
+        [5],
+    ),
+    told_progress(
+        "names that are no line",
+        {"sales.csv": '"a\nb",units, x ,' + 61 * "y" + "\n1,2,3,4\n"},
+        UNITS,
+        "SUM(UNITS)",
+        "2",
+        {"sales.csv": "column 1,  x , column 4"},
+        [1],
+        ["--columns", "UNITS"],
+    ),
+    fault(
+        "columns that are not read, and one that is not there",
+        {"sales.csv": SALES},
+        "olap: sales.csv: columns that are not read: ID, REGION\nsales.csv:1: the header has no column 'X'\n",
+        ["--progress", "--columns", "X,UNITS"],
+    ),
+    fault("a file without a header, with --progress", {"sales.csv": ""}, "sales.csv:1: there is no header\n", ["--progress"]),
+    words("progress with a value", "query", ["--progress=1", BY_REGION, "sales.csv"], "'--progress=1' takes no value"),
+    words("progress of a schema", "schema", ["--progress", "sales.csv"], "there is no option '--progress'"),
+]
+
+CASES = [*FILES, *FORMS, *FAULTS, *WORDS, *ORDERS, *PROGRESS]
 
 # Where standard output is a terminal, the answer is a table; what is looked at is what the terminal shows.
 ON_SCREEN = [
+    Case(
+        "query: columns that are not read, and a line that is written anew",
+        ["query", "--progress", "--format", "csv", "--columns", "id,units", UNITS, "sales.csv"],
+        {"sales.csv": SALES},
+        output='"SUM(UNITS)"\n13\n',
+        errors=Text("\rolap: sales.csv: columns that are not read: REGION\x1b[K\r\n", "line 4 edition 1, rows 4, groups 1"),
+    ),
     Case(
         "query: on a terminal",
         ["query", BY_REGION, "sales.csv"],

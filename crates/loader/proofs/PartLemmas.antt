@@ -51,13 +51,13 @@ row_behind rs row number (Err other) = refl
 
 -- one record was read, which spells a row
 pub reached_more : (hash_of : Cell → ℕ) (t : Table) (said : Result (List RowValue) ℕ) (number : ℕ) (old new : List (List (List ℕ))) (fields : List (List ℕ)) (row : RowValue) (shares all : List Pairs) →
-    Reached hash_of t said number old shares → old ≡ fields ∷ new → row_of t fields ≡ Some row → IsRowOf t row →
-    ((pairs : List (Cell × RowValue)) → AreSpread hash_of pairs shares → AreSpread hash_of (pairs ++ (row.key, row) ∷ []) all) → Reached hash_of t said (number + 1) new all
-reached_more hash_of t said number old new fields row shares all reached took spelt fits more = record {
+    Reached hash_of t said number old shares → old ≡ fields ∷ new → row_of t fields ≡ Some row → IsRowOf t row → (key : Cell) → key ≡ row.key →
+    ((pairs : List (Cell × RowValue)) → AreSpread hash_of pairs shares → AreSpread hash_of (pairs ++ (key, row) ∷ []) all) → Reached hash_of t said (number + 1) new all
+reached_more hash_of t said number old new fields row shares all reached took spelt fits key own more = record {
   rs = reached.rs ++ row ∷ [];
   counted = omega (arith, reached.counted, length-append reached.rs (row ∷ []));
   spread = subst (λ pairs. AreSpread hash_of pairs all)
-      (sym (map-append (λ (r : RowValue). (r.key, r)) reached.rs (row ∷ [])))
+      (ap (λ k. keyed_rows reached.rs ++ (k, row) ∷ []) own ∙ sym (map-append (λ (r : RowValue). (r.key, r)) reached.rs (row ∷ [])))
       (more (keyed_rows reached.rs) reached.spread);
   fit = all_more t reached.rs row reached.fit fits;
   is = reached.is ∙ ap (λ left. behind reached.rs (rows_from t number left)) took
@@ -126,3 +126,5 @@ few_records bytes =
     omega (arith, some, short)
 
 -- behind its first record a text has no more records than bytes
+pub few_behind : (bytes : List ℕ) (first : List (List ℕ)) (later : List (List (List ℕ))) → records_of bytes ≡ first ∷ later → length later ≤ length bytes
+few_behind bytes first later took = let few = few_records bytes in omega (arith, few, ap length took)

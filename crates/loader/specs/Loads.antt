@@ -10,7 +10,7 @@ use Rattle.cells.specs.declared.cell.Cell.{Cell}
 use Rattle.cells.specs.declared.refused.Refused.{Refused}
 use Rattle.cells.specs.declared.refused.Refused.TheVariants as refused
 use Rattle.trie.specs.Maps.{map_of}
-use Rattle.loader.specs.Parts.{FaultyRecord}
+use Rattle.loader.specs.Parts.{FaultyRecord, rows_of_part}
 use Rattle.loader.specs.Shares.{AreSpread, Pairs, lists}
 use Rattle.loader.specs.declared.fault.PartFault.{PartFault}
 use Rattle.loader.specs.declared.fault.PartFault.TheVariants.{Bad, OutOfMemory, NoWorker}
@@ -45,6 +45,10 @@ Content = Result Counted ℕ
 abbrev pub IsContent : (Cell → ℕ) → Table → Result (List RowValue) ℕ → Content → Type 0
 IsContent hash_of t said (Ok counted) = AreCounted hash_of t said counted
 IsContent hash_of t said (Err number) = said ≡ Err number
+
+-- a part's rows, or the number of its first faulty record
+abbrev pub ReadsPart : (Cell → ℕ) → Table → List ℕ → Content → Type 0
+ReadsPart hash_of t bytes content = IsContent hash_of t (rows_of_part t bytes) content
 
 -- no record is faulty, and the trie holds what the rows leave that are said
 pub record AreLoaded (said : Result (List RowValue) FaultyRecord) (held : Held) : Type 0 where

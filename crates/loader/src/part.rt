@@ -1,9 +1,9 @@
 //! One part, or a piece of one: a header, if it is the first piece, and a row for each record behind it.
-ghost use Rattle.std.specs.Prelude.{◌≡◌, ◌+◌, ◌<◌, ◌^◌, length, IfOk};
-ghost use Rattle.csv.specs.Records.{fields_of};
-ghost use Rattle.loader.specs.Loads.{IsContent};
-ghost use Rattle.loader.specs.Parts.{is_header, rows_behind_header, rows_from};
+ghost use Rattle.std.specs.Prelude.{◌+◌, ◌<◌, ◌^◌, length, IfOk};
+ghost use Rattle.loader.specs.Loads.{IsContent, ReadsPart};
+ghost use Rattle.loader.specs.Parts.{rows_from};
 ghost use Rattle.loader.specs.Pieces.{rows_of_piece};
+ghost use Rattle.loader.specs.Records.{records_of};
 
 use crate::header::is_header;
 use crate::pieces::Piece;
@@ -34,65 +34,67 @@ pub(crate) fn read_piece<H: KeyHash<Cell>>(
 ) -> Result<Content, AllocError>
     ensures { IfOk result (IsContent H.hash_of schema.now (rows_of_piece schema.now piece.now)) }
 {
-    let mut records = Records::new(alloc, piece.bytes);
-    let mut record = ByteRecord::new(alloc);
     if piece.first {
-        read_part::<H>(alloc, &mut records, &mut record, schema)
+        read_part::<H>(alloc, piece.bytes, schema)
     } else {
-        read_rows::<H>(alloc, &mut records, &mut record, schema)
+        read_later::<H>(alloc, piece.bytes, schema)
     }
 }
 
-/// Reads the records of a part, or of the first piece of one, into `record`. Its first faulty record is record 0 where it has
-/// no record at all, or its first one is not the header; and else the first record behind it that spells no row of the schema.
+/// Reads a part, or the first piece of one. Its first faulty record is record 0 where it has no record at all, or its first
+/// one is not the header; and else the first record behind it that spells no row of the schema.
 ///
 /// The only error is that a growth was refused.
 fn read_part<H: KeyHash<Cell>>(
     alloc: Global,
-    records: &mut Records<'_>,
-    record: &mut ByteRecord,
+    bytes: &[u8],
     schema: &Schema,
 ) -> Result<Content, AllocError>
-    requires { length records.old < 2 ^ 64 }
-    ensures { IfOk result (IsContent H.hash_of schema.now (rows_behind_header schema.now records.old)) }
+    ensures { IfOk result (ReadsPart H.hash_of schema.now bytes.now) }
 {
-    if !records.next(record)? {
+    let mut records = Records::new(alloc, bytes);
+    let mut record = ByteRecord::new(alloc);
+    if !records.next(&mut record)? {
         return Ok(Err(0));
     }
-    if !has_names(alloc, record, schema)? {
+    let header = fields(alloc, &record)?;
+    if !is_header(schema.columns(), header.as_slice()) {
         return Ok(Err(0));
     }
-    read_rows::<H>(alloc, records, record, schema)
+    read_rows::<H>(alloc, records, schema)
 }
 
-/// Whether the record is the header of a part.
-fn has_names(alloc: Global, row: &ByteRecord, schema: &Schema) -> Result<bool, AllocError>
-    ensures { IfOk result (λ is. is ≡ is_header schema.now.columns (fields_of row.now)) }
+/// Reads records that stand behind others of their part, from 1 on.
+fn read_later<H: KeyHash<Cell>>(
+    alloc: Global,
+    bytes: &[u8],
+    schema: &Schema,
+) -> Result<Content, AllocError>
+    ensures { IfOk result (IsContent H.hash_of schema.now (rows_from schema.now 1 (records_of bytes.now))) }
 {
-    let header = fields(alloc, row)?;
-    Ok(is_header(schema.columns(), header.as_slice()))
+    read_rows::<H>(alloc, Records::new(alloc, bytes), schema)
 }
 
-/// The rows of the records that are left, which are read into `record` and numbered from 1 on, or the number of the first
-/// faulty one.
+/// The rows of the records that are left, which are numbered from 1 on, or the number of the first faulty one.
 fn read_rows<H: KeyHash<Cell>>(
     alloc: Global,
-    records: &mut Records<'_>,
-    record: &mut ByteRecord,
+    mut records: Records<'_>,
     schema: &Schema,
 ) -> Result<Content, AllocError>
-    requires { length records.old + 1 < 2 ^ 64 }
-    ensures { IfOk result (IsContent H.hash_of schema.now (rows_from schema.now 1 records.old)) }
+    requires { length records + 1 < 2 ^ 64 }
+    ensures { IfOk result (IsContent H.hash_of schema.now (rows_from schema.now 1 records.entry)) }
 {
     let mut rows = Spread::new(alloc)?;
+    let mut record = ByteRecord::new(alloc);
     let mut number = 1;
-    while records.next(record)? {
-        let row = match read_row(alloc, record, schema) {
+    while records.next(&mut record)? {
+        let row = match read_row(alloc, &record, schema) {
             Ok(row) => row,
             Err(Refused::OutOfMemory) => return Err(AllocError),
             Err(_) => return Ok(Err(number)),
         };
-        rows.push::<H>(row)?;
+        let key = row.key().clone()?;
+        rows.push::<H>(key, row)?;
         number += 1;
     }
     Ok(Ok(Counted {

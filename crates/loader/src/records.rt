@@ -1,5 +1,5 @@
 //! The CSV records of a text, and the row of a `put` line.
-ghost use Rattle.std.specs.Prelude.{◌≡◌, ◌∷◌, [], IfOk, None, OnErr, Some, map};
+ghost use Rattle.std.specs.Prelude.{◌≡◌, ◌∷◌, [], IfOk, OnErr, map, option_map};
 ghost use Rattle.std.specs.Bool.{MatchBool};
 ghost use Rattle.cells.specs.Fitting.{IsRowOf};
 ghost use Rattle.cells.specs.Records.{row_of};
@@ -85,10 +85,9 @@ pub fn read_record(alloc: Global, text: &[u8], schema: &Schema) -> Result<Row, R
     if is_plain(text) {
         return read_plain(alloc, text, schema);
     }
-    let mut record = ByteRecord::new(alloc);
-    if !sole_record(alloc, text, &mut record)? {
+    let Some(record) = sole_record(alloc, text)? else {
         return Err(Refused::BadRecord);
-    }
+    };
     read_row(alloc, &record, schema)
 }
 
@@ -106,19 +105,20 @@ pub(crate) fn read_row(alloc: Global, record: &ByteRecord, schema: &Schema) -> R
     row.finish()
 }
 
-/// Reads the one record of a text into `row`, or answers that it has not exactly one.
-fn sole_record(alloc: Global, text: &[u8], row: &mut ByteRecord) -> Result<bool, AllocError>
-    ensures { IfOk result (λ one. MatchBool one (sole (records_of text.now) ≡ Some (fields_of row.new)) (sole (records_of text.now) ≡ None)) }
+/// The record of a text, where it has exactly one.
+fn sole_record(alloc: Global, text: &[u8]) -> Result<Option<ByteRecord>, AllocError>
+    ensures { IfOk result (λ o. option_map fields_of o ≡ sole (records_of text.now)) }
 {
     let mut records = Records::new(alloc, text);
-    if !records.next(row)? {
-        return Ok(false);
+    let mut row = ByteRecord::new(alloc);
+    if !records.next(&mut row)? {
+        return Ok(None);
     }
     let mut other = ByteRecord::new(alloc);
     if records.next(&mut other)? {
-        return Ok(false);
+        return Ok(None);
     }
-    Ok(true)
+    Ok(Some(row))
 }
 
 /// The fields of a record, in their order. The only error is that a growth was refused.

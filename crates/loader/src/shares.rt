@@ -34,12 +34,11 @@ impl Spread {
     }
 
     /// Puts a row behind those that are there.
-    pub fn push<H: KeyHash<Cell>>(&mut self, row: Row) -> Result<(), AllocError>
+    pub fn push<H: KeyHash<Cell>>(&mut self, key: Cell, row: Row) -> Result<(), AllocError>
         requires { length self.old.shares.items ≡ share_count }
         ensures { (pairs : Pairs) → AreSpread H.hash_of pairs (lists self.old.shares.items) →
-            IfOk result (λ _. AreSpread H.hash_of (pairs ++ (row.key, row) ∷ []) (lists self.new.shares.items)) }
+            IfOk result (λ _. AreSpread H.hash_of (pairs ++ (key, row) ∷ []) (lists self.new.shares.items)) }
     {
-        let key = row.key().clone()?;
         let share = share_of(H::hash(&key));
         self.shares[share].push((key, row))?;
         Ok(())

@@ -13,17 +13,20 @@ use crate::close::{NOTHING_RUN, end_early};
 use crate::input::{Folder, Input, Unread, Unreadable, read_parts};
 use crate::manual::{Topic, show};
 use crate::options::{OptionFault, part_words};
-use crate::program::{cannot_read, run_input};
+use crate::program::{cannot_read, errors_of, progress_of, run_input};
 use crate::proposal::{FileFault, Proposal, Unproposed, proposed};
 use crate::question::{Question, SchemaQuestion, Wanted, question_of, schema_question_of};
 use crate::table_text::{script_of, table_line, table_name};
-use crate::tell::{Errors, Screen, Tell};
+use crate::tell::{Renew, Screen};
+use crate::telling::Telling;
+use crate::unread::tell_unread;
 use cells::Text;
 use script::{Ended, HashChoice, OnRefusal};
 use std::alloc::{AllocError, Global};
 use std::io::{BufWriter, Write};
 use std::sync::Wait;
 use std::thread::Threads;
+use std::time::Clock;
 
 /// The status where a file makes no part.
 pub const FAULTY: u8 = 1;
@@ -33,7 +36,12 @@ pub const FAULTY: u8 = 1;
 /// At 0 the answer was written whole: what a strict run writes of the script that asks the query of the table that is proposed for
 /// the files; or help was asked for. At 1 a file makes no part, and nothing was written, or the query is refused, and its refusal
 /// was; `err` says why. At 2 the words are refused or a file can't be read, and at 3 the run ended early.
-pub fn ask<F: Folder, W: Write + Drop, E: Write, R: Threads + Wait + Sync + Eprint + Screen>(
+pub fn ask<
+    F: Folder,
+    W: Write + Drop,
+    E: Write,
+    R: Threads + Wait + Sync + Eprint + Clock + Screen,
+>(
     rt: &R,
     alloc: Global,
     words: &[String],
@@ -110,7 +118,12 @@ fn refuse_file<E: Write>(names: &[Text], fault: FileFault, err: &mut E) -> u8
 }
 
 /// Reads the files of a question, and answers it.
-fn ask_question<F: Folder, W: Write + Drop, E: Write, R: Threads + Wait + Sync + Eprint>(
+fn ask_question<
+    F: Folder,
+    W: Write + Drop,
+    E: Write,
+    R: Threads + Wait + Sync + Eprint + Clock + Screen,
+>(
     rt: &R,
     alloc: Global,
     question: &Question<'_>,
@@ -128,10 +141,32 @@ fn ask_question<F: Folder, W: Write + Drop, E: Write, R: Threads + Wait + Sync +
     }
 }
 
-/// Answers a question of files that hold these bytes.
-fn ask_files<W: Write + Drop, E: Write, R: Threads + Wait + Sync + Eprint>(
+/// Answers a question of files that hold these bytes. Standard error tells first which of their columns are not read, where the
+/// question asks for it.
+fn ask_files<W: Write + Drop, E: Write, R: Threads + Wait + Sync + Eprint + Clock + Screen>(
     rt: &R,
     alloc: Global,
+    question: &Question<'_>,
+    files: &[Vec<u8>],
+    wanted: Wanted,
+    out: BufWriter<W>,
+    err: &mut E,
+) -> (u8, BufWriter<W>)
+    ensures status { (result.0 ≡ 0) ⊎ ((result.0 ≡ 1) ⊎ (result.0 ≡ 3)) }
+    ensures leaves { Leaves (IsAnswer (map (λ f. f.items) files.now) question.now wanted) result.0 (writer_contents W.contents out) (writer_contents W.contents result.1) (writer_buffer result.1) }
+{
+    let teller = errors_of(rt, question.tells_progress);
+    match tell_unread(alloc, &teller, question, files, &wanted) {
+        Ok(()) => ask_told(rt, alloc, &teller, question, files, wanted, out, err),
+        Err(fault) => (refuse_file(question.names.as_slice(), fault, err), out),
+    }
+}
+
+/// Answers a question of files that hold these bytes. `teller` is told why it is refused, and how far the run is.
+fn ask_told<T: Renew + Sync, W: Write + Drop, E: Write, R: Threads + Wait + Sync + Clock>(
+    rt: &R,
+    alloc: Global,
+    teller: &T,
     question: &Question<'_>,
     files: &[Vec<u8>],
     wanted: Wanted,
@@ -144,14 +179,13 @@ fn ask_files<W: Write + Drop, E: Write, R: Threads + Wait + Sync + Eprint>(
     let delimiter = wanted.delimiter;
     match input_of_files(alloc, question, files, wanted) {
         Ok(input) => {
-            let teller = Errors::new(rt, false);
             let asked = Asked {
                 question,
                 files,
                 delimiter,
                 input: &input,
             };
-            run_asked(rt, alloc, &teller, &asked, out, err)
+            run_asked(rt, alloc, teller, &asked, out, err)
         }
         Err(fault) => (refuse_file(question.names.as_slice(), fault, err), out),
     }
@@ -181,7 +215,7 @@ struct Asked<'a> {
 }
 
 /// Runs the script that asks, up to its first refused line.
-fn run_asked<'a, T: Tell + Sync, W: Write + Drop, E: Write, R: Threads + Wait + Sync>(
+fn run_asked<'a, T: Renew + Sync, W: Write + Drop, E: Write, R: Threads + Wait + Sync + Clock>(
     rt: &'a R,
     alloc: Global,
     teller: &'a T,
@@ -192,7 +226,7 @@ fn run_asked<'a, T: Tell + Sync, W: Write + Drop, E: Write, R: Threads + Wait + 
     ensures status { (result.0 ≡ 0) ⊎ ((result.0 ≡ 1) ⊎ (result.0 ≡ 3)) }
     ensures leaves { Leaves (IsStrictOutput asked.now.question.now asked.now.input.now) result.0 (writer_contents W.contents out) (writer_contents W.contents result.1) (writer_buffer result.1) }
 {
-    let gate = Asking::new(
+    let asking = Asking::new(
         teller,
         alloc,
         asked.question.query,
@@ -201,6 +235,10 @@ fn run_asked<'a, T: Tell + Sync, W: Write + Drop, E: Write, R: Threads + Wait + 
         asked.delimiter,
         asked.input,
     );
+    let gate = Telling {
+        explaining: asking,
+        progress: progress_of(teller, rt, asked.question.tells_progress),
+    };
     run_input(
         rt,
         alloc,

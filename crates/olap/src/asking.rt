@@ -2,7 +2,6 @@
 
 use crate::input::Input;
 use crate::tell::Tell;
-use crate::telling::Ending;
 use cells::{ColumnType, Refused, Schema, Text, Token, tokens_or};
 use crew::Gate;
 use prepare::{TextField, first_text, line_of};
@@ -183,7 +182,7 @@ fn text_column(schema: &Schema, name: &str) -> Option<usize> {
 }
 
 /// A field as a message shows it: a short text on one line.
-fn shown(field: &[u8]) -> Option<&str> {
+pub fn shown(field: &[u8]) -> Option<&str> {
     if field.len() > MOST_SHOWN || field.iter().any(|byte| *byte < b' ') {
         return None;
     }
@@ -220,5 +219,3 @@ impl<'a, T: Tell + Sync> Gate for Asking<'a, T> {
         self.teller.tell(format_args!("{name}:{line}: {reason} (6 BadPart, 7 BadRecord)"));
     }
 }
-
-impl<'a, T: Tell + Sync> Ending for Asking<'a, T> {}

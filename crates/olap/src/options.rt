@@ -105,6 +105,8 @@ pub struct Parted<'w> {
     pub order: Option<&'w str>,
     pub limit: Option<&'w str>,
     pub trims: bool,
+    /// Whether standard error tells how far the run is.
+    pub tells_progress: bool,
     /// Whether help is asked for.
     pub helps: bool,
     pub names: Vec<&'w str>,
@@ -127,6 +129,7 @@ impl<'w> Parted<'w> {
             order: None,
             limit: None,
             trims: false,
+            tells_progress: false,
             helps: false,
             names: Vec::new(alloc),
         }
@@ -155,6 +158,7 @@ impl<'w> Parted<'w> {
             "--help" => self.helps = true,
             "-h" => self.helps = true,
             "--trim" => self.trims = true,
+            "--progress" => self.tells_progress = true,
             word => return part_word(self, word, later),
         }
         Ok(later)
@@ -246,6 +250,7 @@ fn part_word<'w>(
 fn unknown<'w>(name: &str, word: &'w str) -> OptionFault<'w> {
     match name {
         "trim" => OptionFault::Value(word),
+        "progress" => OptionFault::Value(word),
         "help" => OptionFault::Value(word),
         _ => OptionFault::Unknown(word),
     }

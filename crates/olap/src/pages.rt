@@ -230,6 +230,7 @@ Options:
       --workers N      Workers, 1 to 64 [default: as many as processors]
       --rows M         Most rows of the table, 1 to 4294967296 [default: 4294967296]
       --format FORM    Form of the answer, classic, csv, json or table [default: table on a terminal, else csv]
+      --progress       Tell on standard error which columns are not read, and how far the run is
   -h, --help           Print help
 
 Options may come before, between and after the names, and after the word -- all words are names.
@@ -238,8 +239,8 @@ Example:
   olap query 'SELECT REGION, COUNT(*), SUM(UNITS) FROM SALES GROUP BY REGION' sales.csv
 
 The answer is that of a report in a script, without the line of its edition. NULL comes before integers, and these
-before texts. Standard error says why a query is refused, as `query:8: ..` by its columns, or a file, as
-`sales.csv:5: ..` by its lines.
+before texts. In a table (all) stands where a row is a total over a column. Standard error says why a query is
+refused, as `query:8: ..` by its columns, or a file, as `sales.csv:5: ..` by its lines.
 
 The status is 0 where the answer was written, 1 where the query or a file is refused, 2 where the words are
 refused or a file cannot be read, and 3 where the run ended early.

@@ -96,15 +96,17 @@ fn run_job<
         return (cannot_read(Unreadable { name, why }, err), out);
     };
     match read_named(alloc, folder, job, room) {
-        Ok(input) => run_told(rt, alloc, &errors_of(rt, job), job, &input, out, err),
+        Ok(input) => {
+            let teller = errors_of(rt, job.tells_progress);
+            run_told(rt, alloc, &teller, job, &input, out, err)
+        }
         Err(unread) => (cannot_read(unread, err), out),
     }
 }
 
-/// Where a job tells reasons and how far it is: a line is written anew on a screen, where it tells that.
-fn errors_of<'r, R: Screen>(rt: &'r R, job: &Job) -> Errors<'r, R> {
-    let renews = job.tells_progress && rt.is_screen();
-    Errors::new(rt, renews)
+/// Where a run tells reasons, and may tell how far it is: a line is written anew on a screen, where it tells that.
+pub fn errors_of<'r, R: Screen>(rt: &'r R, tells: bool) -> Errors<'r, R> {
+    Errors::new(rt, tells && rt.is_screen())
 }
 
 /// Runs a job over what was read for it, and gives the program's status and the writer back, as [`run_input`] does. `teller`
@@ -129,7 +131,7 @@ fn run_told<'a, T: Renew + Sync, W: Write + Drop, E: Write, R: Threads + Wait + 
 {
     let gate = Telling {
         explaining: Explaining::new(teller, alloc, Told::of_run(job.explains), job, input),
-        progress: progress_of(teller, rt, job),
+        progress: progress_of(teller, rt, job.tells_progress),
     };
     let manner = Manner::of(alloc, job.form);
     run_input(
@@ -147,13 +149,13 @@ fn run_told<'a, T: Renew + Sync, W: Write + Drop, E: Write, R: Threads + Wait + 
     )
 }
 
-/// What tells how far a run is that begins now, where the job asks for it.
-fn progress_of<'a, T, C: Clock>(
+/// What tells how far a run is that begins now, where that is asked for.
+pub fn progress_of<'a, T, C: Clock>(
     teller: &'a T,
     clock: &'a C,
-    job: &Job,
+    tells: bool,
 ) -> Option<Progress<'a, T, C>> {
-    if job.tells_progress {
+    if tells {
         Some(Progress::new(teller, clock))
     } else {
         None

@@ -143,7 +143,7 @@ pub fn proposed(
 }
 
 /// The columns of the first file, or those that the query names where there are too many.
-fn columns_of_file(
+pub fn columns_of_file(
     alloc: Global,
     files: &[Vec<u8>],
     delimiter: u8,

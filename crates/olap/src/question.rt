@@ -29,6 +29,8 @@ pub struct Question<'w> {
     pub how: How,
     /// How the answer is told: in a form, and without a heading of its block.
     pub manner: Manner,
+    /// Whether standard error tells how far the run is, and which columns of the files are not read.
+    pub tells_progress: bool,
 }
 
 /// A file whose table is wanted.
@@ -166,6 +168,7 @@ pub fn question_of<'w, R: Threads + Screen>(
             names,
             how,
             manner,
+            tells_progress: parted.tells_progress,
         },
         wanted,
     ))
@@ -220,6 +223,9 @@ pub fn schema_question_of<'w>(
     }
     if parted.limit.is_some() {
         return Err(OptionFault::Unknown("--limit"));
+    }
+    if parted.tells_progress {
+        return Err(OptionFault::Unknown("--progress"));
     }
     match parted.names.as_slice() {
         [] => Err(OptionFault::NoFile),

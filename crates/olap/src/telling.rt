@@ -1,4 +1,4 @@
-//! The gate of a run that may tell why lines are refused, and may tell how far it is.
+//! The gate of a run that tells why lines are refused, and may tell how far it is.
 
 use crate::explaining::Explaining;
 use crate::progress::Progress;
@@ -19,12 +19,12 @@ impl<'a, T: Tell + Sync> Ending for Explaining<'a, T> {}
 
 /// A gate that tells what two gates tell, of which one may not be there.
 #[derive(Drop)]
-pub struct Telling<'a, T, C> {
-    pub explaining: Explaining<'a, T>,
+pub struct Telling<'a, T, C, G> {
+    pub explaining: G,
     pub progress: Option<Progress<'a, T, C>>,
 }
 
-impl<'a, T: Renew + Sync, C: Clock + Sync> Gate for Telling<'a, T, C> {
+impl<'a, T: Renew + Sync, C: Clock + Sync, G: Gate> Gate for Telling<'a, T, C, G> {
     fn left(&self, piece: u64) {
         if let Some(progress) = &self.progress {
             progress.left(piece);
@@ -74,7 +74,7 @@ impl<'a, T: Renew + Sync, C: Clock + Sync> Gate for Telling<'a, T, C> {
     }
 }
 
-impl<'a, T: Renew + Sync, C: Clock + Sync> Ending for Telling<'a, T, C> {
+impl<'a, T: Renew + Sync, C: Clock + Sync, G: Gate> Ending for Telling<'a, T, C, G> {
     fn ended(&self) {
         if let Some(progress) = &self.progress {
             progress.clear();

@@ -113,12 +113,12 @@ strip_bom_short (a ∷ []) = omega arith
 strip_bom_short (a ∷ b ∷ []) = omega arith
 strip_bom_short (a ∷ b ∷ c ∷ rest) = either_short (is_bom a b c) (a ∷ b ∷ c ∷ rest) rest (omega arith)
 
--- a text has one record more than bytes, at most
-pub few_records : (d : ℕ) (bytes : List ℕ) → length (records_of d bytes) ≤ length bytes + 1
-few_records d bytes =
+-- after its first record a text has no more records than bytes
+pub few_after : (d : ℕ) (bytes : List ℕ) (first : List (List ℕ)) (later : List (List (List ℕ))) → records_of d bytes ≡ first ∷ later → length later ≤ length bytes
+few_after d bytes first later took =
     let some = records_from_few d (length (strip_bom bytes) + 1) st.StartRecord (strip_bom bytes) in
     let short = strip_bom_short bytes in
-    omega (arith, some, short)
+    omega (arith, some, short, ap length took)
 
 -- ---- the whole file
 

@@ -24,12 +24,6 @@ pub took_header : (found : Bool) (fields : List (List ℕ)) (before after : List
 took_header true fields before after took = sym (ap (drop 1) took)
 took_header false fields before after none = none.1 ∙ sym (ap (drop 1) none.0)
 
--- the first record was taken, or there is none
-pub took_first : (found : Bool) (fields : List (List ℕ)) (before after : List Fields) → MatchBool found (before ≡ fields ∷ after) ((before ≡ []) × (after ≡ []))
-    → MatchBool found (before ≡ fields ∷ drop 1 before) (before ≡ [])
-took_first true fields before after took = took ∙ ap (λ later. fields ∷ drop 1 later) (sym took)
-took_first false fields before after none = none.0
-
 -- the next part was begun
 pub next_part : (part : List ℕ) (later : List (List ℕ)) (records : List Fields) → records ≡ drop 1 (records_of comma part) → rows_of (part ∷ later) ≡ records ++ rows_of later
 next_part part later records is = flat_map-cons (λ p. drop 1 (records_of comma p)) part later ∙ ap (λ front. front ++ rows_of later) (sym is)

@@ -1,5 +1,5 @@
 //! The key that is proposed for the columns of parts.
-ghost use Rattle.std.specs.Prelude.{◌≡◌, [], ℕ, IfOk, List, MatchOption, bytes_eq, map};
+ghost use Rattle.std.specs.Prelude.{◌≡◌, ℕ, IfOk, List, MatchOption, bytes_eq, map};
 ghost use Rattle.std.specs.Bool.{Decides};
 ghost use Rattle.std.specs.Cmp;
 ghost use Rattle.std.specs.Cmp.Lexicographic.{nat_list_eq_equiv};
@@ -123,27 +123,9 @@ fn are_keys<V: Value>(alloc: Global, parts: &[Vec<u8>], place: usize) -> Result<
 {
     let mut rows = Rows::new(alloc, parts);
     let mut row = ByteRecord::new(alloc);
-    let mut met = HashSet::<V>::new(alloc);
-    let are = are_new(alloc, &mut rows, &mut row, &mut met, place);
-    drop(rows);
-    drop(row);
-    drop(met);
-    are
-}
-
-/// Whether that holds of the rows that are left, where no value was met.
-fn are_new<V: Value>(
-    alloc: Global,
-    rows: &mut Rows<'_>,
-    row: &mut ByteRecord,
-    met: &mut HashSet<V>,
-    place: usize,
-) -> Result<bool, AllocError>
-    requires { met.old.keys ≡ [] }
-    ensures { IfOk result (λ are. Decides are (AreKeys V.eq V.of (column_of place rows.old))) }
-{
-    while rows.next(row)? {
-        let field = field_in(row, place);
+    let mut met = HashSet::new(alloc);
+    while rows.next(&mut row)? {
+        let field = field_in(&row, place);
         if field.is_empty() {
             return Ok(false);
         }

@@ -28,4 +28,4 @@ pub use part::{MadePart, prepared};
 pub use place::line_of;
 pub use records::Records;
 pub use texts::{TextField, first_text};
-pub use words::{name_of, word};
+pub use words::{is_same_name, name_of, word};

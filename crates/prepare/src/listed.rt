@@ -1,15 +1,14 @@
 //! Columns of a file, under the names that they get in a table.
-ghost use Rattle.std.specs.Prelude.{◌≡◌, ◌==◌, ◌<◌, IfErr, IfNone, IfOk, IfSome, bytes_eq, filter, length, map, option_map, position, if◌then◌else◌};
+ghost use Rattle.std.specs.Prelude.{◌≡◌, ◌==◌, ◌<◌, IfErr, IfNone, IfOk, IfSome, bytes_eq, filter, length, map, option_map, position};
 ghost use Rattle.std.specs.List.{IsDistinct, list_any};
-ghost use Rattle.csv.specs.Records.{fields_of, trimmed};
 ghost use Rattle.prepare.specs.Files.{records_of};
-ghost use Rattle.prepare.specs.Listed.{IsAgain, IsColumn, IsListFault, by_name, header_in, is_named, is_word, listed, listed_in, naming_by, naming_of, words_in};
+ghost use Rattle.prepare.specs.Listed.{IsAgain, IsColumn, IsListFault, by_name, header_in, is_named, is_word, listed_in, naming_by, naming_of, words_in};
 ghost use Rattle.prepare.specs.Words.{word_of};
 ghost use Rattle.prepare.specs.declared.listed.ListFault.TheVariants.{OutOfMemory};
 
 use crate::choice::Chosen;
 use crate::part::{fields, lent};
-use crate::records::first_record;
+use crate::records::Records;
 use crate::words::word_text;
 use cells::{Text, Token};
 use csv::ByteRecord;
@@ -53,22 +52,16 @@ pub fn header_of(
 ) -> Result<Option<Vec<Vec<u8>>>, AllocError>
     ensures { IfOk result (λ header. option_map (λ names. map (λ name. name.items) names.items) header ≡ header_in trims (records_of delimiter file.now)) }
 {
+    let mut records = Records::new(alloc, file, delimiter);
     let mut row = ByteRecord::new(alloc);
-    if !first_record(alloc, file, delimiter, &mut row)? {
+    if !records.next(&mut row)? {
         return Ok(None);
     }
-    names_in(alloc, trims, &mut row).map(Some)
-}
-
-/// The names that a header has.
-fn names_in(alloc: Global, trims: bool, header: &mut ByteRecord) -> Result<Vec<Vec<u8>>, AllocError>
-    ensures { IfOk result (λ names. map (λ name. name.items) names.items ≡ if trims then map trimmed (fields_of header.old) else fields_of header.old) }
-{
     if trims {
-        header.trim()?;
+        row.trim()?;
     }
-    let fields = fields(alloc, header)?;
-    owned(alloc, fields.as_slice())
+    let fields = fields(alloc, &row)?;
+    Ok(Some(owned(alloc, fields.as_slice())?))
 }
 
 /// Copies of the fields.
@@ -98,19 +91,12 @@ pub fn listed_columns(alloc: Global, text: &str) -> Result<Vec<Chosen>, ListFaul
     ensures columns { IfOk result (λ columns. map naming_of columns.items ≡ listed_in text.now) }
     ensures fault { IfErr result (IsListFault (listed_in text.now)) }
 {
+    let mut records = Records::new(alloc, text.as_bytes(), b',');
     let mut row = ByteRecord::new(alloc);
-    if !first_record(alloc, text.as_bytes(), b',', &mut row)? {
+    if !records.next(&mut row)? {
         return Ok(Vec::new(alloc));
     }
-    columns_in(alloc, &row)
-}
-
-/// The columns that a record lists.
-fn columns_in(alloc: Global, row: &ByteRecord) -> Result<Vec<Chosen>, ListFault>
-    ensures columns { IfOk result (λ columns. map naming_of columns.items ≡ map listed (fields_of row.now)) }
-    ensures fault { IfErr result (IsListFault (map listed (fields_of row.now))) }
-{
-    let fields = fields(alloc, row)?;
+    let fields = fields(alloc, &row)?;
     columns_by(alloc, Form::List, fields.as_slice())
 }
 

@@ -1,10 +1,9 @@
 //! A part made of a file.
-ghost use Rattle.std.specs.Prelude.{◌≡◌, ◌++◌, ◌+◌, ◌<◌, ◌^◌, IfErr, IfOk, Ok, length, map};
+ghost use Rattle.std.specs.Prelude.{◌≡◌, ◌++◌, ◌+◌, ◌<◌, ◌^◌, IfErr, IfOk, length, map};
 ghost use Rattle.csv.specs.Records.{fields_of};
 ghost use Rattle.csv.specs.Writing.{default_writer, row_text};
 ghost use Rattle.prepare.specs.Files.{records_of};
-ghost use Rattle.prepare.specs.declared.part.MadePart.{MadePart as Part};
-ghost use Rattle.prepare.specs.Parts.{IsFault, IsPart, IsTextAfter, headed, part_of, places_of, records_from, words_of};
+ghost use Rattle.prepare.specs.Parts.{IsFault, IsPart, IsTextAfter, headed, part_of, records_from, words_of};
 
 use crate::choice::Choice;
 use crate::fault::PrepareFault;
@@ -33,53 +32,20 @@ pub fn prepared(alloc: Global, bytes: &[u8], choice: &Choice) -> Result<MadePart
     ensures fault { IfErr result (IsFault (part_of choice.now (records_of choice.now.delimiter bytes.now))) }
 {
     let mut records = Records::new(alloc, bytes, choice.delimiter);
-    let mut row = ByteRecord::new(alloc);
-    let part = part_of(alloc, choice, &mut records, &mut row);
-    drop(records);
-    drop(row);
-    part
-}
-
-/// The part that is made of records, which are read into `row`.
-fn part_of(
-    alloc: Global,
-    choice: &Choice,
-    records: &mut Records<'_>,
-    row: &mut ByteRecord,
-) -> Result<MadePart, PrepareFault>
-    requires { length records.old < 2 ^ 64 }
-    ensures part { IfOk result (IsPart (part_of choice.now records.old)) }
-    ensures fault { IfErr result (IsFault (part_of choice.now records.old)) }
-{
-    if !records.next(row)? {
+    let mut header = ByteRecord::new(alloc);
+    if !records.next(&mut header)? {
         return Err(PrepareFault::NoHeader);
     }
-    trim(choice, row)?;
-    let (places, lines) = begun(alloc, choice, row)?;
+    trim(choice, &mut header)?;
+    let names = fields(alloc, &header)?;
+    let places = places_of(alloc, &choice.columns, names.as_slice())?;
+    let lines = first_line(alloc, choice, names.as_slice())?;
     let layout = Layout {
         choice,
         places,
-        width: row.len(),
+        width: names.len(),
     };
-    let part = with_records(alloc, records, row, &layout, lines);
-    drop(layout);
-    part
-}
-
-/// The places of the columns in this header, and the header of the part.
-fn begun(
-    alloc: Global,
-    choice: &Choice,
-    header: &ByteRecord,
-) -> Result<(Vec<usize>, Lines), PrepareFault>
-    ensures places { IfOk result (λ x. places_of choice.now.columns (fields_of header.now) ≡ Ok x.0.items) }
-    ensures line { IfOk result (λ x. x.1 ≡ row_text default_writer (headed choice.now.number (words_of choice.now.columns (fields_of header.now)))) }
-    ensures fault { IfErr result (IsFault (places_of choice.now.columns (fields_of header.now))) }
-{
-    let names = fields(alloc, header)?;
-    let places = places_of(alloc, &choice.columns, names.as_slice())?;
-    let lines = first_line(alloc, choice, names.as_slice())?;
-    Ok((places, lines))
+    with_records(alloc, records, &layout, lines)
 }
 
 /// The fields of a record.
@@ -118,42 +84,17 @@ pub(crate) fn lent(alloc: Global, words: &[Vec<u8>]) -> Result<Vec<&[u8]>, Alloc
 /// The lines, and then those of the records that are left, which are numbered from 1 on.
 fn with_records(
     alloc: Global,
-    records: &mut Records<'_>,
-    row: &mut ByteRecord,
+    mut records: Records<'_>,
     layout: &Layout<'_>,
     mut lines: Lines,
 ) -> Result<MadePart, PrepareFault>
-    requires { length records.old + 1 < 2 ^ 64 }
-    ensures text { IfOk result (IsTextAfter lines (records_from layout.now.choice.now layout.now.places.items layout.now.width 1 records.old)) }
-    ensures fault { IfErr result (IsFault (records_from layout.now.choice.now layout.now.places.items layout.now.width 1 records.old)) }
+    requires { length records + 1 < 2 ^ 64 }
+    ensures text { IfOk result (IsTextAfter lines (records_from layout.now.choice.now layout.now.places.items layout.now.width 1 records.entry)) }
+    ensures fault { IfErr result (IsFault (records_from layout.now.choice.now layout.now.places.items layout.now.width 1 records.entry)) }
 {
-    match write_records(alloc, records, row, layout, &mut lines) {
-        Ok(records) => Ok(MadePart {
-            text: lines.into_text()?,
-            records,
-        }),
-        Err(fault) => {
-            drop(lines);
-            Err(fault)
-        }
-    }
-}
-
-/// Writes the lines of the records that are left, which are numbered from 1 on, and answers how many they are.
-fn write_records(
-    alloc: Global,
-    records: &mut Records<'_>,
-    row: &mut ByteRecord,
-    layout: &Layout<'_>,
-    lines: &mut Lines,
-) -> Result<u64, PrepareFault>
-    requires { length records.old + 1 < 2 ^ 64 }
-    ensures text { IfOk result (λ count. (part : Part) → part.text.items ≡ lines.new → part.records ≡ count →
-        IsTextAfter lines.old (records_from layout.now.choice.now layout.now.places.items layout.now.width 1 records.old) part) }
-    ensures fault { IfErr result (IsFault (records_from layout.now.choice.now layout.now.places.items layout.now.width 1 records.old)) }
-{
+    let mut row = ByteRecord::new(alloc);
     let mut number = 1;
-    while records.next(row)? {
+    while records.next(&mut row)? {
         if row.len() != layout.width {
             return Err(PrepareFault::Uneven {
                 record: number,
@@ -161,8 +102,11 @@ fn write_records(
                 header: layout.width,
             });
         }
-        layout.write(alloc, lines, number, row)?;
+        layout.write(alloc, &mut lines, number, &mut row)?;
         number += 1;
     }
-    Ok(number - 1)
+    Ok(MadePart {
+        text: lines.into_text()?,
+        records: number - 1,
+    })
 }

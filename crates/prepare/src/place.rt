@@ -9,28 +9,15 @@ use std::alloc::{AllocError, Global};
 pub fn line_of(alloc: Global, file: &[u8], delimiter: u8, number: u64) -> Result<u64, AllocError> {
     let mut records = Records::new(alloc, file, delimiter);
     let mut row = ByteRecord::new(alloc);
-    let line = line_in(file, &mut records, &mut row, number);
-    drop(records);
-    drop(row);
-    line
-}
-
-/// The same, where these are the file's records, which are read into `row`.
-fn line_in(
-    file: &[u8],
-    records: &mut Records<'_>,
-    row: &mut ByteRecord,
-    number: u64,
-) -> Result<u64, AllocError> {
     for _ in 0..number {
-        if !records.next(row)? {
+        if !records.next(&mut row)? {
             return Ok(1);
         }
     }
-    if !records.next(row)? {
+    if !records.next(&mut row)? {
         return Ok(1);
     }
-    Ok(line_at(file, row))
+    Ok(line_at(file, &row))
 }
 
 /// The line on which a record of these bytes begins. A reader notes where it began to look for the record, so the ends of empty lines

@@ -1,5 +1,5 @@
 //! The records of a file.
-ghost use Rattle.std.specs.Prelude.{◌≡◌, ◌∷◌, [], IfOk, OnErr, drop};
+ghost use Rattle.std.specs.Prelude.{◌≡◌, ◌∷◌, [], IfOk, OnErr};
 ghost use Rattle.std.specs.Bool.{MatchBool};
 ghost use Rattle.csv.specs.Records.{fields_of};
 ghost use Rattle.prepare.specs.Files.{records_of};
@@ -69,19 +69,4 @@ impl<'a> Records<'a> {
         self.done = !found;
         Ok(found)
     }
-}
-
-/// Reads the first record of these bytes into `row`, or answers that there is none. The only error is that a growth was refused.
-#[tactic(auto, using(crate::proofs::RowsLemmas::took_first))]
-pub(crate) fn first_record(
-    alloc: Global,
-    bytes: &[u8],
-    delimiter: u8,
-    row: &mut ByteRecord,
-) -> Result<bool, AllocError>
-    ensures { IfOk result (λ found. MatchBool found
-        (records_of delimiter bytes.now ≡ fields_of row.new ∷ drop 1 (records_of delimiter bytes.now))
-        (records_of delimiter bytes.now ≡ [])) }
-{
-    Records::new(alloc, bytes, delimiter).next(row)
 }

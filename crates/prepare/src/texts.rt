@@ -21,28 +21,13 @@ pub struct TextField {
 pub fn first_text(alloc: Global, part: &[u8], place: usize) -> Result<Option<TextField>, AllocError>
     ensures { IfOk result (λ found. IfSome found (λ text. fits_int text.field.items ≡ false)) }
 {
-    let mut row = ByteRecord::new(alloc);
     let mut records = Records::new(alloc, part, b',');
-    let found = first_in(alloc, &mut records, &mut row, place);
-    drop(records);
-    drop(row);
-    found
-}
-
-/// The same, where these are the part's records, which are read into `row`.
-fn first_in(
-    alloc: Global,
-    records: &mut Records<'_>,
-    row: &mut ByteRecord,
-    place: usize,
-) -> Result<Option<TextField>, AllocError>
-    ensures { IfOk result (λ found. IfSome found (λ text. fits_int text.field.items ≡ false)) }
-{
-    records.next(row)?;
+    let mut row = ByteRecord::new(alloc);
+    records.next(&mut row)?;
     let mut record = 0u64;
-    while records.next(row)? {
+    while records.next(&mut row)? {
         record = record.saturating_add(1);
-        let field = field_in(row, place);
+        let field = field_in(&row, place);
         if !fits_int(field) {
             let field = field.to_vec(alloc)?;
             return Ok(Some(TextField { record, field }));

@@ -7,29 +7,29 @@ use Rattle.loader.specs.Shares.{lists}
 use Rattle.loader.proofs.PartLemmas.{reached_end, reached_first, reached_more}
 use Rattle.loader.proofs.part.read_rows.Goals as goal
 
-pub loop-rows-init : goal.loop-rows-init
-loop-rows-init g c = record {
-  reached = reached_first g.H.KeyHash.hash_of c.args.schema.now c.args.records.now (lists c.in_ok-rows.rows.shares.items) (c.in_ok-rows.ensures g.H.KeyHash.hash_of);
+pub loop-record-init : goal.loop-record-init
+loop-record-init g c = record {
+  reached = reached_first g.H.KeyHash.hash_of c.args.schema.now c.args.records (lists c.in_ok-rows.rows.shares.items) (c.in_ok-rows.ensures g.H.KeyHash.hash_of);
   counted = omega arith;
 }
 
-pub loop-rows-preserved : goal.loop-rows-preserved
-loop-rows-preserved g c =
+pub loop-record-preserved : goal.loop-record-preserved
+loop-record-preserved g c =
     let t = c.args.schema.now in
     let row = c.in-Ok.row in
-    let took : c.loop-rows.records ≡ fields_of c.next.new.row ∷ c.next.new.self = search rules in
+    let took : c.loop-record.records ≡ fields_of c.next.new.row ∷ c.next.new.self = search rules in
     let spelt : row_of t (fields_of c.next.new.row) ≡ Some row = search rules in
     record {
-      reached = reached_more g.H.KeyHash.hash_of t _ c.loop-rows.number c.loop-rows.records c.next.new.self (fields_of c.next.new.row) row (lists c.loop-rows.rows.shares.items) (lists c.push.new.self.shares.items)
-          c.loop-rows.invariant.reached took spelt c.in-Ok.ensures.fits c.in_ok-push.ensures;
-      counted = omega (arith, c.loop-rows.invariant.counted, ap length took);
+      reached = reached_more g.H.KeyHash.hash_of t _ c.loop-record.number c.loop-record.records c.next.new.self (fields_of c.next.new.row) row (lists c.loop-record.rows.shares.items) (lists c.push.new.self.shares.items)
+          c.loop-record.invariant.reached took spelt c.in-Ok.ensures.fits c.in_ok-key.key (search rules) c.in_ok-push.ensures;
+      counted = omega (arith, c.loop-record.invariant.counted, ap length took);
     }
 
 pub returns : goal.returns
 returns g c =
-    let left : c.loop-rows.records ≡ [] = search rules in
-    reached_end g.H.KeyHash.hash_of c.args.schema.now (rows_from c.args.schema.now 1 c.args.records.now) c.loop-rows.number c.loop-rows.records
-    _ c.loop-rows.invariant.reached left (omega (arith, c.loop-rows.invariant.reached.counted))
+    let left : c.loop-record.records ≡ [] = search rules in
+    reached_end g.H.KeyHash.hash_of c.args.schema.now (rows_from c.args.schema.now 1 c.args.records) c.loop-record.number c.loop-record.records
+    _ c.loop-record.invariant.reached left (omega (arith, c.loop-record.invariant.reached.counted))
 
 pub push-requires : goal.push-requires
-push-requires g c = sym (length-map c.loop-rows.rows.shares.items (λ list. list.items)) ∙ c.loop-rows.invariant.reached.spread.many
+push-requires g c = sym (length-map c.loop-record.rows.shares.items (λ list. list.items)) ∙ c.loop-record.invariant.reached.spread.many

@@ -4,11 +4,11 @@ use Rattle.loader.specs.Shares.{lists}
 use Rattle.loader.proofs.PartLemmas.{Reached}
 use Rattle.loader.proofs.part.read_rows.Given as goal
 
-abbrev pub invariant-loop-rows : goal.invariant-loop-rows
-invariant-loop-rows g l = record {
+abbrev pub invariant-loop-record : goal.invariant-loop-record
+invariant-loop-record g l = record {
   reached : Reached g.H.KeyHash.hash_of l.schema (rows_from l.schema 1 l.fn.records) l.number l.records (lists l.rows.shares.items);
   counted : l.number + length l.records ≡ length l.fn.records + 1;
 }
 
-abbrev pub decreases-loop-rows : goal.decreases-loop-rows
-decreases-loop-rows g l = length l.records
+abbrev pub decreases-loop-record : goal.decreases-loop-record
+decreases-loop-record g l = length l.records

@@ -1,7 +1,7 @@
 use Rattle.std.proofs.Common.{◌≡◌, ◌+◌, length}
 use Rattle.prepare.specs.Parts.{records_from}
 use Rattle.prepare.proofs.PartLemmas.{Reached}
-use Rattle.prepare.proofs.part.write_records.Given as goal
+use Rattle.prepare.proofs.part.with_records.Given as goal
 
 abbrev pub invariant-loop-row : goal.invariant-loop-row
 invariant-loop-row l = record {
