@@ -1,6 +1,6 @@
--- The accumulator of some cells, and of one more or of others behind them.
+-- The accumulator of some cells, and of one more behind them.
 use Rattle.std.specs.Prelude.{◌+◌, ◌<◌, ◌≤◌}
-use Rattle.std.proofs.Common.{◌≡◌, ℕ, List, [], ◌∷◌, ◌++◌, length, take, get_or, refl, sym, ap, subst, ◌∙◌, arith}
+use Rattle.std.proofs.Common.{◌≡◌, ℕ, List, [], ◌∷◌, ◌++◌, length, take, get_or, sym, ap, subst, ◌∙◌, arith}
 use Rattle.std.proofs.lemmas.List.{take_all, take_more}
 use Rattle.aggs.specs.Accs.{AccsFit, acc_joins, acc_kind, acc_of, acc_room, acc_together, kind_of}
 use Rattle.aggs.specs.declared.acc.Acc.{Acc}
@@ -18,11 +18,6 @@ module _ {H : Type 0} (k : Kind) (xs : List Cell) (a : Acc H) (is : a ≡ acc_of
       ∙ ap (λ (b : Acc H). acc_together b (acc_of (kind_of b) (c ∷ []))) is
       ∙ ap (λ l. acc_together (acc_of {H = H} k xs) (acc_of l (c ∷ []))) (acc_kind H k xs)
       ∙ sym (acc_joins k xs (c ∷ []))
-
-  pub can_join : (ys : List Cell) (b : Acc H) → b ≡ acc_of k ys → length xs < 1000 → length ys < 1000 → AccsFit a b
-  can_join ys b other few less = subst (λ (x : Acc H). AccsFit x b) (sym is)
-      (subst (λ (y : Acc H). AccsFit (acc_of k xs) y) (sym other)
-      (acc_room H k xs ys (omega arith)))
 
 module _ {H : Type 0} (k : Kind) (xs : List Cell) (i : ℕ) where
   -- the first so many of the cells, and the cell behind them

@@ -11,7 +11,6 @@ const TURNS: u64 = 10_000_000;
 /// Two threads meet where the one at place 0, which waits, saw the one at another place come.
 #[derive(Drop)]
 pub struct Meeting {
-    waits: AtomicU64,
     came: AtomicU64,
     met: AtomicU64,
 }
@@ -19,7 +18,6 @@ pub struct Meeting {
 impl Meeting {
     fn new() -> Meeting {
         Meeting {
-            waits: AtomicU64::new(0),
             came: AtomicU64::new(0),
             met: AtomicU64::new(0),
         }
@@ -27,11 +25,6 @@ impl Meeting {
 
     pub fn is_over(&self) -> bool {
         self.met.load(SeqCst) == 1
-    }
-
-    /// Whether one came to place 0 and saw no other come.
-    pub fn was_missed(&self) -> bool {
-        self.waits.load(SeqCst) == 1 && !self.is_over()
     }
 
     fn at(&self, place: u64, other: u64) {
@@ -44,7 +37,6 @@ impl Meeting {
     }
 
     fn wait(&self) {
-        self.waits.store(1, SeqCst);
         for _ in 0..TURNS {
             if self.came.load(SeqCst) == 1 {
                 self.met.store(1, SeqCst);

@@ -10,8 +10,6 @@ use std::sync::Wait;
 
 mod places;
 mod stress;
-mod threads;
-mod untold;
 
 /// The key of the row that an edition is the first to have: a number of five digits.
 const FIRST_KEY: u64 = 10_000;

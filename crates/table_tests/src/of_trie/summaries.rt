@@ -22,20 +22,31 @@ impl Summary<Cell, Cell> for Mark {
 type Marks = Summed<Cell, Cell, Mark>;
 
 /// Whether a mark is found beside the piece, and how often one was made.
-fn found<R: Wait>(rt: &R, piece: &Piece<Cell, Cell, Plain, Marks>) -> (bool, u64) {
+fn found<R: Wait>(
+    rt: &R,
+    piece: &Piece<Cell, Cell, Plain, Marks>,
+) -> (Result<(), AllocError>, u64) {
     let calls = AtomicU64::new(0);
     let made = &calls;
     let mark = piece.summary_or_make(rt, move || -> Option<Mark> {
         made.fetch_add(1, SeqCst);
         Some(Mark)
     });
-    let is_there = mark.is_some();
+    let found = if mark.is_some() {
+        Ok(())
+    } else {
+        Err(AllocError)
+    };
     drop(mark);
-    (is_there, calls.load(SeqCst))
+    (found, calls.load(SeqCst))
 }
 
 /// The same beside all entries of a map of so many integers.
-fn found_beside_all<R: Wait>(rt: &R, alloc: Global, len: u64) -> Result<(bool, u64), AllocError> {
+fn found_beside_all<R: Wait>(
+    rt: &R,
+    alloc: Global,
+    len: u64,
+) -> Result<(Result<(), AllocError>, u64), AllocError> {
     let mut pairs = Vec::new(alloc);
     for key in 0..len {
         pairs.push((Cell::Int(key.cast_signed()), Cell::Null))?;
@@ -49,19 +60,17 @@ fn found_beside_all<R: Wait>(rt: &R, alloc: Global, len: u64) -> Result<(bool, u
     }
 }
 
-/// Numbers of entries, and whether there is a place beside them.
-const PLACES: [(u64, bool); 4] = [
-    (LEAST_SUMMED - 1, false),
-    (LEAST_SUMMED, true),
-    (MOST_SUMMED, true),
-    (MOST_SUMMED + 1, false),
-];
-
+/// Enough entries have a place, and too few and too many have none.
 #[test]
 fn some_numbers_of_entries_have_a_place(rt: HostRuntime) -> Result<(), Fail> {
-    for (len, is_place) in &PLACES {
-        let found = found_beside_all(&rt, rt.alloc(), *len)?;
-        assert_eq!(rt; found, (*is_place, u64::from(*is_place)));
+    for len in [LEAST_SUMMED, MOST_SUMMED] {
+        let (mark, made) = found_beside_all(&rt, rt.alloc(), len)?;
+        mark?;
+        assert_eq!(rt; made, 1);
+    }
+    for len in [LEAST_SUMMED - 1, MOST_SUMMED + 1] {
+        let found = found_beside_all(&rt, rt.alloc(), len)?;
+        assert_eq!(rt; found, (Err(AllocError), 0));
     }
     Ok(())
 }

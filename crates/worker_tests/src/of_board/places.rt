@@ -1,11 +1,11 @@
-//! Places of viewers, and what viewers see that are told, or whose keeper has ended.
+//! Places of viewers, and what viewers see that are told.
 
 ghost use Rattle.std.specs.Prelude.{◌≡◌, ◌≤◌, IfOk};
 ghost use Rattle.board.specs.Editions.{board};
 ghost use Rattle.board.specs.Limits.{place_limit};
 
-use crate::of_board::{keeper_of, number_of, publish, seen_by};
-use board::{Keeper, MAX_PLACES, Snapshot, Told, Viewer};
+use crate::of_board::{keeper_of, publish, seen_by};
+use board::{Keeper, MAX_PLACES, Told, Viewer};
 use cells::{Plain, Refused};
 use std::alloc::Global;
 use std::process::Abort;
@@ -71,43 +71,6 @@ fn are_places(rt: &impl Wait, alloc: Global, places: u64) -> Result<bool, Refuse
 fn there_are_as_many_viewers_as_places(rt: HostRuntime) -> Result<(), Fail> {
     assert!(rt; are_places(&rt, rt.alloc(), 1)?);
     assert!(rt; are_places(&rt, rt.alloc(), MAX_PLACES)?);
-    Ok(())
-}
-
-/// A viewer's snapshot, behind which an edition is published.
-fn taken_before(
-    rt: &impl Wait,
-    alloc: Global,
-    keeper: &mut Keeper<Plain>,
-    viewer: &mut Viewer<Plain>,
-) -> Result<Snapshot<Plain>, Refused> {
-    let snapshot = viewer.snapshot()?;
-    publish(rt, alloc, keeper)?;
-    Ok(snapshot)
-}
-
-/// A snapshot of edition 1, and one taken once the keeper had ended, of which nothing is left.
-fn left_behind(
-    rt: &impl Wait,
-    alloc: Global,
-) -> Result<(Snapshot<Plain>, Snapshot<Plain>), Refused> {
-    let mut keeper = keeper_of(alloc, 1)?;
-    publish(rt, alloc, &mut keeper)?;
-    let mut viewer = keeper.viewer()?;
-    let first = taken_before(rt, alloc, &mut keeper, &mut viewer);
-    keeper.close();
-    let last = viewer.snapshot();
-    drop(viewer);
-    Ok((first?, last?))
-}
-
-#[test]
-fn snapshots_outlive_their_keeper_and_viewers(rt: HostRuntime) -> Result<(), Fail> {
-    let (first, last) = left_behind(&rt, rt.alloc())?;
-    let numbers = (number_of(&first), number_of(&last));
-    drop(first);
-    drop(last);
-    assert_eq!(rt; numbers, (Some(1), Some(2)));
     Ok(())
 }
 

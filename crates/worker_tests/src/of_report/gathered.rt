@@ -5,13 +5,13 @@ ghost use Rattle.aggs.specs.Room.{cell_limit};
 ghost use Rattle.crew.specs.Gathering.{rows_in};
 ghost use Rattle.crew.specs.Limits.{piece_limit};
 
-use crate::of_report::answers::edition_of;
+use crate::of_report::answers::{edition_of, planned};
 use board::Snapshot;
 use cells::{Plain, Refused, Total};
 use columns::RowPiece;
 use crew::{Open, gather};
 use groups::Partial;
-use query::{Plan, check, read};
+use query::Plan;
 use std::alloc::{AllocError, Global};
 use std::sync::Wait;
 use std::test::Fail;
@@ -41,32 +41,29 @@ fn is_short(alloc: Global, piece: &RowPiece<Plain>) -> Result<bool, AllocError>
     Ok(piece.entries(alloc)?.len() <= 1)
 }
 
-/// The partial result of the pieces, if they are two of one row each at most, and so few enough.
+/// Whether the pieces are two of one row each at most, and so few enough, and the rows in them are counted and summed up.
 #[tactic(auto, using(crate::proofs::GatheredLemmas::are_few))]
-fn gathered_of_two<R: Threads + Wait + Sync>(
+fn are_two_and_three<R: Threads + Wait + Sync>(
     rt: &R,
     alloc: Global,
     plan: &Plan,
     pieces: &[RowPiece<Plain>],
-) -> Result<Option<Partial<Plain>>, Refused> {
+) -> Result<bool, Refused> {
     if pieces.len() != 2 {
-        return Ok(None);
+        return Ok(false);
     }
     if !is_short(alloc, &pieces[0])? {
-        return Ok(None);
+        return Ok(false);
     }
     if !is_short(alloc, &pieces[1])? {
-        return Ok(None);
+        return Ok(false);
     }
-    Ok(Some(gathered(rt, alloc, plan, pieces)?))
+    let partial = gathered(rt, alloc, plan, pieces)?;
+    is_two_and_three(alloc, plan, partial)
 }
 
 /// Whether the partial result has one group, whose values are 2 and 3.
-fn is_two_and_three(
-    alloc: Global,
-    plan: &Plan,
-    partial: Partial<Plain>,
-) -> Result<bool, AllocError> {
+fn is_two_and_three(alloc: Global, plan: &Plan, partial: Partial<Plain>) -> Result<bool, Refused> {
     let rows = Partial::finish(alloc, plan, partial)?;
     Ok(match rows.as_slice() {
         [row] => matches!(row.totals.as_slice(), [Total::Int(2), Total::Int(3)]),
@@ -74,27 +71,42 @@ fn is_two_and_three(
     })
 }
 
-/// Whether the rows of keys 1 and 2 are counted and summed up, each of which is a piece.
+/// The same of the rows of an edition, each of which is a piece.
+fn are_counted_by<R: Threads + Wait + Sync>(
+    rt: &R,
+    alloc: Global,
+    plan: &Plan,
+    snapshot: &Snapshot<Plain>,
+) -> Result<bool, Refused> {
+    let cutting = Cutting { depth: 1, small: 0 };
+    let pieces = snapshot.root().rows().split(alloc, &cutting)?;
+    let are_counted = are_two_and_three(rt, alloc, plan, pieces.as_slice());
+    drop(pieces);
+    are_counted
+}
+
+/// The same of the query.
 fn are_counted<R: Threads + Wait + Sync>(
     rt: &R,
     alloc: Global,
     snapshot: &Snapshot<Plain>,
 ) -> Result<bool, Refused> {
-    let query = read(alloc, "SELECT COUNT(*), SUM(ID) FROM SALES")?;
-    let plan = check(alloc, query, snapshot.schema())?;
-    let cutting = Cutting { depth: 1, small: 0 };
-    let pieces = snapshot.root().rows().split(alloc, &cutting)?;
-    let made = gathered_of_two(rt, alloc, &plan, pieces.as_slice())?;
-    let Some(partial) = made else {
-        return Ok(false);
-    };
-    Ok(is_two_and_three(alloc, &plan, partial)?)
+    let plan = planned(
+        alloc,
+        snapshot.schema(),
+        "SELECT COUNT(*), SUM(ID) FROM SALES",
+    )?;
+    let are_counted = are_counted_by(rt, alloc, &plan, snapshot);
+    drop(plan);
+    are_counted
 }
 
 /// Run with each allocation, or each thread, refused in turn, too: what is gathered again gives what it would have given.
 #[test]
 fn pieces_are_gathered_behind_a_refusal(rt: HostRuntime) -> Result<(), Fail> {
     let edition = edition_of(&rt, rt.alloc(), &[b"1", b"2"])?;
-    assert!(rt; are_counted(&rt, rt.alloc(), &edition)?);
+    let are_counted = are_counted(&rt, rt.alloc(), &edition);
+    drop(edition);
+    assert!(rt; are_counted?);
     Ok(())
 }
