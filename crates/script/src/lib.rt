@@ -3,6 +3,7 @@
 //! run [`run_last`], or [`run_in`] in a manner of its choice. One that answers lines as they come holds a [`Session`].
 #![tactic(auto)]
 
+mod answer;
 mod block;
 mod classic_spelling;
 mod closing;
@@ -37,6 +38,7 @@ mod too_much;
 mod unstarted;
 mod viewing;
 
+pub use answer::Answer;
 pub use ended::Ended;
 pub use finish::Finish;
 pub use hash_choice::HashChoice;

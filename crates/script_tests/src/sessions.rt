@@ -1,7 +1,7 @@
 //! Sessions, whose lines are answered one by one.
 
 use crate::runs::CUTTING;
-use cells::Plain;
+use cells::{Plain, Refused, Total};
 use crew::Open;
 use forms::Form;
 use report::{Failing, Tape};
@@ -15,6 +15,8 @@ use std::thread::Threads;
 const TABLE: &[u8] = b"table T (K INT KEY)";
 
 const REPORT: &[u8] = b"report SELECT COUNT(*) FROM T";
+
+const COUNT: &str = "SELECT COUNT(*) FROM T";
 
 const UNKNOWN: &[u8] = b"publish now";
 
@@ -33,7 +35,7 @@ fn is_answered<R: Threads + Wait + Sync>(
         return Ok(false);
     }
     if session.line(REPORT, out)? != Heard::Accepted
-        || out.bytes() != b"line 2 edition 0\nCOUNT(*)\n0\n"
+        || out.bytes() != b"line 2 edition 0\nCOUNT(*)\n0\n".as_slice()
     {
         return Ok(false);
     }
@@ -48,6 +50,42 @@ fn lines_are_answered_one_by_one(rt: HostRuntime) -> Result<(), Fail> {
         out.bytes(),
         b"line 2 edition 0\nCOUNT(*)\n0\nline 3 refused 3\n".as_slice()
     );
+    Ok(())
+}
+
+/// Whether a query is answered by a row of one value over two rows that stand published, and others are refused.
+fn answers_values<R: Threads + Wait + Sync>(
+    rt: &R,
+    alloc: Global,
+    out: &mut Tape,
+) -> Result<bool, Refused>
+    requires { out.old.faults ≡ 0 }
+{
+    let how = How::of(1, CUTTING, 3);
+    let manner = Manner::of(alloc, Form::Classic);
+    let mut session = Session::<Plain, _, _>::new(rt, alloc, &[], &how, &manner, &Open);
+    if session.report(COUNT).is_ok() {
+        return Ok(false);
+    }
+    for line in [TABLE, b"put 1", b"put 2", b"publish", b"put 3"] {
+        session.line(line, out)?;
+    }
+    let answer = session.report(COUNT)?;
+    let headings = answer.headings();
+    if headings.len() != 1 || headings[0].as_str() != "COUNT(*)" {
+        return Ok(false);
+    }
+    let [row] = answer.rows() else {
+        return Ok(false);
+    };
+    Ok(matches!(row.totals.as_slice(), [Total::Int(2)]))
+}
+
+#[test]
+fn a_query_is_answered_by_values(rt: HostRuntime) -> Result<(), Fail> {
+    let mut out = Tape::new(rt.alloc(), 1000, 1000, None)?;
+    assert!(rt; answers_values(&rt, rt.alloc(), &mut out)?);
+    assert_eq!(rt; out.bytes(), b"".as_slice());
     Ok(())
 }
 
