@@ -13,6 +13,7 @@ pub mod Limits
 pub mod Listings
 pub mod Manners
 pub mod Output
+pub mod Parameters
 pub mod Refusals
 pub mod Says
 pub mod Sessions

@@ -5,7 +5,7 @@ use Rattle.board.specs.Editions.{Editions}
 use Rattle.cells.specs.Values.{Table}
 use Rattle.cells.specs.declared.cell.Cell.{Cell}
 use Rattle.cells.specs.declared.refused.Refused.{Refused as Fault}
-use Rattle.cells.specs.declared.refused.Refused.TheVariants.{Limit, NoTable}
+use Rattle.cells.specs.declared.refused.Refused.TheVariants.{Limit, NoTable, QuerySyntax}
 use Rattle.script.specs.Desks.{IsBehind}
 use Rattle.script.specs.Givens.{Givens}
 use Rattle.script.specs.Limits.{script_limit}
@@ -55,6 +55,11 @@ pub data SaysAfter (givens : Givens) (before : List (List ℕ)) (query : List �
 -- what a session answers: what the query says; or a want
 abbrev pub AnswersAfter : Givens → List (List ℕ) → List ℕ → Result Answer Fault → Type 0
 AnswersAfter givens before query result = MatchResult result (λ values. SaysAfter givens before query (Ok values)) (λ e. IsWant e ⊎ SaysAfter givens before query (Err e))
+
+-- the same of a query whose parameters are filled so: it is bad syntax where they can't be
+abbrev pub AnswersFilled : Givens → List (List ℕ) → Option (List ℕ) → Result Answer Fault → Type 0
+AnswersFilled givens before None result = MatchResult result (λ values. ⊥) (λ e. IsWant e ⊎ (e ≡ QuerySyntax))
+AnswersFilled givens before (Some query) result = AnswersAfter givens before query result
 
 -- the bytes are the replies to these lines, one after another
 pub data AreReplies (hash : Cell → ℕ) (givens : Givens) : List (List ℕ) → List ℕ → Type 0 where

@@ -24,6 +24,7 @@ mod listing;
 mod load_line;
 mod manner;
 mod on_refusal;
+mod parameters;
 mod refusal_name;
 mod reporting;
 mod running;

@@ -3,7 +3,8 @@ ghost use Rattle.std.specs.Prelude.{◌≡◌, ◌+◌, ◌<◌, ◌^◌, ℕ, L
 ghost use Rattle.script.specs.Endings.{Ends, HasWorkers, refusal_named};
 ghost use Rattle.script.specs.Givens.{givens_in};
 ghost use Rattle.script.specs.Output.{deed_behind};
-ghost use Rattle.script.specs.Sessions.{AnswersAfter, Hearing, IsRefusedAfter, IsReply, counted, ended_by, unheard, was_refused, with_line};
+ghost use Rattle.script.specs.Parameters.{filled};
+ghost use Rattle.script.specs.Sessions.{AnswersAfter, AnswersFilled, Hearing, IsRefusedAfter, IsReply, counted, ended_by, unheard, was_refused, with_line};
 ghost use Rattle.script.specs.Stops.{Tells};
 
 use crate::answer::Answer;
@@ -12,6 +13,7 @@ use crate::heard::Heard;
 use crate::how::How;
 use crate::manner::Manner;
 use crate::on_refusal::OnRefusal;
+use crate::parameters::filled;
 use crate::setup::SpeltSetup;
 use crate::standing::Standing;
 use cells::{Cell, KeyHash, Refused, Tuple};
@@ -38,7 +40,7 @@ pub struct Session<'a, H: KeyHash<Cell>, R, G: Gate> {
 impl<'a, H: KeyHash<Cell>, R, G: Gate> Model for Session<'a, H, R, G> {
     ghost use Rattle.std.specs.Prelude.{◌≡◌, None, Some};
     ghost use Rattle.script.specs.Givens.{givens_in};
-    ghost use Rattle.script.specs.Sessions.{AnswersAfter, Hearing, StandsBehind};
+    ghost use Rattle.script.specs.Sessions.{AnswersAfter, AnswersFilled, Hearing, StandsBehind};
     ghost use Rattle.script.specs.declared.ended.Ended.TheVariants.{NotShown};
 
     ghost Value = { Hearing };
@@ -133,5 +135,23 @@ impl<
             return Err(Refused::from(why));
         }
         self.standing.report(&self.setup, query)
+    }
+
+    /// The same of a query with parameters. A parameter is a `?` outside of quotes; the literals of the cells stand in the places
+    /// of the parameters, in their order, each between blanks. So a text is a literal whatever is in it, and no part of the query.
+    ///
+    /// [`Refused::QuerySyntax`] where a cell is NULL, which no literal is, or where the cells are not as many as the parameters;
+    /// otherwise as [`report`](Session::report) of the query that is filled so, whose bytes the limit on a query counts.
+    pub fn report_with(&self, query: &str, cells: &[Cell]) -> Result<Answer, Refused>
+        ensures answers { self.now.ended ≡ None → AnswersFilled self.now.givens self.now.lines (filled cells.now query.now) result }
+        ensures over { IfSome self.now.ended (λ why. result ≡ Err (refusal_named why)) }
+    {
+        if let Some(why) = self.ended {
+            return Err(Refused::from(why));
+        }
+        let Some(text) = filled(self.setup.alloc, query, cells)? else {
+            return Err(Refused::QuerySyntax);
+        };
+        self.standing.report(&self.setup, text.as_str())
     }
 }
