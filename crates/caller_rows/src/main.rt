@@ -1,11 +1,12 @@
-//! A caller of the engine that wants values: a session takes lines, and queries are answered by rows.
+//! A caller of the engine that wants values: a session takes lines, and a query with a parameter is answered by rows.
 #![tactic(auto)]
 
-ghost use Rattle.std.specs.Prelude.{◌≡◌, IfOk, None, codes};
+ghost use Rattle.std.specs.Prelude.{◌≡◌, ◌∷◌, [], IfOk, None, codes};
 ghost use Rattle.cells.specs.Hashes.{fnv_hash};
-ghost use Rattle.script.specs.Sessions.{AnswersAfter, IsReply};
+ghost use Rattle.script.specs.Parameters.{filled};
+ghost use Rattle.script.specs.Sessions.{AnswersFilled, IsReply};
 
-use cells::{Fnv, Refused, Total};
+use cells::{Cell, Fnv, Refused, Total};
 use crew::Open;
 use forms::Form;
 use report::Pour;
@@ -28,11 +29,15 @@ fn reply<R: Threads + Wait + Sync>(
     Ok(out.into_inner())
 }
 
-/// The units that each region sold, as they stand published.
-fn units<R: Threads + Wait + Sync>(session: &Session<'_, Fnv, R, Open>) -> Result<Answer, Refused>
-    ensures { session.now.ended ≡ None → AnswersAfter session.now.givens session.now.lines (codes "SELECT REGION, SUM(UNITS) FROM SALES GROUP BY REGION") result }
+/// The units of the sales with more units than these, region by region, as they stand published.
+fn units<R: Threads + Wait + Sync>(
+    session: &Session<'_, Fnv, R, Open>,
+    least: i64,
+) -> Result<Answer, Refused>
+    ensures { session.now.ended ≡ None → AnswersFilled session.now.givens session.now.lines (filled (Cell.Int least ∷ []) (codes "SELECT REGION, SUM(UNITS) FROM SALES WHERE UNITS > ? GROUP BY REGION")) result }
 {
-    session.report("SELECT REGION, SUM(UNITS) FROM SALES GROUP BY REGION")
+    let query = "SELECT REGION, SUM(UNITS) FROM SALES WHERE UNITS > ? GROUP BY REGION";
+    session.report_with(query, &[Cell::Int(least)])
 }
 
 /// Hears the lines of standard input, and prints the replies, and then the rows of the units.
@@ -44,7 +49,7 @@ fn main(rt: HostRuntime) -> Result<(), anyhow::Error> {
         let text = String::from_utf8(reply(&mut session, rt.alloc(), line?.as_bytes())?)?;
         print!(rt; "{text}")?;
     }
-    let answer = units(&session)?;
+    let answer = units(&session, 5)?;
     for row in answer.rows() {
         for value in row.totals.as_slice() {
             show(&rt, value)?;

@@ -27,15 +27,7 @@ fn output_of<R: Threads + Wait + Sync>(
     ensures { IfOk result (λ bytes. IsOutput fnv_hash (givens default_settings.rows parts.now) script.now bytes.items) }
 {
     let mut out = Pour::new(Vec::new(alloc));
-    run::<Fnv, _, _, _>(
-        rt,
-        alloc,
-        script,
-        parts,
-        &How::default(),
-        &Open,
-        &mut out,
-    )?;
+    run::<Fnv, _, _, _>(rt, alloc, script, parts, &How::default(), &Open, &mut out)?;
     Ok(out.into_inner())
 }
 

@@ -130,7 +130,7 @@ is_want want.Memory = inl refl
 is_want want.Worker = inr refl
 
 -- a plan that the text means, over an edition
-pub gives_values : {manner : Manner} {t : Table} {edition : Rows} {text : List ℕ} (plan : PlanTree) → MeansPlan t text plan → (r : Result Answer Refused) →
+pub gives_values : (manner : Manner) (t : Table) (edition : Rows) (text : List ℕ) (plan : PlanTree) → MeansPlan t text plan → (r : Result Answer Refused) →
     MatchResult r (IsShown manner edition plan) IsWant → GivesValues manner t edition text r
-gives_values plan means (Ok values) shown = record { plan = plan; means = means; shown = shown }
-gives_values plan means (Err e) wanting = inl wanting
+gives_values manner t edition text plan means (Ok values) shown = record { plan = plan; means = means; shown = shown }
+gives_values manner t edition text plan means (Err e) wanting = inl wanting

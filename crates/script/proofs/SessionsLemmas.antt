@@ -153,17 +153,17 @@ unheard_reply hash givens before line text desk number next stands h next_is is 
 
 -- ---- a query that is answered as values
 
-pub answers_untabled : {givens : Givens} {before : Lines} {query : List ℕ} {number : ℕ} → StandsBehind givens before None number → AnswersAfter givens before query (Err NoTable)
-answers_untabled stands = inr (no_table stands.behind)
+module _ (givens : Givens) (before : Lines) (query : List ℕ) (number : ℕ) where
+  pub answers_untabled : StandsBehind givens before None number → AnswersAfter givens before query (Err NoTable)
+  answers_untabled stands = inr (no_table stands.behind)
 
-pub answers_table : {givens : Givens} {before : Lines} {query : List ℕ} {number : ℕ} (k : Editions) → StandsBehind givens before (Some k) number → (r : Result Answer Fault) →
-    GivesValues givens.manner (keeper.schema k) (keeper.published k) query r → AnswersAfter givens before query r
-answers_table {givens = givens} {before = before} {query = query} k stands (Ok values) said =
-    let rs = published givens (counted before) in
-    subst (λ v. SaysAfter givens before query (Ok v)) (sym (said.shown.is rs (left_published givens (counted before)) stands.behind.published)) (answered stands.behind.schema (said.means rs))
-answers_table k stands (Err e) (inl wanting) = inl wanting
-answers_table k stands (Err e) (inr (inl memory)) = inl (inl memory)
-answers_table {givens = givens} {before = before} k stands (Err e) (inr (inr says)) = inr (faulty stands.behind.schema (says (published givens (counted before))))
+  pub answers_table : (k : Editions) → StandsBehind givens before (Some k) number → (r : Result Answer Fault) → GivesValues givens.manner (keeper.schema k) (keeper.published k) query r → AnswersAfter givens before query r
+  answers_table k stands (Ok values) said =
+      let rs = published givens (counted before) in
+      subst (λ v. SaysAfter givens before query (Ok v)) (sym (said.shown.is rs (left_published givens (counted before)) stands.behind.published)) (answered stands.behind.schema (said.means rs))
+  answers_table k stands (Err e) (inl wanting) = inl wanting
+  answers_table k stands (Err e) (inr (inl memory)) = inl (inl memory)
+  answers_table k stands (Err e) (inr (inr says)) = inr (faulty stands.behind.schema (says (published givens (counted before))))
 
 -- ---- how a reply ends
 

@@ -5,13 +5,13 @@ use Rattle.cells.specs.TotalOrder.{cell_total}
 use Rattle.cells.specs.declared.cell.Cell.{Cell}
 use Rattle.cells.specs.declared.cell.Cell.TheVariants.{Int, Null, Text}
 
--- whether a quote is open behind a byte, and behind several
+-- whether what follows a byte is in quotes, and what follows several
 abbrev pub turned : Bool → ℕ → Bool
-turned open b = if b == 39 then not open else open
+turned quoted b = if b == 39 then not quoted else quoted
 
-abbrev pub is_open : Bool → List ℕ → Bool
-is_open open [] = open
-is_open open (b ∷ bs) = is_open (turned open b) bs
+abbrev pub is_quoted : Bool → List ℕ → Bool
+is_quoted quoted [] = quoted
+is_quoted quoted (b ∷ bs) = is_quoted (turned quoted b) bs
 
 -- the literal of a cell, between blanks; NULL has none
 abbrev pub literal_text : Cell → Option (List ℕ)
@@ -32,16 +32,16 @@ at_end (cell ∷ cells) = None
 
 -- the text in which the literals of the cells stand for its parameters, in their order: of each cell one
 abbrev pub filled_from : Bool → List Cell → List ℕ → Option (List ℕ)
-filled_from open cells [] = at_end cells
-filled_from open cells (b ∷ bs) =
-    if b == 63 then option_and_then (λ x. option_map (λ more. x.0 ++ more) (filled_from open x.1 bs)) (at_mark open cells)
-    else option_map (λ more. b ∷ more) (filled_from (turned open b) cells bs)
+filled_from quoted cells [] = at_end cells
+filled_from quoted cells (b ∷ bs) =
+    if b == 63 then option_and_then (λ x. option_map (λ more. x.0 ++ more) (filled_from quoted x.1 bs)) (at_mark quoted cells)
+    else option_map (λ more. b ∷ more) (filled_from (turned quoted b) cells bs)
 
 abbrev pub filled : List Cell → List ℕ → Option (List ℕ)
 filled cells text = filled_from false cells text
 
 -- what stands for a `?` was written behind a text, and these cells are left
-pub record PutsMark (open : Bool) (cells : List Cell) (old new : List ℕ) (left : List Cell) : Type 0 where
+pub record PutsMark (quoted : Bool) (cells : List Cell) (old new : List ℕ) (left : List Cell) : Type 0 where
   pub text : List ℕ
-  pub stands : at_mark open cells ≡ Some (text, left)
+  pub stands : at_mark quoted cells ≡ Some (text, left)
   pub behind : new ≡ old ++ text

@@ -1,7 +1,7 @@
 //! The parameters of a query: `?` in the places of literals.
 ghost use Rattle.std.specs.Prelude.{◌≡◌, ◌∷◌, ◌++◌, [], IfErr, IfOk, MatchOption, None, option_map, string_bytes};
 ghost use Rattle.cells.specs.Literals.{literal_of};
-ghost use Rattle.script.specs.Parameters.{PutsMark, at_mark, filled, is_open, literal_text, turned};
+ghost use Rattle.script.specs.Parameters.{PutsMark, at_mark, filled, is_quoted, literal_text, turned};
 
 use cells::{Cell, Refused, Total, literal};
 use std::alloc::Global;
@@ -15,11 +15,11 @@ pub fn filled(alloc: Global, query: &str, cells: &[Cell]) -> Result<Option<Strin
     let mut full = String::new(alloc);
     let mut rest = query;
     let mut left = cells;
-    let mut open = false;
+    let mut quoted = false;
     while let Some((part, behind)) = rest.split_once('?') {
         full.push_str(part)?;
-        open = is_open(open, part);
-        let Some(more) = push_mark(alloc, &mut full, open, left)? else {
+        quoted = is_quoted(quoted, part.as_bytes());
+        let Some(more) = push_mark(alloc, &mut full, quoted, left)? else {
             return Ok(None);
         };
         left = more;
@@ -32,35 +32,35 @@ pub fn filled(alloc: Global, query: &str, cells: &[Cell]) -> Result<Option<Strin
     Ok(None)
 }
 
-/// Whether a quote is open behind the part, where it was or was not before it.
-fn is_open(open: bool, part: &str) -> bool
-    ensures { result ≡ is_open open part.now }
+/// Whether what follows the part is in quotes, where the part itself begins in them or not.
+fn is_quoted(quoted: bool, part: &[u8]) -> bool
+    ensures { result ≡ is_quoted quoted part.now }
 {
-    let mut open = open;
-    for byte in part.as_bytes() {
-        open = turned(open, *byte);
+    let mut inside = quoted;
+    for byte in part {
+        inside = turned(inside, *byte);
     }
-    open
+    inside
 }
 
-/// Whether a quote is open behind the byte.
-fn turned(open: bool, byte: u8) -> bool
-    ensures { result ≡ turned open byte }
+/// Whether what follows the byte is in quotes.
+fn turned(quoted: bool, byte: u8) -> bool
+    ensures { result ≡ turned quoted byte }
 {
-    if byte == b'\'' { !open } else { open }
+    if byte == b'\'' { !quoted } else { quoted }
 }
 
 /// Writes what stands for a `?`, and gives the cells that are left: none where there is no literal for it.
 fn push_mark<'c>(
     alloc: Global,
     full: &mut String,
-    open: bool,
+    quoted: bool,
     cells: &'c [Cell],
 ) -> Result<Option<&'c [Cell]>, Refused>
-    ensures left { IfOk result (λ left. MatchOption left (at_mark open cells.now ≡ None) (λ more. PutsMark open cells.now (string_bytes full.old) (string_bytes full.new) more.now)) }
+    ensures left { IfOk result (λ left. MatchOption left (at_mark quoted cells.now ≡ None) (λ more. PutsMark quoted cells.now (string_bytes full.old) (string_bytes full.new) more.now)) }
     ensures refused { IfErr result (λ e. e ≡ Refused.OutOfMemory) }
 {
-    if open {
+    if quoted {
         full.push_str("?")?;
         return Ok(Some(cells));
     }

@@ -51,11 +51,7 @@ pub fn report_values<
     H: KeyHash<Cell> + KeyHash<Tuple> + Send + Sync,
     G: Gate,
     R: Threads + Wait + Sync,
->(
-    setup: &SpeltSetup<'_, R, G>,
-    keeper: &Keeper<H>,
-    text: &str,
-) -> Result<Answer, Refused>
+>(setup: &SpeltSetup<'_, R, G>, keeper: &Keeper<H>, text: &str) -> Result<Answer, Refused>
     ensures { GivesValues setup.now.manner.now (editions.schema keeper.now) (editions.published keeper.now) text.now result }
 {
     let plan = read_plan(setup.alloc, text, keeper.schema())?;
@@ -63,11 +59,7 @@ pub fn report_values<
 }
 
 /// The values of the plan's report over the last published edition. Only a want is refused.
-fn plan_values<
-    H: KeyHash<Cell> + KeyHash<Tuple> + Send + Sync,
-    G: Gate,
-    R: Threads + Wait + Sync,
->(
+fn plan_values<H: KeyHash<Cell> + KeyHash<Tuple> + Send + Sync, G: Gate, R: Threads + Wait + Sync>(
     setup: &SpeltSetup<'_, R, G>,
     keeper: &Keeper<H>,
     plan: Plan,
@@ -83,11 +75,7 @@ fn snapshot_values<
     H: KeyHash<Cell> + KeyHash<Tuple> + Send + Sync,
     G: Gate,
     R: Threads + Wait + Sync,
->(
-    setup: &SpeltSetup<'_, R, G>,
-    snapshot: &Snapshot<H>,
-    plan: Plan,
-) -> Result<Answer, Refused>
+>(setup: &SpeltSetup<'_, R, G>, snapshot: &Snapshot<H>, plan: Plan) -> Result<Answer, Refused>
     ensures { MatchResult result (IsShown setup.now.manner.now snapshot.now.rows plan) IsWant }
 {
     let rows = setup

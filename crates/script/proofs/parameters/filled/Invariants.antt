@@ -10,7 +10,7 @@ use Rattle.script.proofs.parameters.filled.Given as goal
 abbrev pub invariant-loop-part : goal.invariant-loop-part
 invariant-loop-part l = record {
   text : shadow (Utf8 l.rest);
-  same : before (string_bytes l.full) (filled_from l.open l.left l.rest) ≡ filled l.fn.cells l.fn.query;
+  same : before (string_bytes l.full) (filled_from l.quoted l.left l.rest) ≡ filled l.fn.cells l.fn.query;
 }
 
 abbrev pub decreases-loop-part : goal.decreases-loop-part
