@@ -21,4 +21,5 @@ pub mod Spelling
 pub mod Statements
 pub mod Stops
 pub mod Tails
+pub mod ValueLines
 pub mod Viewers

@@ -37,6 +37,7 @@ mod statement;
 mod step;
 mod too_much;
 mod unstarted;
+mod value_lines;
 mod viewing;
 
 pub use answer::Answer;
@@ -58,4 +59,5 @@ pub use on_refusal::OnRefusal;
 pub use running::{live, run, run_by, run_in, run_last};
 pub use session::Session;
 pub use setup::Setup;
+pub use value_lines::{delete_line, put_line};
 pub use viewing::Viewing;
