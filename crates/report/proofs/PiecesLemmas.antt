@@ -4,7 +4,7 @@ use Rattle.std.specs.FinMap.{entries, len, values}
 use Rattle.std.specs.List.{AllByRecursion, flat_map}
 use Rattle.std.specs.List.Sorted.{IsPermutation}
 use Rattle.std.proofs.lemmas.List.{length-append, length-map, map-append}
-use Rattle.std.proofs.lemmas.List.Sorted.{IsPermutation-map, IsPermutation-sym, IsPermutation-trans, length_permutation}
+use Rattle.std.proofs.lemmas.List.Sorted.{IsPermutation-map, IsPermutation-sym, IsPermutation-trans}
 use Rattle.board.specs.Editions.{IsListOf}
 use Rattle.cells.specs.CellOrder.{cell_cmp}
 use Rattle.cells.specs.Laws.{len_left}

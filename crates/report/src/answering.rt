@@ -6,7 +6,7 @@ ghost use Rattle.crew.specs.Gathering.{rows_in};
 ghost use Rattle.crew.specs.Limits.{piece_limit};
 ghost use Rattle.groups.specs.Groups.{report_rows};
 ghost use Rattle.report.specs.Reports.{classic, question_of};
-ghost use Rattle.report.specs.Standing.{AreRowsFor};
+ghost use Rattle.report.specs.Standing.{AreRowsFor, AreShown};
 ghost use Rattle.report.specs.Waiting.{IsReportText};
 
 use crate::arranging::{Arrangement, arrange};
@@ -117,21 +117,60 @@ impl<'a, R: Threads + Wait + Sync, G: Gate> Answering<'a, R, G> {
     ) -> Result<Vec<u8>, Want>
         ensures { IfOk result (λ text. IsReportText snapshot.now.rows (question_of form plan.now arrangement.now) text.items) }
     {
-        // These do nothing: the order of rows does not count, and a list of an edition's rows has those of its map.
-        any_order::<H>();
-        a_map_has_its_entries::<Cell, Row>();
-        let mut rows = self.rows(snapshot, plan)?;
-        let headings = plan.headings();
-        arrange(self.alloc, arrangement, headings, &mut rows)?;
-        let groups = rows.len() as u64;
-        let text = text_in(self.alloc, form, headings, rows)?;
-        self.gate
-            .reported(line, snapshot.edition(), snapshot.root().len(), groups);
+        let rows = self.arranged(snapshot, plan, arrangement)?;
+        let groups = rows.len();
+        let text = text_in(self.alloc, form, plan.headings(), rows)?;
+        self.tell(line, snapshot, groups);
         Ok(text)
     }
 
+    /// The rows of the plan's report over those of the snapshot, so arranged, for a caller that wants values. The gate is told
+    /// of the pieces, and of the report as of the line 0.
+    ///
+    /// [`Want::Worker`] where a thread could not be started; otherwise [`Want::Memory`] where a growth was refused, here or
+    /// for a worker.
+    pub fn rows<H: KeyHash<Cell> + KeyHash<Tuple> + Send + Sync>(
+        &self,
+        snapshot: &Snapshot<H>,
+        plan: &Plan,
+        arrangement: &Arrangement,
+    ) -> Result<Vec<ReportRow>, Want>
+        ensures { IfOk result (λ v. AreShown snapshot.now.rows plan.now arrangement.now v.items) }
+    {
+        let rows = self.arranged(snapshot, plan, arrangement)?;
+        self.tell(0, snapshot, rows.len());
+        Ok(rows)
+    }
+
+    /// Tells the gate of the report of a line, which has so many groups.
+    fn tell<H: KeyHash<Cell>>(&self, line: u64, snapshot: &Snapshot<H>, groups: usize) {
+        self.gate.reported(
+            line,
+            snapshot.edition(),
+            snapshot.root().len(),
+            groups as u64,
+        );
+    }
+
+    /// The same rows, of which the gate is told nothing but their pieces.
+    fn arranged<H: KeyHash<Cell> + KeyHash<Tuple> + Send + Sync>(
+        &self,
+        snapshot: &Snapshot<H>,
+        plan: &Plan,
+        arrangement: &Arrangement,
+    ) -> Result<Vec<ReportRow>, Want>
+        ensures { IfOk result (λ v. AreShown snapshot.now.rows plan.now arrangement.now v.items) }
+    {
+        // These do nothing: the order of rows does not count, and a list of an edition's rows has those of its map.
+        any_order::<H>();
+        a_map_has_its_entries::<Cell, Row>();
+        let mut rows = self.unarranged(snapshot, plan)?;
+        arrange(self.alloc, arrangement, plan.headings(), &mut rows)?;
+        Ok(rows)
+    }
+
     /// The rows of the plan's report over those of the snapshot, by the columns of the pieces that its rows are cut into.
-    fn rows<H: KeyHash<Cell> + KeyHash<Tuple> + Send + Sync>(
+    fn unarranged<H: KeyHash<Cell> + KeyHash<Tuple> + Send + Sync>(
         &self,
         snapshot: &Snapshot<H>,
         plan: &Plan,

@@ -5,6 +5,7 @@ pub mod EndingsLemmas
 pub mod GalleryLemmas
 pub mod LinesLemmas
 pub mod ListingsLemmas
+pub mod ParametersLemmas
 pub mod ProgressLemmas
 pub mod RefusalsLemmas
 pub mod SaysLemmas

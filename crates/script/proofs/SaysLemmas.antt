@@ -1,8 +1,9 @@
 -- Over a table's rows each text says one thing.
 use Rattle.std.proofs.Common.{◌≡◌, ◌⊎◌, ℕ, false, true, Option, Some, None, Result, Ok, Err, List, inl, inr, refl, sym, ap, subst, ◌∙◌}
-use Rattle.std.specs.Prelude.{Vec}
+use Rattle.std.specs.Prelude.{MatchResult, Vec}
 use Rattle.std.specs.declared.alloc.Global.{Global}
 use Rattle.cells.specs.Refusals.{Reads}
+use Rattle.cells.specs.Tables.{Rows}
 use Rattle.cells.specs.Values.{RowValue, Table}
 use Rattle.cells.specs.declared.refused.Refused.{Refused}
 use Rattle.cells.specs.declared.refused.Refused.TheVariants.{OutOfMemory}
@@ -10,7 +11,10 @@ use Rattle.board.specs.Editions.{Editions}
 use Rattle.board.specs.Editions as keeper
 use Rattle.script.specs.Blocks.{WillReport, WillReportPlan}
 use Rattle.script.specs.Output.{IsReport, report}
-use Rattle.script.specs.Says.{Answer, GivesPlan, IsRefused, MeansPlan, Says, answer, answer_of, no_plan, no_query}
+use Rattle.report.specs.Wants.{refusal_of}
+use Rattle.report.specs.declared.want.Want.{Want}
+use Rattle.report.specs.declared.want.Want.TheVariants as want
+use Rattle.script.specs.Says.{Answer, GivesPlan, GivesValues, IsRefused, IsShown, IsWant, MeansPlan, Says, Values, answer, answer_of, no_plan, no_query}
 use Rattle.script.specs.Spelling.{refusal}
 use Rattle.script.specs.declared.block.Block.{Block}
 use Rattle.script.specs.declared.block.Block.TheVariants.{Refusal}
@@ -117,3 +121,16 @@ answers_plan {manner = manner} law k number query plan block asks answers = reco
     tells = subst (λ b. Tells b (AsksWrongly (keeper.schema k) rs query)) (sym answers.accepted) (never_wrong law (asks rs));
   };
 }
+
+-- ---- what is answered as values
+
+-- what a report wanted is a want
+pub is_want : (wanted : Want) → IsWant (refusal_of wanted)
+is_want want.Memory = inl refl
+is_want want.Worker = inr refl
+
+-- a plan that the text means, over an edition
+pub gives_values : (manner : Manner) (t : Table) (edition : Rows) (text : List ℕ) (plan : PlanTree) → MeansPlan t text plan → (r : Result Values Refused) →
+    MatchResult r (IsShown manner edition plan) IsWant → GivesValues manner t edition text r
+gives_values manner t edition text plan means (Ok values) shown = record { plan = plan; means = means; shown = shown }
+gives_values manner t edition text plan means (Err e) wanting = inl wanting

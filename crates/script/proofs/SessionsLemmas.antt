@@ -6,8 +6,10 @@ use Rattle.std.specs.List.{AllByRecursion}
 use Rattle.std.specs.Prelude.{◌&&◌, min, nat_lt, not}
 use Rattle.std.specs.Str.Lines.{lines}
 use Rattle.board.specs.Editions.{Editions}
+use Rattle.board.specs.Editions as keeper
 use Rattle.cells.specs.declared.cell.Cell.{Cell}
-use Rattle.cells.specs.declared.refused.Refused.TheVariants.{Limit}
+use Rattle.cells.specs.declared.refused.Refused.{Refused as Fault}
+use Rattle.cells.specs.declared.refused.Refused.TheVariants.{Limit, NoTable}
 use Rattle.report.specs.Laws.{takes_nothing}
 use Rattle.report.specs.Waiting.{WritesAll}
 use Rattle.report.specs.declared.unwritten.Unwritten.{Unwritten}
@@ -20,8 +22,9 @@ use Rattle.script.specs.Endings.{BeginsToWrite, Ends, HasWorkers, ended_for, end
 use Rattle.script.specs.Deeds.{deed}
 use Rattle.script.specs.Givens.{Givens}
 use Rattle.script.specs.Limits.{part_limit, script_limit}
-use Rattle.script.specs.Output.{AreBlocks, IsBlock, IsOutput, deed_behind, line_first, no_line, of_lines}
-use Rattle.script.specs.Sessions.{AreReplies, IsRefusedAfter, IsReply, StandsBehind, counted, heard, is_heard, line_limit, next_number, not_heard, refused_heard, refused_unheard}
+use Rattle.script.specs.Output.{AreBlocks, IsBlock, IsOutput, deed_behind, line_first, no_line, of_lines, published}
+use Rattle.script.specs.Says.{GivesValues, Values}
+use Rattle.script.specs.Sessions.{AnswersAfter, AreReplies, IsRefusedAfter, IsReply, SaysAfter, StandsBehind, answered, counted, faulty, no_table, heard, is_heard, line_limit, next_number, not_heard, refused_heard, refused_unheard}
 use Rattle.script.specs.Sessions.{last_line as last_reply, no_line as no_reply}
 use Rattle.script.specs.Spelling.{refusal}
 use Rattle.script.specs.Stops.{IsRefusedLine, Tells}
@@ -32,7 +35,7 @@ use Rattle.script.proofs.BlocksLemmas.{reversed_onto, some_answer}
 use Rattle.script.proofs.EndingsLemmas.{ends_for, ends_unwritten}
 use Rattle.script.proofs.ProgressLemmas.{delivers_whole, edition-le, length-lines, narrow_lines}
 use Rattle.script.proofs.SaysLemmas.{EachAnswered}
-use Rattle.script.proofs.StepsLemmas.{does_so, executes_nothing}
+use Rattle.script.proofs.StepsLemmas.{does_so, executes_nothing, left_published}
 
 abbrev Lines : Type 0
 Lines = List (List ℕ)
@@ -147,6 +150,20 @@ pub unheard_reply : (hash : Cell → ℕ) (givens : Givens) (before : Lines) (li
     text ≡ refusal givens.manner.form next (Line Limit) → IsReply hash givens before line text
 unheard_reply hash givens before line text desk number next stands h next_is is =
     not_heard h (is ∙ ap (λ n. refusal givens.manner.form n (Line Limit)) (let same : next ≡ next_number before = omega (arith, next_is, stands.number_is) in same))
+
+-- ---- a query that is answered as values
+
+module _ (givens : Givens) (before : Lines) (query : List ℕ) (number : ℕ) where
+  pub answers_untabled : StandsBehind givens before None number → AnswersAfter givens before query (Err NoTable)
+  answers_untabled stands = inr (no_table stands.behind)
+
+  pub answers_table : (k : Editions) → StandsBehind givens before (Some k) number → (r : Result Values Fault) → GivesValues givens.manner (keeper.schema k) (keeper.published k) query r → AnswersAfter givens before query r
+  answers_table k stands (Ok values) said =
+      let rs = published givens (counted before) in
+      subst (λ v. SaysAfter givens before query (Ok v)) (sym (said.shown.is rs (left_published givens (counted before)) stands.behind.published)) (answered stands.behind.schema (said.means rs))
+  answers_table k stands (Err e) (inl wanting) = inl wanting
+  answers_table k stands (Err e) (inr (inl memory)) = inl (inl memory)
+  answers_table k stands (Err e) (inr (inr says)) = inr (faulty stands.behind.schema (says (published givens (counted before))))
 
 -- ---- how a reply ends
 

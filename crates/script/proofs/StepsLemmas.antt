@@ -123,7 +123,7 @@ executes_refused hash givens line number desk fault bytes does text =
     executes_quiet hash givens line number desk (Err fault) bytes does (λ earlier. refl) (λ us. refl) refl (λ before stands n. text ∙ ap (λ m. refusal givens.manner.form m fault) n)
 
 -- some updates left the published rows
-left_published : (givens : Givens) (before : Lines) → AreLeft (published givens before)
+pub left_published : (givens : Givens) (before : Lines) → AreLeft (published givens before)
 left_published givens [] = record { updates = []; is = refl }
 left_published givens (line ∷ before) = either (is_publish (deed (declared givens before) line)) (left_published givens before) where
   either : (b : Bool) → AreLeft (published givens before) → AreLeft (cond b (rows (updates givens before)) (published givens before))

@@ -3,6 +3,7 @@ use Rattle.std.specs.Prelude.{◌≡◌, ◌<◌, ℕ, List, ◌∷◌, ◌++◌
 use Rattle.std.specs.Io.KnownBytes.{Appends}
 use Rattle.cells.specs.Refusals.{number_of}
 use Rattle.cells.specs.Values.{Table}
+use Rattle.cells.specs.declared.refused.Refused.{Refused}
 use Rattle.cells.specs.declared.refused.Refused.TheVariants as refused
 use Rattle.loader.specs.declared.fault.PartFault.{PartFault}
 use Rattle.loader.specs.declared.fault.PartFault.TheVariants as part
@@ -20,12 +21,16 @@ use Rattle.script.specs.declared.fault.Fault.{Fault}
 use Rattle.script.specs.declared.unstarted.Unstarted.{Unstarted}
 use Rattle.script.specs.declared.unstarted.Unstarted.TheVariants as unstarted
 
+-- the refusals of the names of early ends
+abbrev pub refusal_named : Ended → Refused
+refusal_named OutOfMemory = refused.OutOfMemory
+refusal_named NoWorker = refused.NoWorker
+refusal_named WriteFailed = refused.WriteFailed
+refusal_named NotShown = refused.NotShown
+
 -- the numbers of a run that ended early: those of the refusals of the same names
 abbrev pub ending_number : Ended → ℕ
-ending_number OutOfMemory = number_of refused.OutOfMemory
-ending_number NoWorker = number_of refused.NoWorker
-ending_number WriteFailed = number_of refused.WriteFailed
-ending_number NotShown = number_of refused.NotShown
+ending_number why = number_of (refusal_named why)
 
 -- the end of a run that wanted this
 abbrev pub ended_for : Want → Ended

@@ -13,6 +13,7 @@ pub mod Limits
 pub mod Listings
 pub mod Manners
 pub mod Output
+pub mod Parameters
 pub mod Refusals
 pub mod Says
 pub mod Sessions
@@ -20,4 +21,5 @@ pub mod Spelling
 pub mod Statements
 pub mod Stops
 pub mod Tails
+pub mod ValueLines
 pub mod Viewers

@@ -1,13 +1,16 @@
 -- A session: one table that is open while lines come, each of which is answered before the next one is heard. The lines
 -- before a line stand with the last one first.
-use Rattle.std.specs.Prelude.{◌≡◌, ◌+◌, ◌-◌, ◌^◌, ◌&&◌, ℕ, Bool, true, false, List, [], ◌∷◌, ◌++◌, length, min, nat_lt, not, if◌then◌else◌, Option, Some, None}
+use Rattle.std.specs.Prelude.{◌≡◌, ◌⊎◌, ◌+◌, ◌-◌, ◌^◌, ◌&&◌, ℕ, Bool, true, false, List, [], ◌∷◌, ◌++◌, length, min, nat_lt, not, if◌then◌else◌, Option, Some, None, Result, Ok, Err, MatchResult}
 use Rattle.board.specs.Editions.{Editions}
+use Rattle.cells.specs.Values.{Table}
 use Rattle.cells.specs.declared.cell.Cell.{Cell}
-use Rattle.cells.specs.declared.refused.Refused.TheVariants.{Limit}
+use Rattle.cells.specs.declared.refused.Refused.{Refused as Fault}
+use Rattle.cells.specs.declared.refused.Refused.TheVariants.{Limit, NoTable, QuerySyntax}
 use Rattle.script.specs.Desks.{IsBehind}
 use Rattle.script.specs.Givens.{Givens}
 use Rattle.script.specs.Limits.{script_limit}
-use Rattle.script.specs.Output.{IsBlock}
+use Rattle.script.specs.Output.{IsBlock, declared, published}
+use Rattle.script.specs.Says.{Answer, IsWant, Says, Values, shown}
 use Rattle.script.specs.Spelling.{refusal}
 use Rattle.script.specs.Stops.{IsRefusedLine}
 use Rattle.script.specs.declared.ended.Ended.{Ended}
@@ -41,6 +44,22 @@ pub data IsReply (hash : Cell → ℕ) (givens : Givens) (before : List (List �
 pub data IsRefusedAfter (givens : Givens) (before : List (List ℕ)) (line : List ℕ) : Type 0 where
   refused_heard : is_heard before line ≡ true → IsRefusedLine givens (counted before) line → IsRefusedAfter givens before line
   refused_unheard : is_heard before line ≡ false → IsRefusedAfter givens before line
+
+-- what a query says after these lines, as it is told: that no table is declared yet, or its first fault for the table, or its
+-- answer over the rows that stand published
+pub data SaysAfter (givens : Givens) (before : List (List ℕ)) (query : List ℕ) : Result Values Fault → Type 0 where
+  no_table : declared givens (counted before) ≡ None → SaysAfter givens before query (Err NoTable)
+  faulty : {t : Table} {fault : Fault} → declared givens (counted before) ≡ Some t → Says t (published givens (counted before)) query (Err fault) → SaysAfter givens before query (Err fault)
+  answered : {t : Table} {said : Answer} → declared givens (counted before) ≡ Some t → Says t (published givens (counted before)) query (Ok said) → SaysAfter givens before query (Ok (shown givens.manner said))
+
+-- what a session answers: what the query says; or a want
+abbrev pub AnswersAfter : Givens → List (List ℕ) → List ℕ → Result Values Fault → Type 0
+AnswersAfter givens before query result = MatchResult result (λ values. SaysAfter givens before query (Ok values)) (λ e. IsWant e ⊎ SaysAfter givens before query (Err e))
+
+-- the same of a query whose parameters are filled so: it is bad syntax where they can't be
+abbrev pub AnswersFilled : Givens → List (List ℕ) → Option (List ℕ) → Result Values Fault → Type 0
+AnswersFilled givens before None result = MatchResult result (λ values. ⊥) (λ e. IsWant e ⊎ (e ≡ QuerySyntax))
+AnswersFilled givens before (Some query) result = AnswersAfter givens before query result
 
 -- the bytes are the replies to these lines, one after another
 pub data AreReplies (hash : Cell → ℕ) (givens : Givens) : List (List ℕ) → List ℕ → Type 0 where

@@ -1,9 +1,10 @@
 //! Why a run ended early.
 ghost use Rattle.std.specs.Prelude.{◌≡◌};
-ghost use Rattle.script.specs.Endings.{ended_for, ended_unstarted, ended_unwritten, ending_number};
+ghost use Rattle.script.specs.Endings.{ended_for, ended_unstarted, ended_unwritten, ending_number, refusal_named};
 ghost use Rattle.report.specs.declared.want.Want.TheVariants.{Memory};
 
 use crate::unstarted::Unstarted;
+use cells::Refused;
 use report::{Unwritten, Want};
 use std::alloc::AllocError;
 
@@ -30,6 +31,20 @@ impl Ended {
             Ended::NoWorker => 91,
             Ended::WriteFailed => 92,
             Ended::NotShown => 93,
+        }
+    }
+}
+
+impl From<Ended> for Refused {
+    ghost from_gives = { λ why refused. refused ≡ refusal_named why };
+
+    /// The refusal of the same name and number.
+    fn from(why: Ended) -> Refused {
+        match why {
+            Ended::OutOfMemory => Refused::OutOfMemory,
+            Ended::NoWorker => Refused::NoWorker,
+            Ended::WriteFailed => Refused::WriteFailed,
+            Ended::NotShown => Refused::NotShown,
         }
     }
 }

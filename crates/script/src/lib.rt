@@ -3,6 +3,7 @@
 //! run [`run_in`], in a manner of its choice. One that answers lines as they come holds a [`Session`].
 #![tactic(auto)]
 
+mod answer;
 mod block;
 mod classic_spelling;
 mod closing;
@@ -24,6 +25,7 @@ mod load_line;
 mod manner;
 mod on_refusal;
 mod owned;
+mod parameters;
 mod refusal_name;
 mod reporting;
 mod running;
@@ -36,8 +38,10 @@ mod statement;
 mod step;
 mod too_much;
 mod unstarted;
+mod value_lines;
 mod viewing;
 
+pub use answer::Answer;
 pub use ended::Ended;
 pub use finish::Finish;
 pub use hash_choice::HashChoice;
@@ -56,4 +60,5 @@ pub use on_refusal::OnRefusal;
 pub use running::{live, run, run_by, run_in};
 pub use session::Session;
 pub use setup::Setup;
+pub use value_lines::{delete_line, put_line};
 pub use viewing::Viewing;

@@ -1,19 +1,22 @@
 //! The reports of a run: what a text asks is read and checked at its line, over the edition that stands published there.
-ghost use Rattle.std.specs.Prelude.{◌≡◌, IfOk};
+ghost use Rattle.std.specs.Prelude.{◌≡◌, IfOk, MatchResult};
 ghost use Rattle.board.specs.Editions as editions;
 ghost use Rattle.script.specs.Blocks.{WillReport, WillReportPlan};
-ghost use Rattle.script.specs.Says.{GivesPlan};
+ghost use Rattle.script.specs.Says.{GivesPlan, GivesValues, IsShown, IsWant};
 
+use crate::answer::Answer;
 use crate::block::{Asked, Block, refuse, report_opening};
 use crate::fault::Fault;
 use crate::manner::Manner;
 use crate::owned::beside;
 use crate::setup::SpeltSetup;
 use board::{Keeper, Snapshot};
-use cells::{Cell, KeyHash, Refused, Schema};
+use cells::{Cell, KeyHash, Refused, Schema, Tuple};
 use crew::Gate;
 use query::{Plan, a_text_has_one_answer, check, read};
 use std::alloc::{AllocError, Global};
+use std::sync::Wait;
+use std::thread::Threads;
 
 /// The block of a report of the last published edition: what the text asks of that edition, or its first fault.
 pub fn execute_report<H: KeyHash<Cell>, G: Gate, R>(
@@ -42,6 +45,44 @@ pub fn read_plan(alloc: Global, text: &str, schema: &Schema) -> Result<Plan, Ref
 {
     let query = read(alloc, text)?;
     check(alloc, query, schema)
+}
+
+/// What the text asks of the last published edition, as values, or its first fault.
+pub fn report_values<
+    H: KeyHash<Cell> + KeyHash<Tuple> + Send + Sync,
+    G: Gate,
+    R: Threads + Wait + Sync,
+>(setup: &SpeltSetup<'_, R, G>, keeper: &Keeper<H>, text: &str) -> Result<Answer, Refused>
+    ensures { GivesValues setup.now.manner.now (editions.schema keeper.now) (editions.published keeper.now) text.now result }
+{
+    let plan = read_plan(setup.alloc, text, keeper.schema())?;
+    plan_values(setup, keeper, plan)
+}
+
+/// The values of the plan's report over the last published edition. Only a want is refused.
+fn plan_values<H: KeyHash<Cell> + KeyHash<Tuple> + Send + Sync, G: Gate, R: Threads + Wait + Sync>(
+    setup: &SpeltSetup<'_, R, G>,
+    keeper: &Keeper<H>,
+    plan: Plan,
+) -> Result<Answer, Refused>
+    ensures { MatchResult result (IsShown setup.now.manner.now (editions.published keeper.now) plan) IsWant }
+{
+    let snapshot = keeper.snapshot()?;
+    snapshot_values(setup, &snapshot, plan)
+}
+
+/// The same over the snapshot's edition.
+fn snapshot_values<
+    H: KeyHash<Cell> + KeyHash<Tuple> + Send + Sync,
+    G: Gate,
+    R: Threads + Wait + Sync,
+>(setup: &SpeltSetup<'_, R, G>, snapshot: &Snapshot<H>, plan: Plan) -> Result<Answer, Refused>
+    ensures { MatchResult result (IsShown setup.now.manner.now snapshot.now.rows plan) IsWant }
+{
+    let rows = setup
+        .answering()
+        .rows(snapshot, &plan, &setup.manner.arrangement)?;
+    Ok(Answer { plan, rows })
 }
 
 /// A snapshot of the last published edition, with the plan whose report of it is the block.

@@ -1,19 +1,22 @@
 //! A session: one table that is open while lines come, of which each is answered before the next one is heard.
 ghost use Rattle.std.specs.Prelude.{◌≡◌, ◌+◌, ◌<◌, ◌^◌, ℕ, List, None, IfErr, IfOk, IfSome, IsErrOf, OnErr, OnOk, Err};
-ghost use Rattle.script.specs.Endings.{Ends, HasWorkers};
+ghost use Rattle.script.specs.Endings.{Ends, HasWorkers, refusal_named};
 ghost use Rattle.script.specs.Givens.{givens_in};
 ghost use Rattle.script.specs.Output.{deed_behind};
-ghost use Rattle.script.specs.Sessions.{Hearing, IsRefusedAfter, IsReply, counted, ended_by, unheard, was_refused, with_line};
+ghost use Rattle.script.specs.Parameters.{filled};
+ghost use Rattle.script.specs.Sessions.{AnswersAfter, AnswersFilled, Hearing, IsRefusedAfter, IsReply, counted, ended_by, unheard, was_refused, with_line};
 ghost use Rattle.script.specs.Stops.{Tells};
 
+use crate::answer::Answer;
 use crate::ended::Ended;
 use crate::heard::Heard;
 use crate::how::How;
 use crate::manner::Manner;
 use crate::on_refusal::OnRefusal;
+use crate::parameters::filled;
 use crate::setup::SpeltSetup;
 use crate::standing::Standing;
-use cells::{Cell, KeyHash, Tuple};
+use cells::{Cell, KeyHash, Refused, Tuple};
 use crew::Gate;
 use report::Out;
 use std::alloc::Global;
@@ -37,7 +40,7 @@ pub struct Session<'a, H: KeyHash<Cell>, R, G: Gate> {
 impl<'a, H: KeyHash<Cell>, R, G: Gate> Model for Session<'a, H, R, G> {
     ghost use Rattle.std.specs.Prelude.{◌≡◌, None, Some};
     ghost use Rattle.script.specs.Givens.{givens_in};
-    ghost use Rattle.script.specs.Sessions.{Hearing, StandsBehind};
+    ghost use Rattle.script.specs.Sessions.{AnswersAfter, AnswersFilled, Hearing, StandsBehind};
     ghost use Rattle.script.specs.declared.ended.Ended.TheVariants.{NotShown};
 
     ghost Value = { Hearing };
@@ -115,5 +118,41 @@ impl<
                 Err(why)
             }
         }
+    }
+
+    /// What a query answers over the rows that stand published, as values: the headings and the rows of the reply to a
+    /// `report` line of that query, arranged as the session's manner says. It is no line: the session stays as it is, and lines
+    /// count as if it had not been asked. The gate is told of the report as of the line 0. The rows are owned, so later lines do
+    /// not change them. They are values in each form: the marks of a table's subtotals are no part of them.
+    ///
+    /// It is refused as that line is: [`Refused::NoTable`] where no table is declared yet, else the first fault of the query,
+    /// which has a number from 10 to 15. [`Refused::OutOfMemory`] where a growth was refused, and [`Refused::NoWorker`] where the
+    /// thread of a worker could not be started: neither ends the session. One that is over gives the refusal of its end's name.
+    pub fn report(&self, query: &str) -> Result<Answer, Refused>
+        ensures answers { self.now.ended ≡ None → AnswersAfter self.now.givens self.now.lines query.now result }
+        ensures over { IfSome self.now.ended (λ why. result ≡ Err (refusal_named why)) }
+    {
+        if let Some(why) = self.ended {
+            return Err(Refused::from(why));
+        }
+        self.standing.report(&self.setup, query)
+    }
+
+    /// The same of a query with parameters. A parameter is a `?` outside of quotes; the literals of the cells stand in the places
+    /// of the parameters, in their order, each between blanks. So a text is a literal whatever is in it, and no part of the query.
+    ///
+    /// [`Refused::QuerySyntax`] where a cell is NULL, which no literal is, or where the cells are not as many as the parameters;
+    /// otherwise as [`report`](Session::report) of the query that is filled so, whose bytes the limit on a query counts.
+    pub fn report_with(&self, query: &str, cells: &[Cell]) -> Result<Answer, Refused>
+        ensures answers { self.now.ended ≡ None → AnswersFilled self.now.givens self.now.lines (filled cells.now query.now) result }
+        ensures over { IfSome self.now.ended (λ why. result ≡ Err (refusal_named why)) }
+    {
+        if let Some(why) = self.ended {
+            return Err(Refused::from(why));
+        }
+        let Some(text) = filled(self.setup.alloc, query, cells)? else {
+            return Err(Refused::QuerySyntax);
+        };
+        self.standing.report(&self.setup, text.as_str())
     }
 }

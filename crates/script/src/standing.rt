@@ -7,14 +7,16 @@ ghost use Rattle.script.specs.Blocks.{IsAsked, WillBe, is_refused};
 ghost use Rattle.script.specs.Endings.{Ends, HasWorkers};
 ghost use Rattle.script.specs.Givens.{givens_in};
 ghost use Rattle.script.specs.Output.{deed_behind};
-ghost use Rattle.script.specs.Sessions.{IsRefusedAfter, IsReply, StandsBehind, counted, is_heard, line_limit, was_refused};
+ghost use Rattle.script.specs.Sessions.{AnswersAfter, IsRefusedAfter, IsReply, StandsBehind, counted, is_heard, line_limit, was_refused};
 ghost use Rattle.script.specs.Stops.{Tells};
 
+use crate::answer::Answer;
 use crate::block::{Asked, Block, refuse};
 use crate::ended::Ended;
 use crate::fault::Fault;
 use crate::heard::Heard;
 use crate::limits::MAX_SCRIPT_BYTES;
+use crate::reporting::report_values;
 use crate::setup::SpeltSetup;
 use crate::step::{Line, execute};
 use board::Keeper;
@@ -107,7 +109,22 @@ impl<H: KeyHash<Cell> + KeyHash<Tuple> + Send + Sync> Standing<H> {
         self.pass_over(setup, line, out)
     }
 
-    /// The same of a line that is heard.
+    /// What the query answers over the rows that stand published, as values.
+    pub(crate) fn report<G: Gate, R: Threads + Wait + Sync>(
+        &self,
+        setup: &SpeltSetup<'_, R, G>,
+        query: &str,
+    ) -> Result<Answer, Refused>
+        requires { StandsBehind (givens_in setup.now.manner.now setup.now.how.now.rows setup.now.parts.now) self.now.lines.items self.now.desk self.now.number }
+        ensures { AnswersAfter (givens_in setup.now.manner.now setup.now.how.now.rows setup.now.parts.now) self.now.lines.items query.now result }
+    {
+        let Some(keeper) = &self.desk else {
+            return Err(Refused::NoTable);
+        };
+        report_values(setup, keeper, query)
+    }
+
+    /// The reply to a line that is heard.
     fn hear<O: Out, G: Gate, R: Threads + Wait + Sync>(
         &mut self,
         setup: &SpeltSetup<'_, R, G>,

@@ -1,0 +1,71 @@
+//! A caller of the engine that wants values: a session takes lines, and a query with a parameter is answered by rows.
+#![tactic(auto)]
+
+ghost use Rattle.std.specs.Prelude.{◌≡◌, ◌∷◌, [], IfOk, None, codes};
+ghost use Rattle.cells.specs.Hashes.{fnv_hash};
+ghost use Rattle.script.specs.Parameters.{filled};
+ghost use Rattle.script.specs.Sessions.{AnswersFilled, IsReply};
+
+use cells::{Cell, Fnv, Refused, Total};
+use crew::Open;
+use forms::Form;
+use report::Pour;
+use script::{Answer, How, Manner, Session};
+use std::alloc::Global;
+use std::io;
+use std::sync::Wait;
+use std::thread::Threads;
+
+/// The reply of the session to a line.
+fn reply<R: Threads + Wait + Sync>(
+    session: &mut Session<'_, Fnv, R, Open>,
+    alloc: Global,
+    line: &[u8],
+) -> Result<Vec<u8>, Refused>
+    ensures { session.old.ended ≡ None → IfOk result (λ bytes. IsReply fnv_hash session.old.givens session.old.lines line.now bytes.items) }
+{
+    let mut out = Pour::new(Vec::new(alloc));
+    session.line(line, &mut out)?;
+    Ok(out.into_inner())
+}
+
+/// The units of the sales with more units than these, region by region, as they stand published.
+fn units<R: Threads + Wait + Sync>(
+    session: &Session<'_, Fnv, R, Open>,
+    least: i64,
+) -> Result<Answer, Refused>
+    ensures { session.now.ended ≡ None → AnswersFilled session.now.givens session.now.lines (filled (Cell.Int least ∷ []) (codes "SELECT REGION, SUM(UNITS) FROM SALES WHERE UNITS > ? GROUP BY REGION")) result }
+{
+    let query = "SELECT REGION, SUM(UNITS) FROM SALES WHERE UNITS > ? GROUP BY REGION";
+    session.report_with(query, &[Cell::Int(least)])
+}
+
+/// Hears the lines of standard input, and prints the replies, and then the rows of the units.
+fn main(rt: HostRuntime) -> Result<(), anyhow::Error> {
+    let how = How::default();
+    let manner = Manner::of(rt.alloc(), Form::Classic);
+    let mut session = Session::<Fnv, _, _>::new(&rt, rt.alloc(), &[], &how, &manner, &Open);
+    for line in rt.lines(rt.alloc()) {
+        let text = String::from_utf8(reply(&mut session, rt.alloc(), line?.as_bytes())?)?;
+        print!(rt; "{text}")?;
+    }
+    let answer = units(&session, 5)?;
+    for row in answer.rows() {
+        for value in row.totals.as_slice() {
+            show(&rt, value)?;
+        }
+    }
+    Ok(())
+}
+
+/// Prints a value and its type.
+fn show(rt: &impl Print, value: &Total) -> io::Result<()> {
+    match value {
+        Total::Null => println!(rt; "null"),
+        Total::Int(number) => println!(rt; "integer {number}"),
+        Total::Text(text) => {
+            let text = text.as_str();
+            println!(rt; "text {text}")
+        }
+    }
+}
