@@ -6,18 +6,16 @@ ghost use Rattle.cells.specs.Hashes.{fnv_hash};
 ghost use Rattle.script.specs.Parameters.{filled};
 ghost use Rattle.script.specs.Sessions.{AnswersFilled, IsReply};
 
-use cells::{Cell, Fnv, Refused, Total};
+use cells::{Cell, Fnv, Refused};
 use crew::Open;
-use forms::Form;
 use report::Pour;
-use script::{Answer, How, Manner, Session};
+use script::{Answer, Session};
 use std::alloc::Global;
-use std::io;
 use std::sync::Wait;
 use std::thread::Threads;
 
 /// The reply of the session to a line.
-fn reply<R: Threads + Wait + Sync>(
+pub fn reply<R: Threads + Wait + Sync>(
     session: &mut Session<'_, Fnv, R, Open>,
     alloc: Global,
     line: &[u8],
@@ -30,7 +28,7 @@ fn reply<R: Threads + Wait + Sync>(
 }
 
 /// The units of the sales with more units than these, region by region, as they stand published.
-fn units<R: Threads + Wait + Sync>(
+pub fn units<R: Threads + Wait + Sync>(
     session: &Session<'_, Fnv, R, Open>,
     least: i64,
 ) -> Result<Answer, Refused>
@@ -38,34 +36,4 @@ fn units<R: Threads + Wait + Sync>(
 {
     let query = "SELECT REGION, SUM(UNITS) FROM SALES WHERE UNITS > ? GROUP BY REGION";
     session.report_with(query, &[Cell::Int(least)])
-}
-
-/// Hears the lines of standard input, and prints the replies, and then the rows of the units.
-fn main(rt: HostRuntime) -> Result<(), anyhow::Error> {
-    let how = How::default();
-    let manner = Manner::of(rt.alloc(), Form::Classic);
-    let mut session = Session::<Fnv, _, _>::new(&rt, rt.alloc(), &[], &how, &manner, &Open);
-    for line in rt.lines(rt.alloc()) {
-        let text = String::from_utf8(reply(&mut session, rt.alloc(), line?.as_bytes())?)?;
-        print!(rt; "{text}")?;
-    }
-    let answer = units(&session, 5)?;
-    for row in answer.rows() {
-        for value in row.totals.as_slice() {
-            show(&rt, value)?;
-        }
-    }
-    Ok(())
-}
-
-/// Prints a value and its type.
-fn show(rt: &impl Print, value: &Total) -> io::Result<()> {
-    match value {
-        Total::Null => println!(rt; "null"),
-        Total::Int(number) => println!(rt; "integer {number}"),
-        Total::Text(text) => {
-            let text = text.as_str();
-            println!(rt; "text {text}")
-        }
-    }
 }
