@@ -1,7 +1,7 @@
 //! A caller of the engine that wants values: a session takes lines, and a query with a parameter is answered by rows.
 #![tactic(auto)]
 
-ghost use Rattle.std.specs.Prelude.{◌≡◌, ◌∷◌, [], IfOk, None, codes};
+ghost use Rattle.std.specs.Prelude.{◌≡◌, ◌∷◌, [], IfOk, None};
 ghost use Rattle.cells.specs.Hashes.{fnv_hash};
 ghost use Rattle.script.specs.Parameters.{filled};
 ghost use Rattle.script.specs.Sessions.{AnswersFilled, IsReply};
@@ -27,13 +27,14 @@ pub fn reply<R: Threads + Wait + Sync>(
     Ok(out.into_inner())
 }
 
-/// The units of the sales with more units than these, region by region, as they stand published.
-pub fn units<R: Threads + Wait + Sync>(
+/// What a query with one parameter answers over the rows that stand published, where the parameter is this number: with
+/// `SELECT REGION, SUM(UNITS) FROM SALES WHERE UNITS > ? GROUP BY REGION` a row for each region.
+pub fn answer_for<R: Threads + Wait + Sync>(
     session: &Session<'_, Fnv, R, Open>,
-    least: i64,
+    query: &str,
+    number: i64,
 ) -> Result<Answer, Refused>
-    ensures { session.now.ended ≡ None → AnswersFilled session.now.givens session.now.lines (filled (Cell.Int least ∷ []) (codes "SELECT REGION, SUM(UNITS) FROM SALES WHERE UNITS > ? GROUP BY REGION")) result }
+    ensures { session.now.ended ≡ None → AnswersFilled session.now.givens session.now.lines (filled (Cell.Int number ∷ []) query.now) result }
 {
-    let query = "SELECT REGION, SUM(UNITS) FROM SALES WHERE UNITS > ? GROUP BY REGION";
-    session.report_with(query, &[Cell::Int(least)])
+    session.report_with(query, &[Cell::Int(number)])
 }
