@@ -3,7 +3,7 @@ pub mod BackLemmas
 pub mod CrossingLemmas
 pub mod GatheringLemmas
 pub mod HistoryLemmas
-pub mod LayingLemmas
+pub mod GatheredLemmas
 pub mod ListsLemmas
 pub mod PartsLemmas
 pub mod PlacesLemmas

@@ -12,14 +12,14 @@ use Rattle.std.proofs.lemmas.Simd.{pick_l-range_with_len}
 use Rattle.cells.specs.Values.{RowValue}
 use Rattle.columns.specs.Columns.{ColumnsValue, Hold}
 use Rattle.crew.specs.Gathering.{AreMadeOf, MayBeJoined, kept_at}
-use Rattle.crew.specs.Listing.{AreDealt, FoldsLists, Listed, MayGatherRows, rows_listed}
+use Rattle.crew.specs.Listing.{AreDealt, FoldsLists, Listed, rows_listed}
 use Rattle.crew.specs.Shares.{AreShared}
 use Rattle.crew.specs.Tasks.{MayTake}
 use Rattle.groups.specs.Dealing.{indexes_of}
 use Rattle.groups.specs.Folds.{Folds, MayJoin}
 use Rattle.groups.specs.Groups.{keeps, kept}
 use Rattle.groups.specs.Laws.{kept_short}
-use Rattle.groups.specs.Numbered.{HaveRows, no_row, picked_rows}
+use Rattle.groups.specs.Numbered.{HaveRows, HoldCount, no_row, picked_rows}
 use Rattle.groups.specs.declared.folding.Folding.{Folding}
 use Rattle.query.specs.Trees.{PredicateTree}
 use Rattle.query.specs.declared.test.Test.{Test}
@@ -64,7 +64,7 @@ module _ (count : ℕ) (lists : List (List ℕ)) (dealt : AreDealt count lists) 
       (All-from_recursion (λ i. i < count) (range_with_len 0 count) (all_weaker (λ i. i < 0 + count) (λ i. i < count) (λ i h. omega (arith, h)) (range_with_len 0 count) (below_range 0 count))))
 
   -- the columns hold the rows of a list
-  pub have_list : (columns : ColumnsValue) (it : MayGatherRows columns count) (place : ℕ) → HaveRows columns (get_or lists place [])
+  pub have_list : (columns : ColumnsValue) (it : HoldCount columns count) (place : ℕ) → HaveRows columns (get_or lists place [])
   have_list columns it place = record {
     rows = it.rows;
     held = it.held;
@@ -80,7 +80,7 @@ module _ (count : ℕ) (lists : List (List ℕ)) (dealt : AreDealt count lists) 
       (IsPermutation-map (λ i. get_or rows i no_row) (concat lists) (range_with_len 0 count) dealt.each)
 
 -- the same of a list that is lent
-pub lent_list : (columns : ColumnsValue) (count : ℕ) (lists : List (Vec ℕ Global)) (place : ℕ) (list : Vec ℕ Global) (lent : List ℕ) → MayGatherRows columns count → AreDealt count (indexes_of lists) →
+pub lent_list : (columns : ColumnsValue) (count : ℕ) (lists : List (Vec ℕ Global)) (place : ℕ) (list : Vec ℕ Global) (lent : List ℕ) → HoldCount columns count → AreDealt count (indexes_of lists) →
     place < length (indexes_of lists) → lent ≡ (get_or lists place list).items → HaveRows columns lent
 lent_list columns count lists place list lent it dealt h is =
     subst (HaveRows columns) (get_or-map (λ (list : Vec ℕ Global). list.items) lists place list [] (omega (arith, h, length-map lists (λ (list : Vec ℕ Global). list.items))) ∙ sym is)
@@ -120,7 +120,7 @@ module _ {H : Type 0} (listed : Listed) (dealt : AreDealt listed.count listed.li
   -- ---- one worker
 
   -- what went in so far may be joined with a list
-  pub list_meets : (before list : Folding H) (place : ℕ) (it : MayGatherRows listed.columns listed.count) → MayTake (FoldsLists listed) (length listed.lists) before place →
+  pub list_meets : (before list : Folding H) (place : ℕ) (it : HoldCount listed.columns listed.count) → MayTake (FoldsLists listed) (length listed.lists) before place →
       Folds listed.plan (kept listed.plan.condition (rows_listed listed.lists it.rows place)) list → MayJoin before list
   list_meets before list place it may_take folds =
       let all : List RowValue = picked_rows it.rows (concat listed.lists) in
@@ -175,7 +175,7 @@ module _ {H : Type 0} (listed : Listed) (dealt : AreDealt listed.count listed.li
         each = are.each;
       }
 
-  pub lists_may_be_joined : (it : MayGatherRows listed.columns listed.count) (foldings : List (Folding H)) →
+  pub lists_may_be_joined : (it : HoldCount listed.columns listed.count) (foldings : List (Folding H)) →
       AreShared (FoldsLists listed) (length listed.lists) foldings → MayBeJoined listed.plan foldings
   lists_may_be_joined it foldings shared = record {
     rows = kept listed.plan.condition it.rows;

@@ -61,7 +61,7 @@ module _ (part : ℕ → List RowValue) where
       (λ later. range_short count (from + 1) (place ∷ places) rising (omega arith, above) below)
 
   -- the rows of some places and of one more are no more than all
-  share_short : (count : ℕ) (places : List ℕ) (place : ℕ) → IsShare count (places ++ place ∷ []) →
+  pub share_short : (count : ℕ) (places : List ℕ) (place : ℕ) → IsShare count (places ++ place ∷ []) →
       length (flat_map part places) + length (part place) ≤ length (flat_map part (range_with_len 0 count))
   share_short count places place share =
       let short = range_short count 0 (places ++ place ∷ []) share.rising (all_of (λ n. 0 ≤ n) (λ n. omega arith) (places ++ place ∷ []))

@@ -1,7 +1,7 @@
 pub mod Draws
 pub mod Gathering
 pub mod Law
-pub mod Laying
+pub mod Gathered
 pub mod Limits
 pub mod Listing
 pub mod Seats

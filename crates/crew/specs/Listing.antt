@@ -1,5 +1,5 @@
 -- Rows whose columns are at hand, as workers share them: list by list.
-use Rattle.std.specs.Prelude.{◌≡◌, ℕ, ◌≤◌, ◌^◌, List, [], IsPermutation, length, max, min, slice_index_or}
+use Rattle.std.specs.Prelude.{◌≡◌, ℕ, ◌≤◌, List, [], IsPermutation, length, max, min, slice_index_or}
 use Rattle.std.specs.Int.{div_ceil}
 use Rattle.std.specs.List.{concat, range_with_len}
 use Rattle.cells.specs.Values.{RowValue}
@@ -31,13 +31,6 @@ pub record Listed : Type 0 where
   pub columns : ColumnsValue
   pub count : ℕ
   pub lists : List (List ℕ)
-
--- the columns hold so many rows, which are few enough
-pub record MayGatherRows (columns : ColumnsValue) (count : ℕ) : Type 0 where
-  pub rows : List RowValue
-  pub held : Hold rows columns
-  pub counted : length rows ≡ count
-  pub few : count ≤ 2 ^ 32
 
 -- whatever rows the columns hold, those of them for which WHERE is true went in from the lists at these places
 pub record FoldsLists {H : Type 0} (listed : Listed) (places : List ℕ) (made : Folding H) : Type 0 where

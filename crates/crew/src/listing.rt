@@ -4,13 +4,14 @@ ghost use Rattle.cells.specs.Values.{RowValue};
 ghost use Rattle.cells.specs.declared.refused.Refused.TheVariants as Refused;
 ghost use Rattle.columns.specs.Columns.{Hold};
 ghost use Rattle.crew.specs.Limits.{workers_of};
-ghost use Rattle.crew.specs.Listing.{AreDealt, FoldsLists, MayGatherRows, list_count, rows_listed};
+ghost use Rattle.crew.specs.Listing.{AreDealt, FoldsLists, list_count, rows_listed};
 ghost use Rattle.crew.specs.Shares.{AreShared};
 ghost use Rattle.crew.specs.Tasks.{MayTake};
 ghost use Rattle.groups.specs.Dealing.{indexes_of};
 ghost use Rattle.groups.specs.Folds.{Folds, MayEnd};
 ghost use Rattle.groups.specs.Groups.{kept};
 ghost use Rattle.groups.specs.Needed.{Serve};
+ghost use Rattle.groups.specs.Numbered.{HoldCount};
 
 use crate::gathering::joined;
 use crate::sharing::{share_out, workers_of};
@@ -47,7 +48,7 @@ pub fn gather_rows<'a, H: KeyHash<Cell> + KeyHash<Tuple> + Send + Sync, R: Threa
     count: u64,
     workers: u64,
 ) -> Result<Folding<'a, H>, Refused>
-    requires rows { MayGatherRows columns.now count }
+    requires rows { HoldCount columns.now count }
     requires serve { Serve plan.now columns.now }
     ensures folds { (rows : List RowValue) → Hold rows columns.now → length rows ≡ count →
         IfOk result (Folds plan.now (kept plan.now.condition rows)) }
@@ -71,7 +72,7 @@ fn gather_lists<'a, H: KeyHash<Cell> + KeyHash<Tuple> + Send + Sync, R: Threads 
     dealt: &Dealt,
     workers: u64,
 ) -> Result<Folding<'a, H>, Refused>
-    requires rows { MayGatherRows columns.now count }
+    requires rows { HoldCount columns.now count }
     requires serve { Serve plan.now columns.now }
     requires dealt { AreDealt count (indexes_of dealt.now.lists.items) }
     ensures folds { (rows : List RowValue) → Hold rows columns.now → length rows ≡ count →
@@ -135,9 +136,10 @@ struct Listing<'a, 'l, H: KeyHash<Cell>> {
 impl<'a, 'l, H: KeyHash<Cell>> Model for Listing<'a, 'l, H> {
     ghost use Rattle.std.specs.Coded.{codes};
     ghost use Rattle.cells.specs.Codes.{coded_cell};
-    ghost use Rattle.crew.specs.Listing.{AreDealt, Listed, MayGatherRows};
+    ghost use Rattle.crew.specs.Listing.{AreDealt, Listed};
     ghost use Rattle.groups.specs.Dealing.{indexes_of};
     ghost use Rattle.groups.specs.Needed.{Serve};
+    ghost use Rattle.groups.specs.Numbered.{HoldCount};
     ghost use Rattle.query.specs.Codes.{coded_predicate};
 
     ghost Value = { Listed };
@@ -146,14 +148,14 @@ impl<'a, 'l, H: KeyHash<Cell>> Model for Listing<'a, 'l, H> {
 
     ghost view = { λ l. record { plan = l.plan.now; columns = l.columns.now; count = l.count; lists = indexes_of l.lists.now } };
 
-    ghost invariant = { λ l. MayGatherRows l.columns.now l.count × AreDealt l.count (indexes_of l.lists.now) × Serve l.plan.now l.columns.now };
+    ghost invariant = { λ l. HoldCount l.columns.now l.count × AreDealt l.count (indexes_of l.lists.now) × Serve l.plan.now l.columns.now };
 }
 
 impl<'a, 'l, H: KeyHash<Cell> + KeyHash<Tuple>> Listing<'a, 'l, H> {
     /// It does nothing: that the columns hold so many rows, which are few enough, that each is in one of the lists, and that the
     /// columns are those that the plan needs, is known of each value.
     fn rows_are_few(&self)
-        ensures held { MayGatherRows self.now.columns self.now.count }
+        ensures held { HoldCount self.now.columns self.now.count }
         ensures dealt { AreDealt self.now.count self.now.lists }
         ensures serve { Serve self.now.plan self.now.columns }
     {

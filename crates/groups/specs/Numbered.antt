@@ -40,3 +40,10 @@ pub record HaveRows (columns : ColumnsValue) (indexes : List ℕ) : Type 0 where
   pub held : Hold rows columns
   pub within : AllByRecursion (λ i. i < length rows) indexes
   pub few : length indexes ≤ 2 ^ 32
+
+-- the columns hold so many rows, which are not too many
+pub record HoldCount (columns : ColumnsValue) (count : ℕ) : Type 0 where
+  pub rows : List RowValue
+  pub held : Hold rows columns
+  pub counted : length rows ≡ count
+  pub few : count ≤ 2 ^ 32

@@ -80,11 +80,7 @@ fn set_to_deal_by<'p>(
         return &[];
     };
     let set = finest.columns.as_slice();
-    let counts_different = plan
-        .items()
-        .iter()
-        .any(|item| matches!(item, Item::CountDistinct(_)));
-    let fewest = if counts_different {
+    let fewest = if counts_different(plan) {
         lists
     } else {
         count / ROWS_PER_GROUP
@@ -94,6 +90,24 @@ fn set_to_deal_by<'p>(
     } else {
         &[]
     }
+}
+
+/// Whether rows of these columns, of which there are so many, have few groups in each grouping set of the plan, as far as codes tell,
+/// and the plan counts no different cells: then it costs little to fold them apart from others. Nothing rests on it.
+pub fn has_few_groups(plan: &Plan, columns: &Columns, count: u64) -> bool {
+    let most = count as usize / ROWS_PER_GROUP;
+    !counts_different(plan)
+        && plan
+            .sets()
+            .iter()
+            .all(|set| most_tuples(columns, set.columns.as_slice()) <= most)
+}
+
+/// Whether the plan has a COUNT(DISTINCT). Nothing rests on it.
+fn counts_different(plan: &Plan) -> bool {
+    plan.items()
+        .iter()
+        .any(|item| matches!(item, Item::CountDistinct(_)))
 }
 
 /// The set that has all columns of each of the sets, if one has. Nothing rests on it.

@@ -7,7 +7,7 @@ ghost use Rattle.columns.specs.Columns.{Hold};
 ghost use Rattle.groups.specs.Folds.{group_count, Folds, MayEnd, MayJoin};
 ghost use Rattle.groups.specs.Groups.{kept, rows_over};
 ghost use Rattle.groups.specs.Needed.{Serve};
-ghost use Rattle.groups.specs.Numbered.{HaveRows, picked_rows};
+ghost use Rattle.groups.specs.Numbered.{HaveRows, HoldCount, picked_rows};
 ghost use Rattle.groups.specs.Partials.{Stands, rows_of};
 ghost use Rattle.query.specs.Plans.{PlanTree};
 
@@ -65,8 +65,24 @@ impl<'a, H: KeyHash<Cell> + KeyHash<Tuple>> Folding<'a, H> {
         ensures { IfOk result (Folds plan.now (kept plan.now.condition (rows_of piece.now))) }
     {
         let columns = columns_of_piece(alloc, plan, piece)?;
-        let rows = all_rows(alloc, piece.len())?;
-        Ok(Folding::of_rows(alloc, plan, &columns, rows.as_slice(), false)?)
+        Ok(Folding::of_columns(alloc, plan, &columns, piece.len())?)
+    }
+
+    /// The folding of those of all rows of the columns, of which there are so many, for which the plan's WHERE is true. The only
+    /// error is that a growth was refused.
+    pub fn of_columns(
+        alloc: Global,
+        plan: &'a Plan,
+        columns: &Columns,
+        count: u64,
+    ) -> Result<Folding<'a, H>, AllocError>
+        requires rows { HoldCount columns.now count }
+        requires serve { Serve plan.now columns.now }
+        ensures { (rows : List RowValue) → Hold rows columns.now → length rows ≡ count →
+            IfOk result (Folds plan.now (kept plan.now.condition rows)) }
+    {
+        let rows = all_rows(alloc, count)?;
+        Ok(Folding::of_rows(alloc, plan, columns, rows.as_slice(), false)?)
     }
 
     /// The folding of those rows for which the plan's WHERE is true, of the rows of these indexes, whose columns are at hand. The

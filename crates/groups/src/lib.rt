@@ -33,7 +33,7 @@ mod sources;
 mod tallying;
 mod tuples;
 
-pub use dealing::{Dealt, deal_out};
+pub use dealing::{Dealt, deal_out, has_few_groups};
 pub use folding::Folding;
 pub use laws::{any_order, having_by_names, worked_reports, worked_text};
 pub use needed::needed_columns;
