@@ -4,7 +4,7 @@ ghost use Rattle.aggs.specs.Room.{cell_limit};
 ghost use Rattle.cells.specs.declared.refused.Refused.TheVariants as Refused;
 ghost use Rattle.cells.specs.Values.{RowValue};
 ghost use Rattle.crew.specs.Gathered.{Gathers, MayAllMeet, MayFold};
-ghost use Rattle.crew.specs.Gathering.{AreMadeOf, MayBeJoined, rows_at, rows_in};
+ghost use Rattle.crew.specs.Gathering.{AreMadeOf, rows_at, rows_in};
 ghost use Rattle.crew.specs.Limits.{piece_limit, workers_of};
 ghost use Rattle.crew.specs.Shares.{AreShared};
 ghost use Rattle.groups.specs.Folds.{Folds, MayEnd};
@@ -241,25 +241,4 @@ impl<'a, 'p, H: KeyHash<Cell> + KeyHash<Tuple> + Send + Sync, G: Gate, R: Wait +
         }
         Ok(())
     }
-}
-
-/// The folding of rows for which the plan's WHERE is true, from the foldings of the workers who shared them, which are joined in
-/// their order.
-pub(crate) fn joined<'a, H: KeyHash<Cell> + KeyHash<Tuple>>(
-    alloc: Global,
-    plan: &'a Plan,
-    foldings: Vec<Folding<'a, H>>,
-) -> Result<Folding<'a, H>, AllocError>
-    requires { MayBeJoined plan.now foldings.items }
-    ensures folds { (rows : List RowValue) → AreMadeOf (Folds plan.now) rows foldings.entry.items →
-        IfOk result (Folds plan.now rows) }
-    ensures end { IfOk result MayEnd }
-{
-    // This does nothing: it is the law that the order of rows does not count.
-    any_order::<H>();
-    let mut all = Folding::new(alloc, plan)?;
-    for folding in foldings {
-        all = all.join(alloc, folding)?;
-    }
-    Ok(all)
 }

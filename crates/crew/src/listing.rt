@@ -3,6 +3,7 @@ ghost use Rattle.std.specs.Prelude.{◌≡◌, ◌<◌, ◌⊎◌, ◌++◌, ◌
 ghost use Rattle.cells.specs.Values.{RowValue};
 ghost use Rattle.cells.specs.declared.refused.Refused.TheVariants as Refused;
 ghost use Rattle.columns.specs.Columns.{Hold};
+ghost use Rattle.crew.specs.Gathering.{AreMadeOf, MayBeJoined};
 ghost use Rattle.crew.specs.Limits.{workers_of};
 ghost use Rattle.crew.specs.Listing.{AreDealt, FoldsLists, list_count, rows_listed};
 ghost use Rattle.crew.specs.Shares.{AreShared};
@@ -13,12 +14,11 @@ ghost use Rattle.groups.specs.Groups.{kept};
 ghost use Rattle.groups.specs.Needed.{Serve};
 ghost use Rattle.groups.specs.Numbered.{HoldCount};
 
-use crate::gathering::joined;
 use crate::sharing::{share_out, workers_of};
 use crate::task::Task;
 use cells::{Cell, KeyHash, Refused, Tuple};
 use columns::Columns;
-use groups::{Dealt, Folding, deal_out};
+use groups::{Dealt, Folding, any_order, deal_out};
 use query::Plan;
 use std::alloc::{AllocError, Global};
 use std::marker::{Model, PhantomData};
@@ -106,6 +106,27 @@ fn list_foldings<'a, H: KeyHash<Cell> + KeyHash<Tuple> + Send + Sync, R: Threads
 {
     listing.rows_are_few();
     share_out(rt, alloc, listing.lists.len() as u64, workers, listing)
+}
+
+/// The folding of rows for which the plan's WHERE is true, from the foldings of the workers who shared them, which are joined in
+/// their order.
+fn joined<'a, H: KeyHash<Cell> + KeyHash<Tuple>>(
+    alloc: Global,
+    plan: &'a Plan,
+    foldings: Vec<Folding<'a, H>>,
+) -> Result<Folding<'a, H>, AllocError>
+    requires { MayBeJoined plan.now foldings.items }
+    ensures folds { (rows : List RowValue) → AreMadeOf (Folds plan.now) rows foldings.entry.items →
+        IfOk result (Folds plan.now rows) }
+    ensures end { IfOk result MayEnd }
+{
+    // This does nothing: it is the law that the order of rows does not count.
+    any_order::<H>();
+    let mut all = Folding::new(alloc, plan)?;
+    for folding in foldings {
+        all = all.join(alloc, folding)?;
+    }
+    Ok(all)
 }
 
 /// To how many lists rows are dealt out, where so many are shared by so many workers.

@@ -4,7 +4,7 @@ use Rattle.std.specs.Vec.Iter.{into_iter_items}
 use Rattle.crew.specs.Gathering.{AreMadeOf}
 use Rattle.crew.proofs.PartsLemmas.{last_one, may_end, may_join, two_joined, with_none}
 use Rattle.groups.specs.Folds.{Folds}
-use Rattle.crew.proofs.gathering.joined.Goals as goal
+use Rattle.crew.proofs.listing.joined.Goals as goal
 
 pub loop-folding-init : goal.loop-folding-init
 loop-folding-init g c = λ rows made.
