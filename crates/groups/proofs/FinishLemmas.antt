@@ -1,5 +1,5 @@
 -- The rows of a report, from groups.
-use Rattle.std.specs.Prelude.{◌≡◌, ℕ, zero, suc, ◌+◌, ◌<◌, ◌⊎◌, Bool, true, false, List, [], ◌∷◌, ◌++◌, drop, if◌then◌else◌, is_some, length, map, pos, Some, take, refl}
+use Rattle.std.specs.Prelude.{◌≡◌, ℕ, zero, suc, ◌+◌, ◌<◌, ◌⊎◌, Bool, true, false, List, [], ◌∷◌, ◌++◌, drop, if◌then◌else◌, is_some, length, map, pos, Option, Some, take, refl}
 use Rattle.std.specs.Borrow.{Bor}
 use Rattle.std.specs.List.{AllByRecursion, Contains, flat_map}
 use Rattle.std.specs.List.Sorted.{IsPermutation, IsSorted}
@@ -20,17 +20,29 @@ use Rattle.cells.specs.declared.total.Total.{Total}
 use Rattle.cells.specs.declared.total.Total.TheVariants as total
 use Rattle.groups.specs.Accumulators.{accs_of, aggregations_of, group}
 use Rattle.groups.specs.Finishing.{left_by, left_by_all, row_by, rows_by, value_by}
-use Rattle.groups.specs.Groups.{cell_at, column_of, holds, item_value, members, rows_over, set_rows, shown}
+use Rattle.groups.specs.Groups.{cell_at, column_of, holds, is_true, item_value, members, rows_over, set_rows, shown}
 use Rattle.groups.specs.Partials.{Stands, StandsAt, StandsEach}
 use Rattle.groups.proofs.TuplesLemmas.{all_in_order}
 use Rattle.groups.proofs.OrderLemmas.{rising_differ, value_by_tuple}
 use Rattle.groups.proofs.SetTuplesLemmas.{all_tuples, group_is, group_is_some, has_group}
 use Rattle.query.specs.Plans.{PlanTree}
+use Rattle.query.specs.Trees.{PredicateTree}
+use Rattle.query.specs.Truth.{truth}
 use Rattle.query.specs.declared.item.Item.{Item}
 use Rattle.query.specs.declared.item.Item.TheVariants as item
+use Rattle.query.specs.declared.test.Test.{Test}
+use Rattle.query.specs.declared.truth.Truth.{Truth}
+use Rattle.query.specs.declared.truth.Truth.TheVariants.{True, False, Unknown}
 use Rattle.trie.specs.Digits.{digit_order}
 use Rattle.trie.specs.Entries.{IsRising}
 use Rattle.trie.specs.Holding.{lent}
+
+-- ---- a predicate
+-- what is not true is false or unknown
+pub not_true : (t : Truth) → (t ≡ True → ⊥) → false ≡ is_true t
+not_true True not = absurd (not refl)
+not_true False not = refl
+not_true Unknown not = refl
 
 -- ---- a row, item by item
 more_values : {x y : Total} {xs ys : List Total} → x ≡ y → xs ≡ ys → x ∷ xs ≡ y ∷ ys
@@ -82,6 +94,14 @@ module _ {H : Type 0} (set : List ℕ) (tuple : List Cell) where
       values ≡ row_by set tuple asked left → values ≡ drop n (row_by set tuple items accs)
   asked_values n items shown asked accs left values first behind rest is =
       is ∙ ap₂ (λ (l : List (Item ℕ)) (a : List (Acc H)). row_by set tuple l a) behind (rest ∙ ap (λ l. left_by_all l accs) first) ∙ values_behind n items accs
+
+  -- whether HAVING is true for them
+  pub having_holds : (having : Option (PredicateTree (Test ℕ))) (p : PredicateTree (Test ℕ)) (n : ℕ) (items shown asked : List (Item ℕ)) (accs left : List (Acc H)) (before values : List Total) (t : Truth) →
+      Some p ≡ having → shown ≡ take n items → asked ≡ drop n items → left ≡ left_by_all shown accs → before ≡ [] → values ≡ before ++ row_by set tuple asked left → t ≡ truth p values →
+      is_true t ≡ holds having (drop n (row_by set tuple items accs))
+  having_holds having p n items shown asked accs left before values t some first behind rest none is said =
+      let all = asked_values n items shown asked accs left values first behind rest (is ∙ ap (λ b. b ++ row_by set tuple asked left) none) in
+      ap is_true said ∙ ap (λ v. is_true (truth p v)) all ∙ ap (λ h. holds h (drop n (row_by set tuple items accs))) some
 
   module _ (plan : PlanTree) (accs : List (Acc H)) (b : Bool) (asked : b ≡ holds plan.having (drop (length plan.headings) (row_by set tuple plan.items accs))) where
     -- the values of the select list are shown

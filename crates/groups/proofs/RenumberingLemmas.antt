@@ -1,7 +1,7 @@
 -- Parts with other numbers.
-use Rattle.std.specs.Prelude.{◌≡◌, ℕ, zero, suc, ◌<◌, List, [], ◌∷◌, length, map}
+use Rattle.std.specs.Prelude.{◌≡◌, ℕ, suc, ◌<◌, List, [], ◌∷◌, length, map}
 use Rattle.std.specs.List.{AllByRecursion, Contains}
-use Rattle.std.proofs.Common.{get_or, ap, ap₂, sym, ◌∙◌, subst, arith, refl}
+use Rattle.std.proofs.Common.{get_or, ap, ap₂, ◌∙◌, arith, refl}
 use Rattle.std.proofs.lemmas.List.{get_or-map, length-map}
 use Rattle.groups.specs.Parting.{AreParted, AreTurned, codes_at, no_part}
 use Rattle.groups.specs.declared.parting.Part.{Part}

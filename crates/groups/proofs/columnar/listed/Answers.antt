@@ -1,7 +1,6 @@
-use Rattle.std.proofs.Common.{◌≡◌, [], List, ap, arith, length, map, ◌∙◌}
-use Rattle.std.proofs.lemmas.List.{nil_from_length}
+use Rattle.std.proofs.Common.{ap, arith, map, ◌∙◌}
 use Rattle.groups.specs.Columnar.{accs_at}
-use Rattle.groups.proofs.ColumnarLemmas.{listed_none, listed_one, listed_through}
+use Rattle.groups.proofs.ColumnarLemmas.{listed_none, listed_one}
 use Rattle.groups.proofs.columnar.listed.Goals as goal
 
 pub loop-tuple-init : goal.loop-tuple-init

@@ -1,8 +1,7 @@
-use Rattle.std.proofs.Common.{[], ◌∷◌, ap, arith, get_or, sym, length, map, refl, subst, take, ◌≡◌, ◌∙◌}
+use Rattle.std.proofs.Common.{[], ◌∷◌, ap, arith, sym, length, map, refl, subst, take, ◌∙◌}
 use Rattle.std.proofs.lemmas.List.{length-append, take_all}
 use Rattle.std.specs.List.{AllZip}
 use Rattle.aggs.specs.declared.acc.Kind.TheVariants.{CountRows}
-use Rattle.groups.specs.declared.aggregation.Aggregation.{Aggregation}
 use Rattle.groups.specs.Columnar.{TalliesRows, aggregation_at}
 use Rattle.groups.specs.Numbered.{picked_rows}
 use Rattle.groups.proofs.ColumnarLemmas.{zip_next}

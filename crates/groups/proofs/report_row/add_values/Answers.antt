@@ -1,4 +1,4 @@
-use Rattle.std.proofs.Common.{◌++◌, ap, drop, sym, ◌∙◌}
+use Rattle.std.proofs.Common.{◌++◌, ap, sym, ◌∙◌}
 use Rattle.std.proofs.lemmas.List.{append-nil, drop_all}
 use Rattle.groups.specs.Finishing.{row_by}
 use Rattle.groups.proofs.FinishLemmas.{value_more}

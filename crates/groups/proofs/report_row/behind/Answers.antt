@@ -1,4 +1,4 @@
-use Rattle.std.proofs.Common.{ap, drop, sym, ◌∙◌}
+use Rattle.std.proofs.Common.{ap, sym, ◌∙◌}
 use Rattle.std.proofs.lemmas.List.{drop_all}
 use Rattle.groups.specs.Finishing.{left_by_all}
 use Rattle.groups.proofs.FinishLemmas.{left_more}
