@@ -30,7 +30,9 @@ use Rattle.crew.specs.contracts.listing.Listing as Listing
 use Rattle.groups.specs.contracts.accumulators.Accumulators as Accumulators
 use Rattle.groups.specs.contracts.aggregation.Aggregation as Aggregation
 use Rattle.groups.specs.contracts.bag.Bag as Bag
+use Rattle.groups.specs.contracts.different_cells.DifferentCells as DifferentCells
 use Rattle.groups.specs.contracts.folding.Folding as Folding
+use Rattle.groups.specs.contracts.held.Held as Held
 use Rattle.groups.specs.contracts.pool.SetBag as SetBag
 use Rattle.query.specs.Crossing.{plan_sync}
 use Rattle.trie.specs.contracts.beside.SummedBeside.TheImpl as Lies
@@ -50,6 +52,9 @@ named_send = let column = column_send in search (sendable, crosses) depth 40
 columns_send : IsSend Columns.the_field.row
 columns_send = let column = named_send in search (sendable, crosses) depth 40
 
+different_send : IsSend DifferentCells.the_field.row
+different_send = let send = cell_send in let sync = cell_sync in search (sendable, crosses) depth 40
+
 column_sync : IsSync CodeColumn.the_field.row
 column_sync = let cell = cell_sync in search (sendable, crosses) depth 40
 
@@ -67,8 +72,11 @@ module _ (H : RattleType) (cells : KeyHash.Ghosts H.Denot Cell) (s : IsSend H) (
   acc_send : IsSend (Acc.the_field H cells).row
   acc_send = let cell = cell_send in let distinct = distinct_send in search (sendable, crosses) depth 40
 
+  held_send : IsSend (Held.the_field H cells).row
+  held_send = let acc = acc_send in let different = different_send in search (sendable, crosses) depth 40
+
   accumulators_send : IsSend (Accumulators.the_field H cells).row
-  accumulators_send = let acc = acc_send in search (sendable, crosses) depth 40
+  accumulators_send = let held = held_send in search (sendable, crosses) depth 40
 
   bag_send : IsSend (Bag.the_field H cells).row
   bag_send = let key = tuple_send in let value = accumulators_send in search (HashMap-send, sendable, crosses) depth 40

@@ -5,7 +5,7 @@ use Rattle.std.specs.List.Sorted.{IsPermutation}
 use Rattle.std.proofs.Common.{get_or, ap, ap₂, sym, ◌∙◌, subst, arith, eq-eqb, inl, inr}
 use Rattle.std.proofs.lemmas.Bool.{ne_eqb}
 use Rattle.std.proofs.lemmas.Bool.Decides.{eqb_tells}
-use Rattle.std.proofs.lemmas.List.{append_assoc, get_or_read, length-map, map-append, take_more}
+use Rattle.std.proofs.lemmas.List.{append_assoc, drop_more, get_or_read, length-append, length-drop, length-map, map-append, take_more}
 use Rattle.std.proofs.lemmas.List.Folds.{flat_map-map}
 use Rattle.std.proofs.lemmas.List.FromFn.{map-range_with_len_more}
 use Rattle.std.proofs.lemmas.List.Sorted.{IsPermutation-append_comm, IsPermutation-append_left, IsPermutation-append_right, IsPermutation-refl, IsPermutation-trans}
@@ -78,6 +78,39 @@ group_next {H} tuples tallies groups added i tuple accs h at are so e =
     let here : 0 + i ≡ i = omega arith in
     e ∙ ap₂ (λ (l : List (Group H)) (g : Group H). l ++ g ∷ []) so (ap₂ (λ (t : List Cell) (a : List (Acc H)). (t, a)) (get_or_read tuples i tuple h at []) are) ∙
     sym (map-range_with_len_more f 0 i i here)
+
+-- groups of the first tuples are listed, and these tuples are left
+pub record ListedTo {H : Type 0} (tuples : List (List Cell)) (tallies : List (List (Acc H))) (groups : List (Group H)) (left : List (List Cell)) : Type 0 where
+  pub made : groups ≡ map (λ n. (get_or tuples n [], accs_at n tallies)) (range_with_len 0 (length groups))
+  pub rest : left ≡ drop (length groups) tuples
+  pub within : length groups ≤ length tuples
+
+module _ {H : Type 0} (tuples : List (List Cell)) (tallies : List (List (Acc H))) where
+  pub listed_none : (groups : List (Group H)) (left : List (List Cell)) → groups ≡ [] → left ≡ tuples → ListedTo tuples tallies groups left
+  listed_none groups left none all = subst (λ l. ListedTo tuples tallies l left) (sym none) (record { made = refl; rest = all; within = omega arith })
+
+  module _ (groups : List (Group H)) (left : List (List Cell)) (now : ListedTo tuples tallies groups left) where
+    module _ (tuple : List Cell) (later : List (List Cell)) (e : left ≡ tuple ∷ later) where
+      pub listed_below : length groups < length tuples
+      listed_below = omega (arith, ap (λ l. length l) (sym now.rest ∙ e), length-drop (length groups) tuples)
+
+      next_is : tuple ∷ later ≡ get_or tuples (length groups) tuple ∷ drop (length groups + 1) tuples
+      next_is = sym e ∙ now.rest ∙ drop_more tuples (length groups) tuple listed_below
+
+      pub listed_one : (accs : List (Acc H)) (added : List (Group H)) → accs ≡ accs_at (length groups) tallies → added ≡ groups ++ (tuple, accs) ∷ [] → ListedTo tuples tallies added later
+      listed_one accs added are is =
+          let long : length added ≡ length groups + 1 = ap (λ l. length l) is ∙ length-append groups ((tuple, accs) ∷ []) in
+          record {
+            made = group_next tuples tallies groups added (length groups) tuple accs listed_below (ap (λ l. get_or l 0 tuple) next_is) are now.made is ∙
+                ap (λ n. map (λ n. (get_or tuples n [], accs_at n tallies)) (range_with_len 0 n)) (sym long);
+            rest = ap (λ l. drop 1 l) next_is ∙ ap (λ n. drop n tuples) (sym long);
+            within = omega (arith, long, listed_below);
+          }
+
+    pub listed_through : left ≡ [] → groups ≡ groups_from tuples tallies
+    listed_through none =
+        let all : length groups ≡ length tuples = omega (arith, now.within, ap (λ l. length l) (sym now.rest ∙ none), length-drop (length groups) tuples) in
+        now.made ∙ ap (λ n. map (λ n. (get_or tuples n [], accs_at n tallies)) (range_with_len 0 n)) all
 
 -- ---- the aggregates, one after another
 pub zip_next : {A B C : Type 0} (R : A → B → Type 0) (f : C → B) (xs : List A) (ys added : List C) (i : ℕ) (x d : A) (y : C) → i < length xs → x ≡ get_or xs i d → AllZip R (take i xs) (map f ys) →

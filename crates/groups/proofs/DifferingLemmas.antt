@@ -98,7 +98,7 @@ tallied_lists {H} count numbers cells lists accs now e = record {
 }
 
 -- ---- whether one of some things is so
-any_present : (p : Cell → Bool) (cells : List Cell) → list_any p (present cells) ≡ list_any (λ c. not (is_null c) && p c) cells
+pub any_present : (p : Cell → Bool) (cells : List Cell) → list_any p (present cells) ≡ list_any (λ c. not (is_null c) && p c) cells
 any_present p [] = refl
 any_present p (Null ∷ cells) = any_present p cells
 any_present p (Int n ∷ cells) = ap (λ b. p (Int n) || b) (any_present p cells)

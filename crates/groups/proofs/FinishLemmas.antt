@@ -1,11 +1,11 @@
 -- The rows of a report, from groups.
-use Rattle.std.specs.Prelude.{◌≡◌, ℕ, ◌⊎◌, true, List, [], ◌∷◌, ◌++◌, is_some, map, pos, Some, refl}
+use Rattle.std.specs.Prelude.{◌≡◌, ℕ, zero, suc, ◌+◌, ◌<◌, ◌⊎◌, Bool, true, false, List, [], ◌∷◌, ◌++◌, drop, if◌then◌else◌, is_some, length, map, pos, Option, Some, take, refl}
 use Rattle.std.specs.Borrow.{Bor}
 use Rattle.std.specs.List.{AllByRecursion, Contains, flat_map}
 use Rattle.std.specs.List.Sorted.{IsPermutation, IsSorted}
 use Rattle.std.specs.Map.{keys_of}
 use Rattle.std.proofs.Common.{get_or, ap, ap₂, sym, ◌∙◌, subst, inl, inr}
-use Rattle.std.proofs.lemmas.List.{append_assoc, append-nil, get_or_default, length-map}
+use Rattle.std.proofs.lemmas.List.{append_assoc, append-nil, drop_more, get_or_default, length-map}
 use Rattle.std.proofs.lemmas.List.Elements.{recursion_from_All}
 use Rattle.std.proofs.lemmas.List.Sorted.{IsPermutation-map}
 use Rattle.std.proofs.lemmas.Map.Views.{lookup-from_Contains}
@@ -19,18 +19,30 @@ use Rattle.cells.specs.declared.cell.Cell.{Cell}
 use Rattle.cells.specs.declared.total.Total.{Total}
 use Rattle.cells.specs.declared.total.Total.TheVariants as total
 use Rattle.groups.specs.Accumulators.{accs_of, aggregations_of, group}
-use Rattle.groups.specs.Finishing.{row_by, rows_by}
-use Rattle.groups.specs.Groups.{cell_at, column_of, item_value, members, rows_over, set_rows, shown}
+use Rattle.groups.specs.Finishing.{left_by, left_by_all, row_by, rows_by, value_by}
+use Rattle.groups.specs.Groups.{cell_at, column_of, holds, is_true, item_value, members, rows_over, set_rows, shown}
 use Rattle.groups.specs.Partials.{Stands, StandsAt, StandsEach}
 use Rattle.groups.proofs.TuplesLemmas.{all_in_order}
 use Rattle.groups.proofs.OrderLemmas.{rising_differ, value_by_tuple}
 use Rattle.groups.proofs.SetTuplesLemmas.{all_tuples, group_is, group_is_some, has_group}
 use Rattle.query.specs.Plans.{PlanTree}
+use Rattle.query.specs.Trees.{PredicateTree}
+use Rattle.query.specs.Truth.{truth}
 use Rattle.query.specs.declared.item.Item.{Item}
 use Rattle.query.specs.declared.item.Item.TheVariants as item
+use Rattle.query.specs.declared.test.Test.{Test}
+use Rattle.query.specs.declared.truth.Truth.{Truth}
+use Rattle.query.specs.declared.truth.Truth.TheVariants.{True, False, Unknown}
 use Rattle.trie.specs.Digits.{digit_order}
 use Rattle.trie.specs.Entries.{IsRising}
 use Rattle.trie.specs.Holding.{lent}
+
+-- ---- a predicate
+-- what is not true is false or unknown
+pub not_true : (t : Truth) → (t ≡ True → ⊥) → false ≡ is_true t
+not_true True not = absurd (not refl)
+not_true False not = refl
+not_true Unknown not = refl
 
 -- ---- a row, item by item
 more_values : {x y : Total} {xs ys : List Total} → x ≡ y → xs ≡ ys → x ∷ xs ≡ y ∷ ys
@@ -55,12 +67,63 @@ row_is H set tuple rows (item.Max c ∷ items) = more_values (acc_finishes H kin
 abbrev shown_of : List ℕ → PlanTree → List RowValue → List Cell → List (List Total)
 shown_of set plan rows t = shown plan (map (item_value set t (members set t rows)) plan.items)
 
+-- ---- the values of some items
+module _ {H : Type 0} (set : List ℕ) (tuple : List Cell) where
+  -- the value of the item at i, and then those of the items after it
+  pub value_more : (items : List (Item ℕ)) (i : ℕ) (item : Item ℕ) (totals new all : List Total) (total : Total) (accs left : List (Acc H)) →
+      i < length items → item ≡ get_or items i item → total ≡ value_by set tuple item accs → left ≡ left_by item accs → new ≡ totals ++ total ∷ [] →
+      totals ++ row_by set tuple (drop i items) accs ≡ all → new ++ row_by set tuple (drop (i + 1) items) left ≡ all
+  value_more items i item totals new all total accs left within at value rest is now =
+      let later : List (Item ℕ) = drop (i + 1) items in
+      ap (λ l. l ++ row_by set tuple later left) is ∙ append_assoc totals (total ∷ []) (row_by set tuple later left)
+      ∙ ap₂ (λ (t : Total) (a : List (Acc H)). totals ++ t ∷ row_by set tuple later a) value rest
+      ∙ ap (λ l. totals ++ row_by set tuple l accs) (sym (drop_more items i item within ∙ ap (λ x. x ∷ later) (sym at))) ∙ now
+
+  front_values : (n : ℕ) (items : List (Item ℕ)) (accs : List (Acc H)) → row_by set tuple (take n items) accs ≡ take n (row_by set tuple items accs)
+  front_values zero items accs = refl
+  front_values (suc n) [] accs = refl
+  front_values (suc n) (i ∷ items) accs = ap (λ l. value_by set tuple i accs ∷ l) (front_values n items (left_by i accs))
+
+  values_behind : (n : ℕ) (items : List (Item ℕ)) (accs : List (Acc H)) → row_by set tuple (drop n items) (left_by_all (take n items) accs) ≡ drop n (row_by set tuple items accs)
+  values_behind zero items accs = refl
+  values_behind (suc n) [] accs = refl
+  values_behind (suc n) (i ∷ items) accs = values_behind n items (left_by i accs)
+
+  -- the values that HAVING asks for, of the items behind the select list's
+  pub asked_values : (n : ℕ) (items shown asked : List (Item ℕ)) (accs left : List (Acc H)) (values : List Total) → shown ≡ take n items → asked ≡ drop n items → left ≡ left_by_all shown accs →
+      values ≡ row_by set tuple asked left → values ≡ drop n (row_by set tuple items accs)
+  asked_values n items shown asked accs left values first behind rest is =
+      is ∙ ap₂ (λ (l : List (Item ℕ)) (a : List (Acc H)). row_by set tuple l a) behind (rest ∙ ap (λ l. left_by_all l accs) first) ∙ values_behind n items accs
+
+  -- whether HAVING is true for them
+  pub having_holds : (having : Option (PredicateTree (Test ℕ))) (p : PredicateTree (Test ℕ)) (n : ℕ) (items shown asked : List (Item ℕ)) (accs left : List (Acc H)) (before values : List Total) (t : Truth) →
+      Some p ≡ having → shown ≡ take n items → asked ≡ drop n items → left ≡ left_by_all shown accs → before ≡ [] → values ≡ before ++ row_by set tuple asked left → t ≡ truth p values →
+      is_true t ≡ holds having (drop n (row_by set tuple items accs))
+  having_holds having p n items shown asked accs left before values t some first behind rest none is said =
+      let all = asked_values n items shown asked accs left values first behind rest (is ∙ ap (λ b. b ++ row_by set tuple asked left) none) in
+      ap is_true said ∙ ap (λ v. is_true (truth p v)) all ∙ ap (λ h. holds h (drop n (row_by set tuple items accs))) some
+
+  module _ (plan : PlanTree) (accs : List (Acc H)) (b : Bool) (asked : b ≡ holds plan.having (drop (length plan.headings) (row_by set tuple plan.items accs))) where
+    -- the values of the select list are shown
+    pub group_shown : (row : List Total) (shown_items : List (Item ℕ)) → b ≡ true → shown_items ≡ take (length plan.headings) plan.items → row ≡ row_by set tuple shown_items accs →
+        row ∷ [] ≡ shown plan (row_by set tuple plan.items accs)
+    group_shown row shown_items on first is =
+        ap (λ r. r ∷ []) (is ∙ ap (λ l. row_by set tuple l accs) first ∙ front_values (length plan.headings) plan.items accs)
+        ∙ ap (λ c. if c then take (length plan.headings) (row_by set tuple plan.items accs) ∷ [] else []) (sym on ∙ asked)
+
+-- ---- the accumulators that are left, item by item
+pub left_more : {H : Type 0} (items : List (Item ℕ)) (i : ℕ) (item : Item ℕ) (accs left all : List (Acc H)) → i < length items → item ≡ get_or items i item → left ≡ left_by item accs →
+    left_by_all (drop i items) accs ≡ all → left_by_all (drop (i + 1) items) left ≡ all
+left_more items i item accs left all within at is now =
+    ap (left_by_all (drop (i + 1) items)) is
+    ∙ ap (λ l. left_by_all l accs) (sym (drop_more items i item within ∙ ap (λ x. x ∷ drop (i + 1) items) (sym at))) ∙ now
+
 module _ {H : Type 0} where
   -- the row of the next group, unless HAVING drops it, goes behind those that were made
-  pub rows_next : (set : List ℕ) (plan : PlanTree) (x : Bor (List Cell) × Bor (List (Acc H))) (left : List (Bor (List Cell) × Bor (List (Acc H)))) (made more new all : List (List Total)) (row : List Total) →
-      made ++ rows_by set plan (lent (x ∷ left)) ≡ all → row ≡ row_by set x.0.now plan.items x.1.now → more ≡ shown plan row → new ≡ made ++ more → new ++ rows_by set plan (lent left) ≡ all
-  rows_next set plan x left made more new all row now of show e =
-      ap (λ l. l ++ rows_by set plan (lent left)) (e ∙ ap (λ m. made ++ m) (show ∙ ap (shown plan) of))
+  pub rows_next : (set : List ℕ) (plan : PlanTree) (x : Bor (List Cell) × Bor (List (Acc H))) (left : List (Bor (List Cell) × Bor (List (Acc H)))) (made more new all : List (List Total)) →
+      made ++ rows_by set plan (lent (x ∷ left)) ≡ all → more ≡ shown plan (row_by set x.0.now plan.items x.1.now) → new ≡ made ++ more → new ++ rows_by set plan (lent left) ≡ all
+  rows_next set plan x left made more new all now show e =
+      ap (λ l. l ++ rows_by set plan (lent left)) (e ∙ ap (λ m. made ++ m) show)
       ∙ append_assoc made (shown plan (row_by set x.0.now plan.items x.1.now)) (rows_by set plan (lent left)) ∙ now
 
   module _ (hash : List Cell → ℕ) (set : List ℕ) (plan : PlanTree) (rows : List RowValue) where

@@ -1,5 +1,5 @@
 -- GROUPING of several columns, digit by digit.
-use Rattle.std.proofs.Common.{◌≡◌, ◌≤◌, ◌+◌, ◌*◌, ◌<◌, ℕ, zero, suc, Bool, true, false, ◌||◌, List, [], ◌∷◌, length, drop, get_or, refl, sym, ap, subst, ◌∙◌, arith, Option, Some, None}
+use Rattle.std.proofs.Common.{◌≡◌, ◌≤◌, ◌+◌, ◌*◌, ◌<◌, ℕ, zero, suc, Bool, true, false, ◌||◌, List, [], ◌∷◌, length, drop, get_or, take, refl, sym, ap, ap₂, subst, ◌∙◌, arith, Option, Some, None}
 use Rattle.std.proofs.lemmas.Bool.Decides.{nat_tests}
 use Rattle.std.proofs.lemmas.List.{drop_more}
 use Rattle.std.specs.List.{list_any}
@@ -56,3 +56,16 @@ pub short_at : (items : List (Item ℕ)) (index : ℕ) (i : Item ℕ) → list_a
 short_at [] index i short within is = absurd (omega arith)
 short_at (x ∷ items) zero i short within is = ap is_long is ∙ (neither (is_long x) (list_any is_long items) short).0
 short_at (x ∷ items) (suc index) i short within is = short_at items index i (neither (is_long x) (list_any is_long items) short).1 (omega arith) is
+
+-- none of the first items, and none behind them
+pub short_front : (items : List (Item ℕ)) (n : ℕ) → list_any is_long items ≡ false → list_any is_long (take n items) ≡ false
+short_front items zero short = refl
+short_front [] (suc n) short = refl
+short_front (x ∷ items) (suc n) short =
+    let both = neither (is_long x) (list_any is_long items) short in
+    ap₂ (λ (a b : Bool). a || b) both.0 (short_front items n both.1)
+
+pub short_behind : (items : List (Item ℕ)) (n : ℕ) → list_any is_long items ≡ false → list_any is_long (drop n items) ≡ false
+short_behind items zero short = short
+short_behind [] (suc n) short = refl
+short_behind (x ∷ items) (suc n) short = short_behind items n (neither (is_long x) (list_any is_long items) short).1

@@ -15,6 +15,7 @@ pub mod NeededLemmas
 pub mod TakenLemmas
 pub mod TallyingLemmas
 pub mod DifferingLemmas
+pub mod DifferentCellsLemmas
 pub mod ColumnarLemmas
 pub mod DealingLemmas
 pub mod KeepingLemmas

@@ -44,6 +44,11 @@ module _ {H : Type 0} where
   left_by (item.Min c) accs = behind_first accs
   left_by (item.Max c) accs = behind_first accs
 
+  -- the accumulators that are left for the items behind these
+  abbrev pub left_by_all : List (Item ℕ) → List (Acc H) → List (Acc H)
+  left_by_all [] accs = accs
+  left_by_all (i ∷ items) accs = left_by_all items (left_by i accs)
+
   -- the row of a group
   abbrev pub row_by : List ℕ → List Cell → List (Item ℕ) → List (Acc H) → List Total
   row_by set tuple [] accs = []

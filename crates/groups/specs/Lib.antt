@@ -8,6 +8,7 @@ pub mod Numbered
 pub mod Needed
 pub mod Tallying
 pub mod Differing
+pub mod Holding
 pub mod Columnar
 pub mod Dealing
 pub mod Keeping

@@ -3,16 +3,17 @@ ghost use Rattle.std.specs.Prelude.{◌≡◌, [], IfOk};
 ghost use Rattle.groups.specs.Accumulators.{AllFit, accs_of, accs_together};
 
 use crate::aggregation::Aggregation;
+use crate::held::Held;
 use aggs::Acc;
 use cells::{Cell, KeyHash};
 use std::alloc::{AllocError, Global};
 use std::marker::Model;
 
 /// Accumulators, one for each aggregate of a select list in its order, seen as the list of them. They own what they
-/// keep of the cells that they were stepped with.
+/// keep of the cells.
 #[derive(Drop)]
 pub struct Accumulators<H: KeyHash<Cell>> {
-    accs: Vec<Acc<H>>,
+    accs: Vec<Held<H>>,
 }
 
 impl<H: KeyHash<Cell>> Model for Accumulators<H> {
@@ -46,20 +47,20 @@ impl<H: KeyHash<Cell>> Accumulators<H> {
     {
         let mut accs = Vec::new(alloc);
         for aggregation in aggregations {
-            accs.push(Acc::empty(aggregation.kind))?;
+            accs.push(Held::of(Acc::empty(aggregation.kind)))?;
         }
         Ok(Accumulators { accs })
     }
 
     /// Accumulators in the order of the select list. It takes no memory.
-    pub fn of(accs: Vec<Acc<H>>) -> Accumulators<H>
+    pub fn of(accs: Vec<Held<H>>) -> Accumulators<H>
         ensures { result ≡ accs.items }
     {
         Accumulators { accs }
     }
 
     /// The accumulators, in the order of the select list. It takes no memory.
-    pub fn as_slice(&self) -> &[Acc<H>]
+    pub fn as_slice(&self) -> &[Held<H>]
         ensures { result.now ≡ self.now }
     {
         self.accs.as_slice()

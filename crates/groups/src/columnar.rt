@@ -13,22 +13,25 @@ ghost use Rattle.groups.specs.Pools.{IsPool, sets_of};
 use crate::accumulators::Accumulators;
 use crate::aggregation::Aggregation;
 use crate::bag::Bag;
+use crate::held::Held;
 use crate::needed::column_of;
 use crate::numbered::{NumberedRows, groups_of};
 use crate::pool::SetBag;
 use crate::tallying::{counted, tallied};
-use aggs::{Acc, Kind};
+use aggs::Kind;
 use cells::{Cell, KeyHash, Tuple};
 use columns::Columns;
 use std::alloc::{AllocError, Global};
 
-/// The sets of the sources, each with its bag over the rows of these indexes.
+/// The sets of the sources, each with its bag over the rows of these indexes. `alone` says that no groups of other sets are to be
+/// made of these; nothing rests on it.
 pub fn sources_from<H: KeyHash<Cell>>(
     alloc: Global,
     columns: &Columns,
     aggregations: &[Aggregation],
     rows: &[u32],
     sources: &[SetBag<H>],
+    alone: bool,
 ) -> Result<Vec<SetBag<H>>, AllocError>
     requires rows { HaveRows columns.now rows.now }
     requires sets { AllByRecursion (λ set. HaveAll set columns.now) (sets_of sources.now) }
@@ -40,7 +43,7 @@ pub fn sources_from<H: KeyHash<Cell>>(
     let mut filled = Vec::with_capacity(alloc, sources.len())?;
     for source in sources {
         let set = Vec::from_slice(alloc, source.set.as_slice())?;
-        let bag = bag_of(alloc, columns, set.as_slice(), aggregations, rows)?;
+        let bag = bag_of(alloc, columns, set.as_slice(), aggregations, rows, alone)?;
         filled.push(SetBag { set, bag })?;
     }
     Ok(filled)
@@ -53,6 +56,7 @@ fn bag_of<H: KeyHash<Cell>>(
     set: &[usize],
     aggregations: &[Aggregation],
     rows: &[u32],
+    alone: bool,
 ) -> Result<Bag<H>, AllocError>
     requires rows { HaveRows columns.now rows.now }
     requires set { HaveAll set.now columns.now }
@@ -61,8 +65,8 @@ fn bag_of<H: KeyHash<Cell>>(
         IfOk result (λ bag. Covers aggregations.now set.now (picked_rows all rows.now) bag) }
 {
     let groups = groups_of(alloc, columns, set, rows)?;
-    let tallies = tallies(alloc, columns, aggregations, rows, &groups)?;
-    let groups = listed(alloc, groups.tuples.as_slice(), tallies.as_slice())?;
+    let tallies = tallies(alloc, columns, aggregations, rows, &groups, alone)?;
+    let groups = listed(alloc, groups.tuples, tallies.as_slice())?;
     Ok(Bag::of(alloc, groups))
 }
 
@@ -73,7 +77,8 @@ fn tallies<H: KeyHash<Cell>>(
     aggregations: &[Aggregation],
     rows: &[u32],
     groups: &NumberedRows,
-) -> Result<Vec<Vec<Acc<H>>>, AllocError>
+    alone: bool,
+) -> Result<Vec<Vec<Held<H>>>, AllocError>
     requires rows { HaveRows columns.now rows.now }
     requires read { HaveAll (read_by_all aggregations.now) columns.now }
     requires all { NumberAll (length rows.now) groups.now.numbers.items groups.now.tuples.items }
@@ -83,7 +88,7 @@ fn tallies<H: KeyHash<Cell>>(
     let mut tallies = Vec::with_capacity(alloc, aggregations.len())?;
     for _at in 0..aggregations.len() {
         let before = tallies.as_slice();
-        let accs = tally_next(alloc, columns, aggregations, rows, groups, before)?;
+        let accs = tally_next(alloc, columns, aggregations, rows, groups, alone, before)?;
         tallies.push(accs)?;
     }
     Ok(tallies)
@@ -97,8 +102,9 @@ fn tally_next<H: KeyHash<Cell>>(
     aggregations: &[Aggregation],
     rows: &[u32],
     groups: &NumberedRows,
-    before: &[Vec<Acc<H>>],
-) -> Result<Vec<Acc<H>>, AllocError>
+    alone: bool,
+    before: &[Vec<Held<H>>],
+) -> Result<Vec<Held<H>>, AllocError>
     requires rows { HaveRows columns.now rows.now }
     requires read { HaveAll (read_by_all aggregations.now) columns.now }
     requires all { NumberAll (length rows.now) groups.now.numbers.items groups.now.tuples.items }
@@ -112,12 +118,12 @@ fn tally_next<H: KeyHash<Cell>>(
         let copies = copies_of(&before[same])?;
         return Ok(copies);
     }
-    let accs = tally(alloc, columns, &aggregations[at], rows, groups)?;
+    let accs = tally(alloc, columns, &aggregations[at], rows, groups, alone)?;
     Ok(accs)
 }
 
 /// Copies of the accumulators.
-fn copies_of<H: KeyHash<Cell>>(accs: &Vec<Acc<H>>) -> Result<Vec<Acc<H>>, AllocError>
+fn copies_of<H: KeyHash<Cell>>(accs: &Vec<Held<H>>) -> Result<Vec<Held<H>>, AllocError>
     ensures { IfOk result (λ v. v.items ≡ accs.now.items) }
 {
     accs.clone()
@@ -160,7 +166,8 @@ fn tally<H: KeyHash<Cell>>(
     aggregation: &Aggregation,
     rows: &[u32],
     groups: &NumberedRows,
-) -> Result<Vec<Acc<H>>, AllocError>
+    alone: bool,
+) -> Result<Vec<Held<H>>, AllocError>
     requires rows { HaveRows columns.now rows.now }
     requires read { HaveAll (read_by aggregation.now.kind aggregation.now.column) columns.now }
     requires all { NumberAll (length rows.now) groups.now.numbers.items groups.now.tuples.items }
@@ -173,22 +180,22 @@ fn tally<H: KeyHash<Cell>>(
         return Ok(counted(alloc, count, numbers)?);
     }
     let column = column_of(columns, aggregation.column);
-    Ok(tallied(alloc, aggregation.kind, count, numbers, rows, column)?)
+    Ok(tallied(alloc, aggregation.kind, count, numbers, rows, column, alone)?)
 }
 
-/// The groups of these tuples, each with its accumulators.
+/// The groups of these tuples, which are moved there, each with its accumulators.
 fn listed<H: KeyHash<Cell>>(
     alloc: Global,
-    tuples: &[Tuple],
-    tallies: &[Vec<Acc<H>>],
+    tuples: Vec<Tuple>,
+    tallies: &[Vec<Held<H>>],
 ) -> Result<Vec<(Tuple, Accumulators<H>)>, AllocError>
-    requires { AllByRecursion (λ accs. length accs.items ≡ length tuples.now) tallies.now }
-    ensures { IfOk result (λ v. v.items ≡ groups_from tuples.now (map (λ accs. accs.items) tallies.now)) }
+    requires { AllByRecursion (λ accs. length accs.items ≡ length tuples.items) tallies.now }
+    ensures { IfOk result (λ v. v.items ≡ groups_from tuples.items (map (λ accs. accs.items) tallies.now)) }
 {
     let mut groups = Vec::with_capacity(alloc, tuples.len())?;
-    for at in 0..tuples.len() {
-        let accumulators = accumulators_at(alloc, tallies, at)?;
-        groups.push((tuples[at].clone()?, accumulators))?;
+    for tuple in tuples {
+        let accumulators = accumulators_at(alloc, tallies, groups.len())?;
+        groups.push((tuple, accumulators))?;
     }
     Ok(groups)
 }
@@ -196,7 +203,7 @@ fn listed<H: KeyHash<Cell>>(
 /// The accumulators of one group.
 fn accumulators_at<H: KeyHash<Cell>>(
     alloc: Global,
-    tallies: &[Vec<Acc<H>>],
+    tallies: &[Vec<Held<H>>],
     at: usize,
 ) -> Result<Accumulators<H>, AllocError>
     requires { AllByRecursion (λ accs. at < length accs.items) tallies.now }

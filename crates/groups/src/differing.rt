@@ -1,5 +1,5 @@
-//! COUNT DISTINCT of all groups at once, from a column: an accumulator is made of the cells of the codes that its group has,
-//! each once, however many rows have it.
+//! COUNT DISTINCT of all groups at once, from a column: what is held of a group is made of the cells of the codes that it has, each
+//! once, however many rows have it.
 ghost use Rattle.std.specs.Prelude.{◌≡◌, ◌<◌, [], IfOk, length, map, replicate};
 ghost use Rattle.std.specs.List.{AllByRecursion};
 ghost use Rattle.aggs.specs.Accs.{acc_of};
@@ -10,41 +10,43 @@ ghost use Rattle.groups.specs.Numbered.{HasRows};
 ghost use Rattle.groups.specs.Parting.{AreOfGroups, codes_at};
 ghost use Rattle.groups.specs.Tallying.{AreTallied};
 
+use crate::held::Held;
 use crate::parting::{Part, Parts, parted};
-use aggs::Acc;
 use cells::{Cell, KeyHash};
 use columns::CodeColumn;
 use std::alloc::{AllocError, Global};
 
-/// Accumulators of COUNT DISTINCT of `count` groups, as of [`tallied`](crate::tallying::tallied).
+/// What is held for COUNT DISTINCT of `count` groups, as of [`tallied`](crate::tallying::tallied).
 pub fn tallied_different<H: KeyHash<Cell>>(
     alloc: Global,
     count: usize,
     numbers: &[u32],
     rows: &[u32],
     column: &CodeColumn,
-) -> Result<Vec<Acc<H>>, AllocError>
+    alone: bool,
+) -> Result<Vec<Held<H>>, AllocError>
     requires rows { HasRows column.now rows.now }
     requires numbers { (length numbers.now ≡ length rows.now) × AllByRecursion (λ n. n < count) numbers.now }
     ensures { IfOk result (λ v. AreTallied kind.CountDistinct count numbers.now (decoded column.now.cells (codes_at column.now.by_row rows.now)) v.items) }
 {
     let made = parted(alloc, numbers, count, rows, column.codes(), column.span())?;
     let Parts { parts, .. } = made;
-    Ok(tallied_parts(alloc, count, parts.as_slice(), column)?)
+    Ok(tallied_parts(alloc, count, parts.as_slice(), column, alone)?)
 }
 
-/// Accumulators of COUNT DISTINCT of `count` groups, each made at once of the cells of the parts of its group.
+/// What is held for COUNT DISTINCT of `count` groups, each made at once of the cells of the parts of its group.
 fn tallied_parts<H: KeyHash<Cell>>(
     alloc: Global,
     count: usize,
     parts: &[Part],
     column: &CodeColumn,
-) -> Result<Vec<Acc<H>>, AllocError>
+    alone: bool,
+) -> Result<Vec<Held<H>>, AllocError>
     requires { AreOfGroups count parts.now }
     ensures { IfOk result (λ v. AreTallied kind.CountDistinct count (groups_of_parts parts.now) (cells_of_parts column.now.cells parts.now) v.items) }
 {
     let lists = cells_by_group(alloc, count, parts, column)?;
-    Ok(accumulators_of(alloc, lists)?)
+    Ok(all_held(alloc, lists, alone)?)
 }
 
 /// The cells of the parts of each of `count` groups.
@@ -76,16 +78,17 @@ fn empty_lists(alloc: Global, count: usize) -> Result<Vec<Vec<Cell>>, AllocError
     Ok(lists)
 }
 
-/// Accumulators of COUNT DISTINCT, one of each list.
-fn accumulators_of<H: KeyHash<Cell>>(
+/// What is held for COUNT DISTINCT of each list.
+fn all_held<H: KeyHash<Cell>>(
     alloc: Global,
     lists: Vec<Vec<Cell>>,
-) -> Result<Vec<Acc<H>>, AllocError>
+    alone: bool,
+) -> Result<Vec<Held<H>>, AllocError>
     ensures { IfOk result (λ v. v.items ≡ map (acc_of kind.CountDistinct) (lists_of lists.items)) }
 {
-    let mut accs = Vec::with_capacity(alloc, lists.len())?;
+    let mut all = Vec::with_capacity(alloc, lists.len())?;
     for list in lists {
-        accs.push(Acc::of_different(alloc, list)?)?;
+        all.push(Held::of_different(alloc, list, alone)?)?;
     }
-    Ok(accs)
+    Ok(all)
 }

@@ -1,5 +1,6 @@
 //! The rows of a grouping set, from its groups.
-ghost use Rattle.std.specs.Prelude.{◌≡◌, List, ◌++◌, IfOk, drop, length};
+ghost use Rattle.std.specs.Prelude.{◌≡◌, List, ◌++◌, IfOk, drop, false, length, take};
+ghost use Rattle.std.specs.List.{list_any};
 ghost use Rattle.std.specs.List.Sorted.{IsPermutation, IsSorted};
 ghost use Rattle.std.specs.Map.{keys_of};
 ghost use Rattle.std.specs.Option.{option_to_list};
@@ -8,20 +9,22 @@ ghost use Rattle.cells.specs.TupleOrder.{tuple_cmp};
 ghost use Rattle.cells.specs.Values.{RowValue};
 ghost use Rattle.groups.specs.Accumulators.{aggregations_of};
 ghost use Rattle.groups.specs.Bags.{Covers, IsCounted};
-ghost use Rattle.groups.specs.Finishing.{rows_by};
+ghost use Rattle.groups.specs.Finishing.{row_by, rows_by};
 ghost use Rattle.groups.specs.Groups.{holds, set_rows, shown};
 ghost use Rattle.groups.specs.Partials.{StandsAt};
+ghost use Rattle.query.specs.Values.{is_long};
 ghost use Rattle.trie.specs.Holding.{lent};
 
 use crate::accumulators::Accumulators;
 use crate::aggregation::Aggregation;
 use crate::bag::Bag;
+use crate::held::Held;
 use crate::laying::trie_of;
-use crate::report_row::{ReportRow, row_of};
+use crate::report_row::{ReportRow, add_values, behind, row_of};
 use crate::rising::{in_order, rise};
 use cells::{Cell, KeyHash, Total, Tuple};
 use itertools::Itertools;
-use query::{GroupSet, Plan, Truth};
+use query::{GroupSet, Item, Plan, Truth};
 use std::alloc::{AllocError, Global};
 use std::vec::IntoIter;
 use trie::Trie;
@@ -38,37 +41,69 @@ fn by_tuple<'a, H: KeyHash<Cell> + KeyHash<Tuple>>(
     groups.into_iter().sorted_by_key(alloc, |group| group.0)
 }
 
-/// The values of a group that HAVING asks for: those of its own items, which stand behind the select list's.
-fn asked<'a>(plan: &Plan, row: &'a ReportRow) -> &'a [Total]
-    ensures { result.now ≡ drop (length plan.now.headings) row.now }
+/// The items that are shown: those of the select list.
+fn shown_items(plan: &Plan) -> &[Item<usize>]
+    ensures items { result.now ≡ take (length plan.now.headings) plan.now.items }
+    ensures short { list_any is_long result.now ≡ false }
 {
+    let items = plan.items();
     let shown = plan.headings().len();
-    let totals = row.totals.as_slice();
-    if shown > totals.len() {
+    if shown > items.len() {
+        return items;
+    }
+    &items[..shown]
+}
+
+/// The items that HAVING asks for, which stand behind the select list's.
+fn asked_items(plan: &Plan) -> &[Item<usize>]
+    ensures items { result.now ≡ drop (length plan.now.headings) plan.now.items }
+    ensures short { list_any is_long result.now ≡ false }
+{
+    let items = plan.items();
+    let shown = plan.headings().len();
+    if shown > items.len() {
         return &[];
     }
-    &totals[shown..]
+    &items[shown..]
 }
 
-/// Whether the plan's HAVING is true for the values of a group, if it has one.
-fn holds(plan: &Plan, row: &ReportRow) -> bool
-    ensures { result ≡ holds plan.now.having (drop (length plan.now.headings) row.now) }
+/// Whether the plan's HAVING is true for a group, if it has one. The values that it asks for are put into `asked` in place of those of
+/// another group, so that a group that is dropped takes no memory.
+fn holds<H: KeyHash<Cell>>(
+    plan: &Plan,
+    set: &[usize],
+    tuple: &Tuple,
+    accumulators: &[Held<H>],
+    asked: &mut Vec<Total>,
+) -> Result<bool, AllocError>
+    ensures { IfOk result (λ b. b ≡ holds plan.now.having (drop (length plan.now.headings) (row_by set.now tuple.now plan.now.items accumulators.now))) }
 {
-    match plan.having() {
-        None => true,
-        Some(predicate) => matches!(predicate.truth_of(asked(plan, row)), Truth::True),
-    }
+    let Some(predicate) = plan.having() else {
+        return Ok(true);
+    };
+    let left = behind(shown_items(plan), accumulators);
+    asked.clear();
+    add_values(asked, set, asked_items(plan), tuple, left)?;
+    Ok(matches!(predicate.truth_of(asked.as_slice()), Truth::True))
 }
 
-/// The row of a group as it is shown: the values of the select list, unless HAVING drops the group.
-fn shown(plan: &Plan, mut row: ReportRow) -> Option<ReportRow>
-    ensures { option_to_list result ≡ shown plan.now row }
+/// The row of a group as it is shown: the values of the select list, unless HAVING drops the group. `asked` is as [`holds`] has it.
+fn shown_row<H: KeyHash<Cell>>(
+    alloc: Global,
+    plan: &Plan,
+    set: &[usize],
+    tuple: &Tuple,
+    accumulators: &[Held<H>],
+    asked: &mut Vec<Total>,
+) -> Result<Option<ReportRow>, AllocError>
+    ensures { IfOk result (λ row. option_to_list row ≡ shown plan.now (row_by set.now tuple.now plan.now.items accumulators.now)) }
 {
-    if !holds(plan, &row) {
-        return None;
+    let stays = holds(plan, set, tuple, accumulators, asked)?;
+    if !stays {
+        return Ok(None);
     }
-    row.totals.truncate(plan.headings().len());
-    Some(row)
+    let row = row_of(alloc, set, shown_items(plan), tuple, accumulators)?;
+    Ok(Some(row))
 }
 
 /// Adds the row of each group that HAVING does not drop, in their order.
@@ -81,9 +116,11 @@ fn add_rows<H: KeyHash<Cell>>(
 ) -> Result<(), AllocError>
     ensures { IfOk result (λ _. rows.new.items ≡ rows.old.items ++ rows_by set.now plan.now (lent (into_iter_items groups.entry))) }
 {
+    let mut asked = Vec::new(alloc);
     for group in groups {
-        let row = row_of(alloc, set, plan.items(), group.0, group.1)?;
-        let Some(row) = shown(plan, row) else {
+        let accumulators = group.1.as_slice();
+        let made = shown_row(alloc, plan, set, group.0, accumulators, &mut asked)?;
+        let Some(row) = made else {
             continue;
         };
         rows.push(row)?;

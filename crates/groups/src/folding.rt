@@ -135,6 +135,7 @@ impl<'a, H: KeyHash<Cell> + KeyHash<Tuple>> Folding<'a, H> {
             aggregations.as_slice(),
             rows,
             sources.as_slice(),
+            plan.sets().len() == 1,
         )?;
         Ok(Folding {
             plan,

@@ -1,15 +1,14 @@
 //! The rows of a report.
-ghost use Rattle.std.specs.Prelude.{◌≡◌, ◌≤◌, IfOk, false, length, pos};
+ghost use Rattle.std.specs.Prelude.{◌≡◌, ◌≤◌, ◌++◌, IfOk, false, length, pos};
 ghost use Rattle.std.specs.List.{list_any};
 ghost use Rattle.cells.specs.TotalOrder.{cell_total};
-ghost use Rattle.groups.specs.Finishing.{behind_first, first_total, left_by, row_by, value_by};
+ghost use Rattle.groups.specs.Finishing.{behind_first, first_total, left_by, left_by_all, row_by, value_by};
 ghost use Rattle.groups.specs.Groups.{cell_at_index, grouping, mark};
 ghost use Rattle.query.specs.Limits.{grouping_limit};
 ghost use Rattle.query.specs.Values.{is_long};
 
-use crate::accumulators::Accumulators;
+use crate::held::Held;
 use crate::set_columns::index_in;
-use aggs::Acc;
 use cells::{Cell, KeyHash, Total, Tuple};
 use query::Item;
 use std::alloc::{AllocError, Global};
@@ -77,7 +76,9 @@ fn mark(index: Option<usize>) -> u64
 }
 
 /// The value of the first accumulator, and those behind it.
-fn next_total<'a, H: KeyHash<Cell>>(accs: &'a [Acc<H>]) -> Result<(Total, &'a [Acc<H>]), AllocError>
+fn next_total<'a, H: KeyHash<Cell>>(
+    accs: &'a [Held<H>],
+) -> Result<(Total, &'a [Held<H>]), AllocError>
     ensures total { IfOk result (λ r. r.0 ≡ first_total accs.now) }
     ensures left { IfOk result (λ r. r.1.now ≡ behind_first accs.now) }
 {
@@ -92,8 +93,8 @@ fn value_of<'a, H: KeyHash<Cell>>(
     item: &Item<usize>,
     set: &[usize],
     tuple: &Tuple,
-    accs: &'a [Acc<H>],
-) -> Result<(Total, &'a [Acc<H>]), AllocError>
+    accs: &'a [Held<H>],
+) -> Result<(Total, &'a [Held<H>]), AllocError>
     requires { is_long item.now ≡ false }
     ensures value { IfOk result (λ r. r.0 ≡ value_by set.now tuple.now item.now accs.now) }
     ensures left { IfOk result (λ r. r.1.now ≡ left_by item.now accs.now) }
@@ -110,23 +111,77 @@ fn value_of<'a, H: KeyHash<Cell>>(
     }
 }
 
-/// The row of a group: the values of all items of a plan, those of HAVING behind those of the select list.
+/// The row of a group: the values of the items, of which the accumulators are.
 pub(crate) fn row_of<H: KeyHash<Cell>>(
     alloc: Global,
     set: &[usize],
     items: &[Item<usize>],
     tuple: &Tuple,
-    accumulators: &Accumulators<H>,
+    accumulators: &[Held<H>],
 ) -> Result<ReportRow, AllocError>
     requires { list_any is_long items.now ≡ false }
     ensures { IfOk result (λ row. row ≡ row_by set.now tuple.now items.now accumulators.now) }
 {
-    let mut totals = Vec::new(alloc);
-    let mut accs = accumulators.as_slice();
+    let mut totals = Vec::with_capacity(alloc, items.len())?;
+    add_values(&mut totals, set, items, tuple, accumulators)?;
+    Ok(ReportRow { totals })
+}
+
+/// Puts the values of the items of a group behind those that are there.
+pub(crate) fn add_values<H: KeyHash<Cell>>(
+    values: &mut Vec<Total>,
+    set: &[usize],
+    items: &[Item<usize>],
+    tuple: &Tuple,
+    accumulators: &[Held<H>],
+) -> Result<(), AllocError>
+    requires { list_any is_long items.now ≡ false }
+    ensures { IfOk result (λ _. values.new.items ≡ values.old.items ++ row_by set.now tuple.now items.now accumulators.now) }
+{
+    let mut accs = accumulators;
     for item in items {
         let (total, left) = value_of(item, set, tuple, accs)?;
-        totals.push(total)?;
+        values.push(total)?;
         accs = left;
     }
-    Ok(ReportRow { totals })
+    Ok(())
+}
+
+/// The accumulators that are left for the items behind these.
+pub(crate) fn behind<'a, H: KeyHash<Cell>>(
+    items: &[Item<usize>],
+    accumulators: &'a [Held<H>],
+) -> &'a [Held<H>]
+    ensures { result.now ≡ left_by_all items.now accumulators.now }
+{
+    let mut accs = accumulators;
+    for item in items {
+        accs = behind_one(item, accs);
+    }
+    accs
+}
+
+/// The accumulators that are left for the items behind this one.
+fn behind_one<'a, H: KeyHash<Cell>>(item: &Item<usize>, accs: &'a [Held<H>]) -> &'a [Held<H>]
+    ensures { result.now ≡ left_by item.now accs.now }
+{
+    match item {
+        Item::Column(_) | Item::Grouping(_) => accs,
+        Item::CountRows
+        | Item::Count(_)
+        | Item::CountDistinct(_)
+        | Item::Sum(_)
+        | Item::Min(_)
+        | Item::Max(_) => behind_first(accs),
+    }
+}
+
+/// The accumulators behind the first.
+fn behind_first<'a, H: KeyHash<Cell>>(accs: &'a [Held<H>]) -> &'a [Held<H>]
+    ensures { result.now ≡ behind_first accs.now }
+{
+    match accs.split_first() {
+        None => accs,
+        Some((_, left)) => left,
+    }
 }

@@ -10,13 +10,15 @@ ghost use Rattle.groups.specs.Parting.{codes_at};
 ghost use Rattle.groups.specs.Tallying.{AreTallied};
 
 use crate::differing::tallied_different;
+use crate::held::Held;
 use aggs::{Acc, Kind};
 use cells::{Cell, KeyHash};
 use columns::{CodeColumn, number_cell};
 use std::alloc::{AllocError, Global};
 
 /// Accumulators of `count` groups, each of the cells of its rows. `rows` has the indexes of the rows, and `numbers` the
-/// numbers of their groups. Each is stepped with each row of its group, unless different cells are to be counted.
+/// numbers of their groups. Each is stepped with each row of its group, unless different cells are to be counted. `alone` says that no
+/// other groups are likely to be put together with these; nothing rests on it.
 pub fn tallied<H: KeyHash<Cell>>(
     alloc: Global,
     kind: Kind,
@@ -24,13 +26,14 @@ pub fn tallied<H: KeyHash<Cell>>(
     numbers: &[u32],
     rows: &[u32],
     column: &CodeColumn,
-) -> Result<Vec<Acc<H>>, AllocError>
+    alone: bool,
+) -> Result<Vec<Held<H>>, AllocError>
     requires rows { HasRows column.now rows.now }
     requires numbers { (length numbers.now ≡ length rows.now) × AllByRecursion (λ n. n < count) numbers.now }
     ensures { IfOk result (λ v. AreTallied kind count numbers.now (decoded column.now.cells (codes_at column.now.by_row rows.now)) v.items) }
 {
     if let Kind::CountDistinct = kind {
-        let made = tallied_different(alloc, count, numbers, rows, column)?;
+        let made = tallied_different(alloc, count, numbers, rows, column, alone)?;
         return Ok(made);
     }
     match column.cells() {
@@ -48,7 +51,7 @@ fn tallied_listed<H: KeyHash<Cell>>(
     rows: &[u32],
     codes: &[u32],
     cells: &[Cell],
-) -> Result<Vec<Acc<H>>, AllocError>
+) -> Result<Vec<Held<H>>, AllocError>
     requires codes { AreCodes (Some cells.now) codes.now }
     requires rows { AreRowsOf codes.now rows.now }
     requires numbers { (length numbers.now ≡ length rows.now) × AllByRecursion (λ n. n < count) numbers.now }
@@ -70,7 +73,7 @@ fn tallied_numbers<H: KeyHash<Cell>>(
     numbers: &[u32],
     rows: &[u32],
     codes: &[u32],
-) -> Result<Vec<Acc<H>>, AllocError>
+) -> Result<Vec<Held<H>>, AllocError>
     requires rows { AreRowsOf codes.now rows.now }
     requires numbers { (length numbers.now ≡ length rows.now) × AllByRecursion (λ n. n < count) numbers.now }
     ensures { IfOk result (λ v. AreTallied kind count numbers.now (decoded None (codes_at codes.now rows.now)) v.items) }
@@ -88,7 +91,7 @@ pub fn counted<H: KeyHash<Cell>>(
     alloc: Global,
     count: usize,
     numbers: &[u32],
-) -> Result<Vec<Acc<H>>, AllocError>
+) -> Result<Vec<Held<H>>, AllocError>
     requires numbers { AllByRecursion (λ n. n < count) numbers.now }
     requires few { length numbers.now ≤ cell_limit }
     ensures { (cells : List Cell) → length cells ≡ length numbers.now → IfOk result (λ v. AreTallied kind.CountRows count numbers.now cells v.items) }
@@ -105,8 +108,8 @@ fn empty_accs<H: KeyHash<Cell>>(
     alloc: Global,
     kind: Kind,
     count: usize,
-) -> Result<Vec<Acc<H>>, AllocError>
+) -> Result<Vec<Held<H>>, AllocError>
     ensures { IfOk result (λ v. AreTallied kind count [] [] v.items) }
 {
-    Vec::from_elem(alloc, Acc::empty(kind), count)
+    Vec::from_elem(alloc, Held::of(Acc::empty(kind)), count)
 }

@@ -20,9 +20,8 @@ listed-requires g c =
     let tuples = groups.tuples.items in
     let all : AllByRecursion (λ accs. length accs ≡ length tuples) (map (λ accs. accs.items) c.in_ok-tallies.tallies.items) =
     tallies_long rows groups.numbers.items (length tuples) c.args.aggregations.now (map (λ accs. accs.items) c.in_ok-tallies.tallies.items) (c.in_ok-tallies.ensures c.requires.rows.rows c.requires.rows.held) in
-    subst (AllByRecursion (λ accs. length accs.items ≡ length c.as_slice.result.now)) (sym c.as_slice-2.ensures.value)
-    (subst (λ l. AllByRecursion (λ accs. length accs.items ≡ length l) c.in_ok-tallies.tallies.items) (sym c.as_slice.ensures.value)
-    (each_long (λ accs. accs.items) (length tuples) c.in_ok-tallies.tallies.items all))
+    subst (AllByRecursion (λ accs. length accs.items ≡ length tuples)) (sym c.as_slice.ensures.value)
+    (each_long (λ accs. accs.items) (length tuples) c.in_ok-tallies.tallies.items all)
 
 pub returns : goal.returns
 returns g c = λ all held.
@@ -30,6 +29,5 @@ returns g c = λ all held.
     let rows = picked_rows all c.args.rows.now in
     let lists = map (λ accs. accs.items) c.in_ok-tallies.tallies.items in
     subst (Covers c.args.aggregations.now c.args.set.now rows)
-    (sym (c.of.ensures ∙ c.in_ok-groups-2.ensures ∙ ap (λ l. groups_from l (map (λ accs. accs.items) c.as_slice-2.result.now)) c.as_slice.ensures.value ∙
-    ap (λ l. groups_from groups.tuples.items (map (λ accs. accs.items) l)) c.as_slice-2.ensures.value))
+    (sym (c.of.ensures ∙ c.in_ok-groups-2.ensures ∙ ap (λ l. groups_from groups.tuples.items (map (λ accs. accs.items) l)) c.as_slice.ensures.value))
     (covers_rows c.args.aggregations.now c.args.set.now rows groups.numbers.items groups.tuples.items lists (c.in_ok-groups.ensures all held) (c.in_ok-tallies.ensures all held))

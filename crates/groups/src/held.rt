@@ -1,0 +1,129 @@
+//! What is held of a group's cells for one aggregate.
+ghost use Rattle.std.specs.Prelude.{◌≡◌, [], ◌∷◌, IfOk, OnErr};
+ghost use Rattle.aggs.specs.Accs.{AccsFit, acc_of, acc_together, acc_total, kind_of};
+ghost use Rattle.aggs.specs.declared.acc.Kind.TheVariants as kind;
+
+use crate::different_cells::DifferentCells;
+use aggs::Acc;
+use cells::{Cell, KeyHash, Total};
+use std::alloc::{AllocError, Global};
+use std::marker::Model;
+
+/// What is held of a list of cells for one aggregate, seen as the accumulator of the list. Different cells may be in a list,
+/// which costs less than a trie as long as no others come to them.
+#[derive(Drop)]
+pub struct Held<H: KeyHash<Cell>> {
+    form: Form<H>,
+}
+
+/// Where it is held.
+#[derive(Drop)]
+enum Form<H: KeyHash<Cell>> {
+    Accumulator(Acc<H>),
+    Cells(DifferentCells),
+}
+
+impl<H: KeyHash<Cell>> Model for Held<H> {
+    ghost use Rattle.aggs.specs.declared.acc.Acc.{Acc};
+    ghost use Rattle.groups.specs.Codes.{coded_cells};
+    ghost use Rattle.groups.specs.Holding.{accumulator_of};
+    ghost use Rattle.std.specs.Coded.{codes};
+
+    ghost Value = { Acc H };
+
+    ghost coded = { Prim.hlevel (codes, coded_cells) };
+
+    ghost view = { λ h. accumulator_of h.form };
+}
+
+impl<H: KeyHash<Cell>> Clone for Held<H> {
+    ghost is_clone = { λ s t. t ≡ s };
+
+    fn clone(&self) -> Result<Held<H>, AllocError> {
+        match &self.form {
+            Form::Accumulator(accumulator) => Ok(Held::of(accumulator.clone()?)),
+            Form::Cells(cells) => Ok(Held {
+                form: Form::Cells(cells.share()?),
+            }),
+        }
+    }
+}
+
+impl<H: KeyHash<Cell>> Held<H> {
+    /// The accumulator itself. It takes no memory.
+    pub fn of(accumulator: Acc<H>) -> Held<H>
+        ensures { result ≡ accumulator }
+    {
+        Held {
+            form: Form::Accumulator(accumulator),
+        }
+    }
+
+    /// The different cells of a list, which COUNT DISTINCT counts: in a list where they are likely to stay alone, and else in
+    /// a trie.
+    pub fn of_different(alloc: Global, cells: Vec<Cell>, alone: bool) -> Result<Held<H>, AllocError>
+        ensures { IfOk result (λ h. h ≡ acc_of kind.CountDistinct cells.items) }
+    {
+        if !alone {
+            return Ok(Held::of(Acc::of_different(alloc, cells)?));
+        }
+        Ok(Held {
+            form: Form::Cells(DifferentCells::of(alloc, cells)?),
+        })
+    }
+
+    /// Makes it what is held of its list and the cell behind it. After a refusal it is as it was.
+    pub fn step(&mut self, alloc: Global, cell: &Cell) -> Result<(), AllocError>
+        requires { AccsFit self.old (acc_of (kind_of self.old) (cell.now ∷ [])) }
+        ensures stepped { IfOk result (λ _. self.new ≡ acc_together self.old (acc_of (kind_of self.old) (cell.now ∷ []))) }
+        ensures unchanged { OnErr result (self.new ≡ self.old) }
+    {
+        match &mut self.form {
+            Form::Accumulator(accumulator) => accumulator.step(alloc, cell),
+            Form::Cells(cells) => {
+                let mut accumulator = cells.accumulator(alloc)?;
+                accumulator.step(alloc, cell)?;
+                *self = Held::of(accumulator);
+                Ok(())
+            }
+        }
+    }
+
+    /// What is held of both lists put together.
+    pub fn join(&self, alloc: Global, other: &Held<H>) -> Result<Held<H>, AllocError>
+        requires { AccsFit self.now other.now }
+        ensures { IfOk result (λ both. both ≡ acc_together self.now other.now) }
+    {
+        match &self.form {
+            Form::Accumulator(first) => other.behind(alloc, first),
+            Form::Cells(cells) => {
+                let first = cells.accumulator(alloc)?;
+                other.behind(alloc, &first)
+            }
+        }
+    }
+
+    /// The same, of the first list's accumulator and this one.
+    fn behind(&self, alloc: Global, first: &Acc<H>) -> Result<Held<H>, AllocError>
+        requires { AccsFit first.now self.now }
+        ensures { IfOk result (λ both. both ≡ acc_together first.now self.now) }
+    {
+        match &self.form {
+            Form::Accumulator(second) => Ok(Held::of(first.join(alloc, second)?)),
+            Form::Cells(cells) => {
+                let second = cells.accumulator(alloc)?;
+                Ok(Held::of(first.join(alloc, &second)?))
+            }
+        }
+    }
+
+    /// The value of the aggregate over the list.
+    pub fn finish(&self) -> Result<Total, AllocError>
+        ensures { IfOk result (λ t. t ≡ acc_total self.now) }
+    {
+        match &self.form {
+            Form::Accumulator(accumulator) => accumulator.finish(),
+            Form::Cells(cells) => Ok(Total::Int(i128::from(cells.len()))),
+        }
+    }
+}
