@@ -1,20 +1,21 @@
-//! A caller of the engine that wants values: a session takes lines, and a query with a parameter is answered by rows.
+//! A caller of the engine that has values and wants values: cells go in as rows, and a query with a parameter is answered by rows.
 #![tactic(auto)]
 
-ghost use Rattle.std.specs.Prelude.{◌≡◌, ◌∷◌, [], IfOk, None};
+ghost use Rattle.std.specs.Prelude.{◌≡◌, ◌∷◌, [], IfOk, None, OnOk};
 ghost use Rattle.cells.specs.Hashes.{fnv_hash};
 ghost use Rattle.script.specs.Parameters.{filled};
-ghost use Rattle.script.specs.Sessions.{AnswersFilled, IsReply};
+ghost use Rattle.script.specs.Sessions.{AnswersFilled, IsReply, with_line};
+ghost use Rattle.script.specs.ValueLines.{publish_line, put_line};
 
 use cells::{Cell, Fnv, Refused};
 use crew::Open;
 use report::Pour;
-use script::{Answer, Session};
+use script::{Answer, Session, Undone};
 use std::alloc::Global;
 use std::sync::Wait;
 use std::thread::Threads;
 
-/// The reply of the session to a line.
+/// The reply of the session to a line, as one that declares its table.
 pub fn reply<R: Threads + Wait + Sync>(
     session: &mut Session<'_, Fnv, R, Open>,
     alloc: Global,
@@ -25,6 +26,17 @@ pub fn reply<R: Threads + Wait + Sync>(
     let mut out = Pour::new(Vec::new(alloc));
     session.line(line, &mut out)?;
     Ok(out.into_inner())
+}
+
+/// Puts a row of these cells, and makes the rows the next edition, whose number it gives.
+pub fn put_and_publish<R: Wait>(
+    session: &mut Session<'_, Fnv, R, Open>,
+    cells: &[Cell],
+) -> Result<u64, Undone>
+    ensures { OnOk result (session.new ≡ with_line (with_line session.old (put_line cells.now)) publish_line) }
+{
+    session.put(cells)?;
+    session.publish()
 }
 
 /// What a query with one parameter answers over the rows that stand published, where the parameter is this number: with

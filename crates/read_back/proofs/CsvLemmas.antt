@@ -18,11 +18,11 @@ use Rattle.forms.specs.Forms.{report_in}
 use Rattle.read_back.specs.CsvReading.{Reads, field_of}
 use Rattle.forms.specs.declared.form.Form.TheVariants.{Csv}
 
-or_right : (a b : Bool) → (a || b) ≡ false → b ≡ false
+pub or_right : (a b : Bool) → (a || b) ≡ false → b ≡ false
 or_right false b e = e
 or_right true b e = cc e
 
-or_left : (a b : Bool) → (a || b) ≡ false → a ≡ false
+pub or_left : (a b : Bool) → (a || b) ≡ false → a ≡ false
 or_left false b e = refl
 or_left true b e = cc e
 
@@ -106,10 +106,10 @@ signed_plain (pos n) = decimal_plain n
 signed_plain (negsuc n) = decimal_plain (suc n)
 
 -- a text that is not empty
-record IsBegun (text : List ℕ) : Type 0 where
-  first : ℕ
-  rest : List ℕ
-  is : text ≡ first ∷ rest
+pub record IsBegun (text : List ℕ) : Type 0 where
+  pub first : ℕ
+  pub rest : List ℕ
+  pub is : text ≡ first ∷ rest
 
 onto_begun : (k n d : ℕ) (acc : List ℕ) → IsBegun (digits_onto k 10 false n (d ∷ acc))
 onto_begun zero n d acc = record { first = d; rest = acc; is = refl }
@@ -127,14 +127,47 @@ decimal_begun n = elim (cases_Bool (n / 10 == 0)) [
       record { first = begun.first; rest = begun.rest; is = rw goes begun.is }
 ]
 
-signed_begun : (z : ℤ) → IsBegun (signed_decimal z)
+pub signed_begun : (z : ℤ) → IsBegun (signed_decimal z)
 signed_begun (pos n) = decimal_begun n
 signed_begun (negsuc n) = record { first = 45; rest = decimal (suc n); is = refl }
+
+-- and the first byte of an integer is low
+pub record IsLow (text : List ℕ) : Type 0 where
+  pub first : ℕ
+  pub rest : List ℕ
+  pub is : text ≡ first ∷ rest
+  pub low : first < 128
+
+glyph_low : (d : ℕ) → d < 16 → digit_glyph false d < 128
+glyph_low d small = elim (cases_Bool (nat_lt d 10)) [
+  | inl digit ↦ rw digit (omega arith)
+  | inr other ↦ rw other (omega arith)
+]
+
+onto_low : (k n d : ℕ) (acc : List ℕ) → d < 128 → IsLow (digits_onto k 10 false n (d ∷ acc))
+onto_low zero n d acc low = record { first = d; rest = acc; is = refl; low = low }
+onto_low (suc k) n d acc low = elim (cases_Bool (n / 10 == 0)) [
+  | inl last ↦ record { first = digit_glyph false (n % 10); rest = d ∷ acc; is = rw last refl; low = glyph_low (n % 10) (omega arith) }
+  | inr goes ↦ let more = onto_low k (n / 10) (digit_glyph false (n % 10)) (d ∷ acc) (glyph_low (n % 10) (omega arith)) in
+      record { first = more.first; rest = more.rest; is = rw goes more.is; low = more.low }
+]
+
+decimal_low : (n : ℕ) → IsLow (decimal n)
+unfolding digits
+decimal_low n = elim (cases_Bool (n / 10 == 0)) [
+  | inl last ↦ record { first = digit_glyph false (n % 10); rest = []; is = rw last refl; low = glyph_low (n % 10) (omega arith) }
+  | inr goes ↦ let more = onto_low 63 (n / 10) (digit_glyph false (n % 10)) [] (glyph_low (n % 10) (omega arith)) in
+      record { first = more.first; rest = more.rest; is = rw goes more.is; low = more.low }
+]
+
+pub signed_low : (z : ℤ) → IsLow (signed_decimal z)
+signed_low (pos n) = decimal_low n
+signed_low (negsuc n) = record { first = 45; rest = decimal (suc n); is = refl; low = omega arith }
 
 -- ---- records
 
 -- the fields behind the first
-abbrev later : {X : Type 0} → (X → List ℕ) → List X → List ℕ
+abbrev pub later : {X : Type 0} → (X → List ℕ) → List X → List ℕ
 later text xs = flat_map (λ x. 44 ∷ text x) xs
 
 -- a field is followed by a comma or by the end of the line
@@ -194,7 +227,7 @@ field_read Null = bare_field [] refl
 field_read (Int n) = bare_field (signed_decimal n) (signed_plain n)
 field_read (Text text) = text_field_read text
 
-begun_of : (text : List ℕ) → (length text == 0) ≡ false → IsBegun text
+pub begun_of : (text : List ℕ) → (length text == 0) ≡ false → IsBegun text
 begun_of [] e = cc e
 begun_of (b ∷ text) e = record { first = b; rest = text; is = refl }
 
@@ -220,7 +253,7 @@ lone_is Null (t ∷ totals) e = cc e
 lone_is (Int n) totals e = cc e
 lone_is (Text text) totals e = cc e
 
-row_read : (total : Total) (totals : List Total) (tail : List ℕ) →
+pub row_read : (total : Total) (totals : List Total) (tail : List ℕ) →
     next_record default_config st.StartRecord [] [] (csv_row (total ∷ totals) ++ tail) ≡ Some (map field_of (total ∷ totals), st.StartRecord, tail)
 unfolding next_record
 row_read total totals tail = elim (cases_Bool (is_lone_null (total ∷ totals))) [
@@ -255,7 +288,7 @@ all_read (heading ∷ headings) rows some full = (
 )
 
 -- a text that begins with a quote begins with no byte order mark
-quote_first : (bytes : List ℕ) → strip_bom (34 ∷ bytes) ≡ 34 ∷ bytes
+pub quote_first : (bytes : List ℕ) → strip_bom (34 ∷ bytes) ≡ 34 ∷ bytes
 unfolding strip_bom
 quote_first [] = refl
 quote_first (b ∷ []) = refl

@@ -1,3 +1,8 @@
 mod CsvLemmas
+mod CsvRowsLemmas
+mod FillingLemmas
+mod IntegersLemmas
 mod JsonLemmas
 mod JsonStringsLemmas
+mod TextsLemmas
+mod ValuesLemmas

@@ -1,2 +1,4 @@
 pub mod CsvReading
+pub mod Filling
 pub mod JsonReading
+pub mod ValueReading

@@ -1,5 +1,6 @@
 pub mod LoadsLemmas
 pub mod BlocksLemmas
+pub mod ChangesLemmas
 pub mod CommandsLemmas
 pub mod EndingsLemmas
 pub mod GalleryLemmas

@@ -1,5 +1,5 @@
 -- Rows of a load, laid over a draft.
-use Rattle.std.proofs.Common.{◌≡◌, ℕ, List, Result, subst, sym}
+use Rattle.std.proofs.Common.{ℕ, List, Result, subst, sym}
 use Rattle.board.specs.Editions.{Editions}
 use Rattle.board.specs.Editions as keeper
 use Rattle.cells.specs.CellOrder.{cell_cmp}

@@ -4,7 +4,7 @@ use Rattle.std.proofs.lemmas.Bool.{eqb-true}
 use Rattle.std.proofs.lemmas.Bool.Decides.{nat_tests}
 use Rattle.std.specs.Prelude.{option_and_then, option_map}
 use Rattle.cells.specs.declared.cell.Cell.{Cell}
-use Rattle.script.specs.Parameters.{PutsMark, at_end, at_mark, filled, filled_from, is_quoted, turned}
+use Rattle.script.specs.Parameters.{PutsMark, at_end, at_mark, filled_from, is_quoted, turned}
 
 abbrev Filled : Type 0
 Filled = Option (List ℕ)

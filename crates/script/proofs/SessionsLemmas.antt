@@ -72,7 +72,7 @@ pub heard_by_length : (before : Lines) (line : List ℕ) (number : ℕ) → numb
 heard_by_length before line number is more =
     sym (ap (λ a. a && not (nat_lt script_limit (length line))) (lt-ltb (length before) line_limit (elim (cases_lt (length before) line_limit) [ inl few ↦ few | inr many ↦ absurd (more (omega (arith, is, many))) ])))
 
-length-counted : (ls : Lines) → length (counted ls) ≡ length ls
+pub length-counted : (ls : Lines) → length (counted ls) ≡ length ls
 length-counted [] = refl
 length-counted (line ∷ before) = ap suc (length-counted before)
 
@@ -85,6 +85,24 @@ some_reply each hash givens before line = go (is_heard before line) refl where
   go false h = (refusal givens.manner.form (next_number before) (Line Limit), not_heard h refl)
 
 -- ---- a line that is heard
+
+-- it is told right whether it is refused after these, where that is told of it in a script
+pub told_after : (givens : Givens) (before : Lines) (line : List ℕ) → is_heard before line ≡ true → (refused : Bool) → Tells refused (IsRefusedLine givens (counted before) line) → Tells refused (IsRefusedAfter givens before line)
+told_after givens before line h true is = refused_heard h is
+told_after givens before line h false accepted = not_after where
+  not_after : IsRefusedAfter givens before line → ⊥
+  not_after (refused_heard k is) = accepted is
+  not_after (refused_unheard k) = absurd cc
+
+-- a session stands behind it, where it leaves the desk so
+pub stands_more : (givens : Givens) (before : Lines) (line : List ℕ) (desk after : Option Editions) (number : ℕ) → StandsBehind givens before desk number → is_heard before line ≡ true →
+    ((earlier : Lines) → IsBehind givens earlier desk → IsBehind givens (line ∷ earlier) after) →
+    (there : Option Editions) (ls : Lines) (last : ℕ) → there ≡ after → ls ≡ line ∷ before → last ≡ min (number + 1) line_limit → StandsBehind givens ls there last
+stands_more givens before line desk after number stands h leaves there ls last same are is =
+    subst (λ d. StandsBehind givens ls d last) (sym same) (subst (λ l. StandsBehind givens l after last) (sym are) (record {
+      behind = subst (λ l. IsBehind givens l after) (ap (λ b. (cond b line []) ∷ counted before) (sym h)) (leaves (counted before) stands.behind);
+      number_is = omega (arith, is, stands.number_is);
+    }))
 
 module _ (givens : Givens) (before : Lines) (line : List ℕ) (desk : Option Editions) (number next : ℕ) (stands : StandsBehind givens before desk number) (h : is_heard before line ≡ true) (next_is : next ≡ min (number + 1) line_limit) where
   -- a keeper may publish once more
@@ -114,21 +132,11 @@ module _ (givens : Givens) (before : Lines) (line : List ℕ) (desk : Option Edi
 
     -- it is told whether it was refused
     pub told_so : (refused : Bool) → refused ≡ is_refused block → Tells refused (IsRefusedAfter givens before line)
-    told_so refused same = subst (λ b. Tells b (IsRefusedAfter givens before line)) (sym same) (after_these (is_refused block) told.tells) where
-      not_after : (IsRefusedLine givens (counted before) line → ⊥) → IsRefusedAfter givens before line → ⊥
-      not_after accepted (refused_heard k is) = accepted is
-      not_after accepted (refused_unheard k) = absurd cc
-
-      after_these : (b : Bool) → Tells b (IsRefusedLine givens (counted before) line) → Tells b (IsRefusedAfter givens before line)
-      after_these true is = refused_heard h is
-      after_these false accepted = not_after accepted
+    told_so refused same = subst (λ b. Tells b (IsRefusedAfter givens before line)) (sym same) (told_after givens before line h (is_refused block) told.tells)
 
     -- a session stands behind it
     pub stands_heard : (there : Option Editions) (ls : Lines) (last : ℕ) → there ≡ after → ls ≡ line ∷ before → last ≡ min (number + 1) line_limit → StandsBehind givens ls there last
-    stands_heard there ls last same are is = subst (λ d. StandsBehind givens ls d last) (sym same) (subst (λ l. StandsBehind givens l after last) (sym are) (record {
-      behind = subst (λ l. IsBehind givens l after) (ap (λ b. (cond b line []) ∷ counted before) (sym h)) (steps.stands (counted before) stands.behind);
-      number_is = omega (arith, is, stands.number_is);
-    }))
+    stands_heard there ls last same are is = stands_more givens before line desk after number stands h steps.stands there ls last same are is
 
   -- one that wants a worker before it gives a block has workers
   pub wants_worker : HasWorkers (deed (schema_of_desk desk) line) → HasWorkers (deed_behind givens (counted before) line)

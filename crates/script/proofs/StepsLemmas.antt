@@ -487,6 +487,10 @@ blank givens (line ∷ before) e =
     let none = stays (declared givens before) (deed (declared givens before) line) e in
     blank_more givens before line (deed (declared givens before) line) (subst (λ t. IsFirst givens (deed t line)) (sym none) (first_deed givens line)) refl (blank givens before none)
 
+-- there is no edition before there is a table
+pub none_published : (givens : Givens) (before : Lines) → declared givens before ≡ None → edition givens before ≡ 0
+none_published givens before none = (blank givens before none).edition
+
 pub executes_declare : (hash : Cell → ℕ) (givens : Givens) (line : List ℕ) (number : ℕ) (t : Table) (k : Editions) (bytes : List ℕ)
     → deed None line ≡ Ok (Declares t) → Begins givens.limit t k → bytes ≡ [] → Executes hash givens line number None (Some k) bytes
 executes_declare hash givens line number t k bytes does begins none = record {

@@ -31,7 +31,7 @@ use Rattle.script.specs.Limits.{part_limit, script_limit}
 use Rattle.script.specs.Output.{InTwo, IsOutput, IsTooMuch, deed_behind, declared, edition, editions, is_publish, updates}
 use Rattle.script.specs.Output.{of_lines as output_of_lines, too_much as output_too_much}
 use Rattle.script.specs.Tails.{of_lines as tail_of_lines, too_much as tail_too_much}
-use Rattle.script.specs.Says.{Answer, MeansPlan, Says, answer, answer_of, no_plan, no_query, spelt}
+use Rattle.script.specs.Says.{MeansPlan, Says, answer, answer_of, no_plan, no_query, spelt}
 use Rattle.script.specs.Spelling.{refusal, view_heading, viewers_refused}
 use Rattle.script.specs.Tails.{AreViewers, AreViews, IsTailBehind, IsView, Viewing, last_view, no_viewer, turned_away, undeclared, view_first, viewed, viewer_first}
 use Rattle.script.specs.Desks.{IsBehind, Keeps, Stays}

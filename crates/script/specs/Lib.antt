@@ -1,4 +1,5 @@
 pub mod Blocks
+pub mod Changes
 pub mod ClassicSpelling
 pub mod CsvSpelling
 pub mod Deeds

@@ -5,6 +5,7 @@
 
 mod answer;
 mod block;
+mod change;
 mod classic_spelling;
 mod closing;
 mod command;
@@ -37,6 +38,7 @@ mod standing;
 mod statement;
 mod step;
 mod too_much;
+mod undone;
 mod unstarted;
 mod value_lines;
 mod viewing;
@@ -60,5 +62,6 @@ pub use on_refusal::OnRefusal;
 pub use running::{live, run, run_by, run_in};
 pub use session::Session;
 pub use setup::Setup;
+pub use undone::Undone;
 pub use value_lines::{delete_line, put_line};
 pub use viewing::Viewing;

@@ -1,11 +1,13 @@
 //! A session: one table that is open while lines come, of which each is answered before the next one is heard.
 ghost use Rattle.std.specs.Prelude.{◌≡◌, ◌+◌, ◌<◌, ◌^◌, ℕ, List, None, IfErr, IfOk, IfSome, IsErrOf, OnErr, OnOk, Err};
+ghost use Rattle.script.specs.Changes.{IsChangeLine, Takes, taken_in};
 ghost use Rattle.script.specs.Endings.{Ends, HasWorkers, refusal_named};
 ghost use Rattle.script.specs.Givens.{givens_in};
-ghost use Rattle.script.specs.Output.{deed_behind};
+ghost use Rattle.script.specs.Output.{deed_behind, edition};
 ghost use Rattle.script.specs.Parameters.{filled};
 ghost use Rattle.script.specs.Sessions.{AnswersAfter, AnswersFilled, Hearing, IsRefusedAfter, IsReply, counted, ended_by, unheard, was_refused, with_line};
 ghost use Rattle.script.specs.Stops.{Tells};
+ghost use Rattle.script.specs.ValueLines.{delete_line, publish_line, put_line};
 
 use crate::answer::Answer;
 use crate::ended::Ended;
@@ -16,10 +18,12 @@ use crate::on_refusal::OnRefusal;
 use crate::parameters::filled;
 use crate::setup::SpeltSetup;
 use crate::standing::Standing;
+use crate::undone::Undone;
+use crate::value_lines::{delete_line, put_line};
 use cells::{Cell, KeyHash, Refused, Tuple};
 use crew::Gate;
 use report::Out;
-use std::alloc::Global;
+use std::alloc::{AllocError, Global};
 use std::marker::Model;
 use std::sync::Wait;
 use std::thread::Threads;
@@ -154,5 +158,92 @@ impl<
             return Err(Refused::QuerySyntax);
         };
         self.standing.report(&self.setup, text.as_str())
+    }
+}
+
+impl<'a, H: KeyHash<Cell>, R: Wait, G: Gate> Session<'a, H, R, G> {
+    /// Puts a row of these cells, which stand in the order of the columns: it does what the line that they spell does
+    /// ([`put_line`]), counts as that line, and writes nothing.
+    ///
+    /// [`Undone::Refused`] exactly where that line is refused, with its rule, as [`Refused::NoTable`], [`Refused::BadRecord`] or
+    /// [`Refused::TooManyRows`]: nothing was put, and the session goes on. [`Undone::Ended`] where it is over, or ends here since a
+    /// growth was refused.
+    pub fn put(&mut self, cells: &[Cell]) -> Result<(), Undone>
+        ensures takes { self.old.ended ≡ None → Takes H.hash_of self.old.givens self.old.lines (put_line cells.now) result }
+        ensures counts { self.new ≡ taken_in self.old (put_line cells.now) result }
+        ensures over { IfSome self.old.ended (λ why. result ≡ Err (Undone.Ended why)) }
+    {
+        if let Some(why) = self.ended {
+            return Err(Undone::Ended(why));
+        }
+        match put_line(self.setup.alloc, cells) {
+            Ok(line) => self.change(line.as_slice()),
+            Err(AllocError) => Err(self.end()),
+        }
+    }
+
+    /// Deletes the row of this key, where there is one: it does what the line that the key spells does ([`delete_line`]), counts
+    /// as that line, and writes nothing.
+    ///
+    /// [`Undone::Refused`] exactly where that line is refused, with its rule, as [`Refused::NoTable`] or [`Refused::BadKey`];
+    /// [`Undone::Ended`] as of [`put`](Session::put).
+    pub fn delete(&mut self, key: &Cell) -> Result<(), Undone>
+        ensures takes { self.old.ended ≡ None → Takes H.hash_of self.old.givens self.old.lines (delete_line key.now) result }
+        ensures counts { self.new ≡ taken_in self.old (delete_line key.now) result }
+        ensures over { IfSome self.old.ended (λ why. result ≡ Err (Undone.Ended why)) }
+    {
+        if let Some(why) = self.ended {
+            return Err(Undone::Ended(why));
+        }
+        match delete_line(self.setup.alloc, key) {
+            Ok(line) => self.change(line.as_slice()),
+            Err(_) => Err(self.end()),
+        }
+    }
+
+    /// Makes the draft the next edition, and gives its number: it does what the line `publish` does, counts as that line, and
+    /// writes nothing. The gate is told of the publish, as of each refusal.
+    ///
+    /// [`Undone::Refused`] exactly where that line is refused, with its rule, as [`Refused::NoTable`]; [`Undone::Ended`] as of
+    /// [`put`](Session::put).
+    pub fn publish(&mut self) -> Result<u64, Undone>
+        ensures takes { self.old.ended ≡ None → Takes H.hash_of self.old.givens self.old.lines publish_line result }
+        ensures counts { self.new ≡ taken_in self.old publish_line result }
+        ensures edition { IfOk result (λ number. number ≡ edition self.new.givens (counted self.new.lines)) }
+        ensures over { IfSome self.old.ended (λ why. result ≡ Err (Undone.Ended why)) }
+    {
+        if let Some(why) = self.ended {
+            return Err(Undone::Ended(why));
+        }
+        match self.change(b"publish") {
+            Ok(()) => Ok(self.standing.edition()),
+            Err(why) => Err(why),
+        }
+    }
+
+    /// Does what a line says that puts, deletes or publishes, in a session that is open.
+    fn change(&mut self, line: &[u8]) -> Result<(), Undone>
+        requires open { self.old.ended ≡ None }
+        requires changes { IsChangeLine line.now }
+        ensures takes { Takes H.hash_of self.old.givens self.old.lines line.now result }
+        ensures counts { self.new ≡ taken_in self.old line.now result }
+    {
+        match self.standing.change(&self.setup, line) {
+            Ok(None) => Ok(()),
+            Ok(Some(rule)) => Err(Undone::Refused(rule)),
+            Err(AllocError) => {
+                self.ended = Some(Ended::OutOfMemory);
+                Err(Undone::Ended(Ended::OutOfMemory))
+            }
+        }
+    }
+
+    /// Ends the session for want of memory.
+    fn end(&mut self) -> Undone
+        ensures result { result ≡ Undone.Ended Ended.OutOfMemory }
+        ensures over { self.new ≡ ended_by self.old Ended.OutOfMemory }
+    {
+        self.ended = Some(Ended::OutOfMemory);
+        Undone::Ended(Ended::OutOfMemory)
     }
 }

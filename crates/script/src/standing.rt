@@ -4,14 +4,16 @@ ghost use Rattle.report.specs.Waiting.{Heads, WritesAll};
 ghost use Rattle.report.specs.declared.unwritten.Unwritten.TheVariants as unwritten;
 ghost use Rattle.report.specs.declared.want.Want.TheVariants as want;
 ghost use Rattle.script.specs.Blocks.{IsAsked, WillBe, is_refused};
+ghost use Rattle.script.specs.Changes.{IsChangeLine, IsRuled};
 ghost use Rattle.script.specs.Endings.{Ends, HasWorkers};
-ghost use Rattle.script.specs.Givens.{givens_in};
-ghost use Rattle.script.specs.Output.{deed_behind};
+ghost use Rattle.script.specs.Givens.{Givens, givens_in};
+ghost use Rattle.script.specs.Output.{deed_behind, edition};
 ghost use Rattle.script.specs.Sessions.{AnswersAfter, IsRefusedAfter, IsReply, StandsBehind, counted, is_heard, line_limit, was_refused};
 ghost use Rattle.script.specs.Stops.{Tells};
 
 use crate::answer::Answer;
 use crate::block::{Asked, Block, refuse};
+use crate::change::change;
 use crate::ended::Ended;
 use crate::fault::Fault;
 use crate::heard::Heard;
@@ -25,6 +27,7 @@ use crew::Gate;
 use query::each_text_has_an_answer;
 use report::{Out, Unwritten, write_whole};
 use shelf::{Shows, Told};
+use std::alloc::AllocError;
 use std::sync::Wait;
 use std::thread::Threads;
 
@@ -178,6 +181,79 @@ impl<H: KeyHash<Cell> + KeyHash<Tuple> + Send + Sync> Standing<H> {
         write_text(out, text.as_slice())?;
         self.count(line);
         Ok(Heard::Refused)
+    }
+}
+
+impl<H: KeyHash<Cell>> Standing<H> {
+    /// Does what a line says that puts, deletes or publishes, and writes nothing: it gives the rule that refuses the line, where
+    /// one does. A line that is too long, or comes when the numbers are used up, is refused.
+    pub(crate) fn change<G: Gate, R: Wait>(
+        &mut self,
+        setup: &SpeltSetup<'_, R, G>,
+        line: &[u8],
+    ) -> Result<Option<Refused>, AllocError>
+        requires stands { StandsBehind (givens_in setup.now.manner.now setup.now.how.now.rows setup.now.parts.now) self.old.lines.items self.old.desk self.old.number }
+        requires changes { IsChangeLine line.now }
+        ensures ruled { IfOk result (IsRuled H.hash_of (givens_in setup.now.manner.now setup.now.how.now.rows setup.now.parts.now) self.old.lines.items line.now) }
+        ensures stands { OnOk result (StandsBehind (givens_in setup.now.manner.now setup.now.how.now.rows setup.now.parts.now) self.new.lines.items self.new.desk self.new.number) }
+        ensures lines { OnOk result (self.new.lines.items ≡ line.now ∷ self.old.lines.items) }
+        ensures early { OnErr result (self.new.lines.items ≡ self.old.lines.items) }
+    {
+        if hears(self.number, line) {
+            return self.change_heard(setup, line);
+        }
+        Ok(self.leave(setup, line))
+    }
+
+    /// Does what such a line says that is heard. The gate is told of a refusal, as where the block is spelt.
+    fn change_heard<G: Gate, R: Wait>(
+        &mut self,
+        setup: &SpeltSetup<'_, R, G>,
+        line: &[u8],
+    ) -> Result<Option<Refused>, AllocError>
+        requires stands { StandsBehind (givens_in setup.now.manner.now setup.now.how.now.rows setup.now.parts.now) self.old.lines.items self.old.desk self.old.number }
+        requires heard { is_heard self.old.lines.items line.now ≡ true }
+        requires changes { IsChangeLine line.now }
+        ensures ruled { IfOk result (IsRuled H.hash_of (givens_in setup.now.manner.now setup.now.how.now.rows setup.now.parts.now) self.old.lines.items line.now) }
+        ensures stands { OnOk result (StandsBehind (givens_in setup.now.manner.now setup.now.how.now.rows setup.now.parts.now) self.new.lines.items self.new.desk self.new.number) }
+        ensures lines { OnOk result (self.new.lines.items ≡ line.now ∷ self.old.lines.items) }
+        ensures early { OnErr result (self.new.lines.items ≡ self.old.lines.items) }
+    {
+        let rule = change(setup, &mut self.desk, line)?;
+        self.count(line);
+        tell(setup, self.number, rule);
+        Ok(rule)
+    }
+
+    /// Passes over a line that is not heard.
+    fn leave<G: Gate, R>(&mut self, setup: &SpeltSetup<'_, R, G>, line: &[u8]) -> Option<Refused>
+        requires stands { StandsBehind (givens_in setup.now.manner.now setup.now.how.now.rows setup.now.parts.now) self.old.lines.items self.old.desk self.old.number }
+        requires unheard { is_heard self.old.lines.items line.now ≡ false }
+        ensures ruled { IsRuled H.hash_of (givens_in setup.now.manner.now setup.now.how.now.rows setup.now.parts.now) self.old.lines.items line.now result }
+        ensures stands { StandsBehind (givens_in setup.now.manner.now setup.now.how.now.rows setup.now.parts.now) self.new.lines.items self.new.desk self.new.number }
+        ensures lines { self.new.lines.items ≡ line.now ∷ self.old.lines.items }
+    {
+        self.count(line);
+        let rule = Some(Refused::Limit);
+        tell(setup, self.number, rule);
+        rule
+    }
+
+    /// The number of the last edition, 0 where no table is declared. It takes no memory.
+    pub(crate) fn edition(&self) -> u64
+        ensures { (givens : Givens) → StandsBehind givens self.now.lines.items self.now.desk self.now.number → result ≡ edition givens (counted self.now.lines.items) }
+    {
+        match &self.desk {
+            Some(keeper) => keeper.edition(),
+            None => 0,
+        }
+    }
+}
+
+/// Tells the gate that the line of this number is refused, where it is.
+fn tell<G: Gate, R>(setup: &SpeltSetup<'_, R, G>, number: u64, rule: Option<Refused>) {
+    if let Some(rule) = rule {
+        setup.gate.refused(number, rule);
     }
 }
 

@@ -1,10 +1,12 @@
 //! The step of one line: what it says is done, and its block is made.
-ghost use Rattle.std.specs.Prelude.{◌≡◌, ◌+◌, ◌<◌, ◌≤◌, ◌^◌, [], length, Err, IfErr, IfOk, IsErrOf, None, Ok, OnOk, Some};
+ghost use Rattle.std.specs.Prelude.{◌≡◌, ◌+◌, ◌<◌, ◌≤◌, ◌^◌, ℕ, [], length, Err, IfErr, IfOk, IsErrOf, None, Ok, OnOk, Some};
 ghost use Rattle.std.specs.FinMap.{remove};
 ghost use Rattle.cells.specs.Fitting.{IsRowOf};
 ghost use Rattle.board.specs.Editions.{ChangesDraft, Publishes};
 ghost use Rattle.board.specs.Editions as editions;
+ghost use Rattle.forms.specs.declared.form.Form.{Form};
 ghost use Rattle.script.specs.Blocks.{Steps, quiet};
+ghost use Rattle.script.specs.Changes.{change_text};
 ghost use Rattle.script.specs.Deeds.{deed};
 ghost use Rattle.report.specs.declared.want.Want.TheVariants as want;
 ghost use Rattle.script.specs.Endings.{HasWorkers};
@@ -21,7 +23,7 @@ use crate::reporting::execute_report;
 use crate::setup::SpeltSetup;
 use crate::statement::{Statement, read_first, read_statement};
 use board::{Keeper, rows_have_the_shape_of_their_keys};
-use cells::{Cell, KeyHash, Row, later_puts_lie_over};
+use cells::{Cell, KeyHash, Refused, Row, later_puts_lie_over};
 use crew::Gate;
 use report::Want;
 use std::alloc::{AllocError, Global};
@@ -146,14 +148,30 @@ fn put<H: KeyHash<Cell>, G: Gate, R>(
     requires row { IsRowOf (editions.schema keeper.old) row }
     ensures step { IfOk result (λ block. PutsRow setup.now.manner.now.form keeper.old keeper.new row number block.items) }
 {
+    match lay(keeper, row)? {
+        None => Ok(Vec::new(setup.alloc)),
+        Some(rule) => refuse(setup, number, Fault::Line(rule)),
+    }
+}
+
+/// The same, but for the text: it gives the rule that refuses the row, where one does.
+#[tactic(auto, using(crate::proofs::ChangesLemmas::laid, crate::proofs::ChangesLemmas::overflown))]
+pub fn lay<H: KeyHash<Cell>>(
+    keeper: &mut Keeper<H>,
+    row: Row,
+) -> Result<Option<Refused>, AllocError>
+    requires row { IsRowOf (editions.schema keeper.old) row }
+    ensures step { IfOk result (λ rule. (form : Form) (number : ℕ) → PutsRow form keeper.old keeper.new row number (change_text form number rule)) }
+{
     match keeper.put(row) {
-        Ok(()) => Ok(Vec::new(setup.alloc)),
-        Err(refused) => refuse(setup, number, Fault::Line(refused)),
+        Ok(()) => Ok(None),
+        Err(Refused::TooManyRows) => Ok(Some(Refused::TooManyRows)),
+        Err(_) => Err(AllocError),
     }
 }
 
 /// Takes the row of the key out of the draft.
-fn delete<H: KeyHash<Cell>>(
+pub fn delete<H: KeyHash<Cell>>(
     alloc: Global,
     keeper: &mut Keeper<H>,
     key: Cell,
