@@ -15,6 +15,8 @@ mod live;
 #[cfg(test)]
 mod runs;
 #[cfg(test)]
+mod values;
+#[cfg(test)]
 mod workers;
 #[cfg(test)]
 mod written;
