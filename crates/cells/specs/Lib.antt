@@ -5,6 +5,7 @@ pub mod Fitting
 pub mod Hashes
 pub mod Integers
 pub mod Laws
+pub mod Lent
 pub mod Limits
 pub mod Literals
 pub mod Reading

@@ -5,6 +5,8 @@
 mod cell;
 mod hash;
 mod integers;
+mod lent;
+mod lent_text;
 mod limits;
 mod reading;
 mod refused;
@@ -21,6 +23,8 @@ mod updates;
 pub use cell::Cell;
 pub use hash::{Fnv, KeyHash, Plain, worked_hashes};
 pub use integers::whole_number_of;
+pub use lent::LentCell;
+pub use lent_text::LentText;
 pub use limits::{MAX_COLUMNS, MAX_TEXT_BYTES};
 pub use reading::{schema_is_the_one_spelt, tokens_are_those_spelt};
 pub use refused::Refused;

@@ -1,12 +1,15 @@
 //! The rows of a table, and how they are read.
-ghost use Rattle.std.specs.Prelude.{◌≡◌, ◌++◌, ◌∷◌, ◌⊎◌, ℕ, List, [], None, IfErr, IfOk, IsErrOf, OnOk, map};
+ghost use Rattle.std.specs.Prelude.{◌≡◌, ◌++◌, ◌∷◌, ◌⊎◌, ℕ, List, [], None, IfErr, IfOk, IsErrOf, OnOk, length, map, slice_index_or};
 ghost use Rattle.cells.specs.Fitting.{IsRowOf};
+ghost use Rattle.cells.specs.Lent.{lent_cell};
 ghost use Rattle.cells.specs.Refusals.{Answers};
 ghost use Rattle.cells.specs.Records.{cell_of, row_of, text_cell};
 ghost use Rattle.cells.specs.RowReading.{HasRead};
+ghost use Rattle.cells.specs.declared.cell.Cell.TheVariants.{Null};
 
 use crate::cell::Cell;
 use crate::integers::integer_of;
+use crate::lent::LentCell;
 use crate::limits::MAX_TEXT_BYTES;
 use crate::refused::Refused;
 use crate::schema::{ColumnType, Schema};
@@ -59,18 +62,39 @@ impl Row {
         row.finish()
     }
 
-    /// The cells, in the order of the columns. It takes no memory.
-    pub fn cells(&self) -> &[Cell]
-        ensures { result.now ≡ self.now.cells }
+    /// The cell at an index, lent; NULL where the row has none there. It takes no memory.
+    pub fn cell(&self, index: usize) -> LentCell<'_>
+        ensures { lent_cell result ≡ slice_index_or self.now.cells index Null }
     {
-        self.cells.as_slice()
+        match self.cells.as_slice().get(index) {
+            Some(cell) => LentCell::of(cell),
+            None => LentCell::Null,
+        }
     }
 
-    /// The cell at the key. It takes no memory.
-    pub fn key(&self) -> &Cell
-        ensures { result.now ≡ self.now.key }
+    /// How many cells it has. It takes no memory.
+    pub fn width(&self) -> usize
+        ensures { result ≡ length self.now.cells }
     {
-        &self.cells[self.key]
+        self.cells.len()
+    }
+
+    /// All cells, in the order of the columns, lent.
+    pub fn cells(&self, alloc: Global) -> Result<Vec<LentCell<'_>>, AllocError>
+        ensures { IfOk result (λ v. map lent_cell v.items ≡ self.now.cells) }
+    {
+        let mut cells = Vec::with_capacity(alloc, self.width())?;
+        for index in 0..self.width() {
+            cells.push(self.cell(index))?;
+        }
+        Ok(cells)
+    }
+
+    /// The cell at the key, lent. It takes no memory.
+    pub fn key(&self) -> LentCell<'_>
+        ensures { lent_cell result ≡ self.now.key }
+    {
+        self.cell(self.key)
     }
 }
 

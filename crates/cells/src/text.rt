@@ -5,6 +5,7 @@ ghost use Rattle.std.specs.Cmp.Lexicographic.{nat_list_cmp_total, nat_list_eq_eq
 ghost use Rattle.cells.specs.TextOrder.{bytes_cmp};
 ghost use Rattle.cells.specs.Texts.{text_bytes};
 
+use crate::lent_text::LentText;
 use crate::short::{SHORT_BYTES, ShortText};
 use std::alloc::{AllocError, Global};
 use std::cmp::Ordering;
@@ -83,6 +84,18 @@ impl Text {
         match &self.form {
             Form::Short(short) => short.as_bytes(),
             Form::Long(string) => string.as_bytes(),
+        }
+    }
+}
+
+impl Text {
+    /// The text, lent. It takes no memory.
+    pub fn lent(&self) -> LentText<'_>
+        ensures { result.bytes.now ≡ self.now }
+    {
+        match &self.form {
+            Form::Short(short) => LentText::of(short.as_bytes()),
+            Form::Long(string) => LentText::of(string.as_str().as_bytes()),
         }
     }
 }

@@ -1,0 +1,51 @@
+//! Cells that are lent by a row, or by who owns them.
+ghost use Rattle.std.specs.Prelude.{◌≡◌, IfOk, true};
+ghost use Rattle.cells.specs.Lent.{lent_cell};
+
+use crate::cell::Cell;
+use crate::lent_text::LentText;
+use std::alloc::{AllocError, Global};
+
+/// A cell that is lent: by a row, which holds its cells in bytes, or by who owns the cell.
+#[derive(Clone, Copy, Debug, Drop)]
+pub enum LentCell<'a> {
+    Null,
+    Int(i64),
+    Text(LentText<'a>),
+}
+
+impl<'a> LentCell<'a> {
+    /// The cell, lent. It takes no memory.
+    pub fn of(cell: &'a Cell) -> LentCell<'a>
+        ensures { lent_cell result ≡ cell.entry.now }
+    {
+        match cell {
+            Cell::Null => LentCell::Null,
+            Cell::Int(n) => LentCell::Int(*n),
+            Cell::Text(text) => LentCell::Text(text.lent()),
+        }
+    }
+
+    /// A copy of it. Want of memory comes of a text of more than 14 bytes alone.
+    pub fn owned(self, alloc: Global) -> Result<Cell, AllocError>
+        ensures { IfOk result (λ cell. cell ≡ lent_cell self.entry) }
+    {
+        match self {
+            LentCell::Null => Ok(Cell::Null),
+            LentCell::Int(n) => Ok(Cell::Int(n)),
+            LentCell::Text(text) => Ok(Cell::Text(text.owned(alloc)?)),
+        }
+    }
+
+    /// Whether it is the same cell. It takes no memory.
+    pub fn is(self, cell: &Cell) -> bool
+        ensures { result ≡ true → lent_cell self.entry ≡ cell.now }
+    {
+        match (self, cell) {
+            (LentCell::Null, Cell::Null) => true,
+            (LentCell::Int(one), Cell::Int(other)) => one == *other,
+            (LentCell::Text(one), Cell::Text(other)) => one.bytes == other.as_bytes(),
+            _ => false,
+        }
+    }
+}
