@@ -5,7 +5,7 @@ use Rattle.std.proofs.Crossing.{crosses}
 use Rattle.cells.specs.Crossing.{cell_send, cell_sync}
 use Rattle.cells.specs.contracts.cell.Cell as Cell
 use Rattle.cells.specs.contracts.row.Row as Row
-use Rattle.columns.specs.contracts.kept_column.KeptColumn as KeptColumn
+use Rattle.columns.specs.contracts.code_column.CodeColumn as CodeColumn
 use Rattle.columns.specs.contracts.piece_columns.PieceColumns as PieceColumns
 use Rattle.columns.specs.contracts.piece_columns.PieceColumnsSummaryCellRow.TheImpl as TheSummary
 use Rattle.columns.specs.contracts.piece_columns.Place as Place
@@ -13,10 +13,10 @@ use Rattle.shelf.specs.Crossing.{shelf_send, shelf_sync}
 use Rattle.trie.specs.Crossing.{summed_send, summed_sync}
 use Rattle.trie.specs.contracts.beside.Summed as Summed
 
-column_send : IsSend KeptColumn.the_row
+column_send : IsSend CodeColumn.the_row
 column_send = let cell = cell_send in search (sendable, crosses) depth 40
 
-column_sync : IsSync KeptColumn.the_row
+column_sync : IsSync CodeColumn.the_row
 column_sync = let cell = cell_sync in search (sendable, crosses) depth 40
 
 place_send : IsSend Place.the_row

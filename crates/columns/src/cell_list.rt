@@ -17,34 +17,6 @@ const FEWEST_SLOTS: usize = 256;
 /// In how many slots a hint of a cell is looked for.
 const PROBES: usize = 32;
 
-/// Different cells of which each has its index as its code, and to which no more come.
-#[derive(Drop)]
-pub(crate) struct KeptCells {
-    cells: Vec<Cell>,
-}
-
-impl Model for KeptCells {
-    ghost use Rattle.std.specs.Prelude.{List};
-    ghost use Rattle.std.specs.Coded.{codes};
-    ghost use Rattle.cells.specs.Codes.{coded_cell};
-    ghost use Rattle.cells.specs.declared.cell.Cell.{Cell};
-
-    ghost Value = { List Cell };
-
-    ghost coded = { Prim.hlevel (codes, coded_cell) };
-
-    ghost view = { λ l. l.cells.items };
-}
-
-impl KeptCells {
-    /// The cells: that of a code has the code as its index. It takes no memory.
-    pub fn cells(&self) -> &[Cell]
-        ensures { result.now ≡ self.now }
-    {
-        self.cells.as_slice()
-    }
-}
-
 /// Different cells, of which each has its index as its code.
 ///
 /// Cells that come find their codes by hints, which rest on hashes. Nothing rests on the hints: a cell that they do not show
@@ -96,12 +68,17 @@ impl CellList {
     }
 
     /// The cells, for good: no more come.
-    pub fn kept(self) -> KeptCells
+    pub fn kept(self) -> CellList
         ensures { result ≡ self }
     {
-        let CellList { mut cells, .. } = self;
+        let CellList {
+            mut cells,
+            mut hints,
+        } = self;
         cells.shrink_to_fit();
-        KeptCells { cells }
+        hints.clear();
+        hints.shrink_to_fit();
+        CellList { cells, hints }
     }
 
     /// The codes of some cells, which are added where they are not found.

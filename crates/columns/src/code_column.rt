@@ -5,7 +5,6 @@ ghost use Rattle.columns.specs.Coding.{GivesList, Puts};
 ghost use Rattle.columns.specs.Columns.{AreCodes, cell_of, cells_of, decoded};
 
 use crate::cell_list::CellList;
-use crate::kept_column::KeptColumn;
 use crate::number_code::{number_cell, number_code};
 use crate::span::Span;
 use cells::Cell;
@@ -128,35 +127,35 @@ impl CodeColumn {
         }
     }
 
-    /// The same of a column to which no more cells come.
-    pub fn append_kept(&mut self, other: &KeptColumn) -> Result<(), AllocError>
-        ensures { OnOk result (Puts (cells_of other.now) self.old self.new) }
+    /// A copy of it.
+    pub(crate) fn copied(&self) -> Result<CodeColumn, AllocError>
+        ensures { IfOk result (λ copy. cells_of copy ≡ cells_of self.now) }
     {
-        self.by_row.reserve(other.by_row.len())?;
-        match other.cells() {
-            Some(cells) => self.append_listed(cells, other.codes()),
-            None => self.append_numbers(other.codes(), other.numbers),
-        }
+        let mut copy = CodeColumn::new(self.alloc);
+        copy.append(self)?;
+        Ok(copy)
     }
 
     /// The column, for good: no more cells come. What only serves to find codes goes.
-    pub fn kept(self) -> KeptColumn
+    pub(crate) fn kept(self) -> CodeColumn
         ensures { result ≡ self }
     {
         let CodeColumn {
+            alloc,
             mut by_row,
             list,
             numbers,
-            ..
         } = self;
         by_row.shrink_to_fit();
         match list {
-            Some(list) => KeptColumn {
+            Some(list) => CodeColumn {
+                alloc,
                 by_row,
                 list: Some(list.kept()),
                 numbers,
             },
-            None => KeptColumn {
+            None => CodeColumn {
+                alloc,
                 by_row,
                 list: None,
                 numbers,

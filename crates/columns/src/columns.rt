@@ -57,7 +57,7 @@ impl Columns {
     {
         for named in &self.columns {
             if named.index == index {
-                return Some(&named.column);
+                return Some(named.form.column());
             }
         }
         None
@@ -156,8 +156,10 @@ impl Columns {
         requires held { Hold (rows_of piece.now) self }
     {
         for named in self.columns {
-            let NamedColumn { index, column, .. } = named;
-            kept.put(rt, piece, index, column.kept(), laid);
+            let NamedColumn { index, form, .. } = named;
+            if let Ok(column) = form.kept() {
+                kept.put(rt, piece, index, column, laid);
+            }
         }
     }
 
@@ -182,7 +184,7 @@ impl Columns {
         ensures { self.new ≡ self.old }
     {
         for place in 0..self.columns.len() {
-            self.columns[place].column.forget_hints();
+            self.columns[place].form.forget_hints();
         }
     }
 

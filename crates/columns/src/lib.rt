@@ -5,7 +5,7 @@
 mod cell_list;
 mod code_column;
 mod columns;
-mod kept_column;
+mod form;
 mod named_column;
 mod number_code;
 mod piece_columns;
@@ -14,7 +14,6 @@ mod span;
 
 pub use code_column::CodeColumn;
 pub use columns::Columns;
-pub use kept_column::KeptColumn;
 pub use number_code::number_cell;
 pub use piece_columns::{PieceColumns, RowPiece, RowTrie};
 pub use span::Span;

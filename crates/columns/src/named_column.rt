@@ -6,6 +6,7 @@ ghost use Rattle.columns.specs.Coding.{PutsFor};
 ghost use Rattle.columns.specs.Columns.{cells_at, cells_of, rows_of};
 
 use crate::code_column::CodeColumn;
+use crate::form::Form;
 use crate::piece_columns::{PieceColumns, RowPiece, laid_out};
 use cells::{Cell, KeyHash, Row};
 use std::alloc::{AllocError, Global};
@@ -21,7 +22,7 @@ const NEAR_CELLS: usize = 4;
 #[derive(Drop)]
 pub(crate) struct NamedColumn {
     pub index: usize,
-    pub column: CodeColumn,
+    pub form: Form,
     // how many cells the last row had, and what was seen of cells that were looked at; nothing rests on them
     width: usize,
     seen: u64,
@@ -32,12 +33,13 @@ impl Model for NamedColumn {
     ghost use Rattle.std.specs.Coded.{codes};
     ghost use Rattle.cells.specs.Codes.{coded_cell};
     ghost use Rattle.columns.specs.Columns.{ColumnValue};
+    ghost use Rattle.columns.specs.Sharing.{column_of};
 
     ghost Value = { ℕ × ColumnValue };
 
     ghost coded = { Prim.hlevel (codes, coded_cell) };
 
-    ghost view = { λ c. (c.index, c.column) };
+    ghost view = { λ c. (c.index, column_of c.form) };
 }
 
 impl NamedColumn {
@@ -47,7 +49,7 @@ impl NamedColumn {
     {
         NamedColumn {
             index,
-            column: CodeColumn::new(alloc),
+            form: Form::Own(CodeColumn::new(alloc)),
             width: 0,
             seen: 0,
         }
@@ -59,13 +61,13 @@ impl NamedColumn {
     {
         let cell = row.cells().get(self.index).unwrap_or(&Cell::Null);
         self.width = row.cells().len();
-        self.column.push(cell)?;
+        self.form.push(cell)?;
         Ok(())
     }
 
     /// Whether its cells are far from their rows, so that it pays to look at them before they are taken. Nothing rests on it.
     pub fn is_far(&self) -> bool {
-        self.width > NEAR_CELLS || self.column.has_long_texts()
+        self.width > NEAR_CELLS || self.form.column().has_long_texts()
     }
 
     /// Looks at the row's cell. What is seen is kept, since a load of which nothing is kept would be left out.
@@ -101,11 +103,11 @@ impl NamedColumn {
         ensures { OnOk result (PutsFor (λ index. cells_at index (rows_of piece.now)) self.old self.new) }
     {
         if let Some(column) = kept.column_or_make(rt, alloc, piece, self.index, laid) {
-            self.column.append_kept(&column)?;
+            self.form.append_shared(column)?;
             return Ok(());
         }
         let column = laid_out(alloc, piece, self.index, laid)?;
-        self.column.append_kept(&column)?;
+        self.form.append(&column)?;
         Ok(())
     }
 
@@ -116,13 +118,13 @@ impl NamedColumn {
     {
         let NamedColumn {
             index,
-            mut column,
+            mut form,
             ..
         } = self;
-        column.append(other)?;
+        form.append(other)?;
         Ok(NamedColumn {
             index,
-            column,
+            form,
             width: 0,
             seen: 0,
         })

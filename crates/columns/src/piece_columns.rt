@@ -3,7 +3,7 @@ ghost use Rattle.std.specs.Prelude.{◌≡◌, IfOk, IfSome, None, Some};
 ghost use Rattle.columns.specs.Beside.{ArePlacesFor, IsPlaceFor};
 ghost use Rattle.columns.specs.Columns.{cells_at, cells_of, rows_of};
 
-use crate::kept_column::KeptColumn;
+use crate::code_column::CodeColumn;
 use crate::named_column::NamedColumn;
 use cells::{Cell, KeyHash, Row};
 use shelf::{Shelf, Shows, Told};
@@ -27,7 +27,7 @@ pub(crate) struct CellsAt {
     index: usize,
 }
 
-impl Promise<KeptColumn> for CellsAt {
+impl Promise<CodeColumn> for CellsAt {
     ghost use Rattle.std.specs.Prelude.{◌≡◌};
     ghost use Rattle.columns.specs.Columns.{cells_at, cells_of, rows_of};
 
@@ -45,7 +45,7 @@ impl<H: KeyHash<Cell>> Shows<RowPiece<H>, (Cell, Row)> for ItsEntries {
 #[derive(Drop)]
 pub(crate) struct Place {
     index: usize,
-    shelf: Shelf<KeptColumn, CellsAt>,
+    shelf: Shelf<CodeColumn, CellsAt>,
 }
 
 impl Place {
@@ -67,7 +67,7 @@ impl Place {
 
     /// Whether it is empty. Nothing rests on it.
     fn is_empty(&self) -> bool {
-        let nothing = move || -> Option<KeptColumn>
+        let nothing = move || -> Option<CodeColumn>
             ensures { result ≡ None }
         { None };
         self.shelf.value_or_make_again(nothing).is_none()
@@ -79,7 +79,7 @@ impl Place {
         rt: &R,
         piece: &RowPiece<H>,
         index: usize,
-        column: KeptColumn,
+        column: CodeColumn,
         laid: &AtomicU64,
     )
         requires place { IsPlaceFor piece.now self.now }
@@ -91,7 +91,7 @@ impl Place {
         drop(
             self.shelf.value_or_make(
                 rt,
-                move || -> Option<KeptColumn>
+                move || -> Option<CodeColumn>
                     ensures { result ≡ Some column }
                 {
                     laid.fetch_add(1, SeqCst);
@@ -109,7 +109,7 @@ impl Place {
         piece: &RowPiece<H>,
         index: usize,
         laid: &AtomicU64,
-    ) -> Option<Arc<KeptColumn>>
+    ) -> Option<Arc<CodeColumn>>
         requires { IsPlaceFor piece.now self.now }
         ensures { IfSome result (λ column. cells_of column.value ≡ cells_at index (rows_of piece.now)) }
     {
@@ -118,7 +118,7 @@ impl Place {
         }
         let found = self.shelf.value_or_make(
             rt,
-            move || -> Option<KeptColumn>
+            move || -> Option<CodeColumn>
                 ensures { IfSome result (λ column. cells_of column ≡ cells_at index (rows_of piece.entry.now)) }
             { laid_out(alloc, piece, index, laid).ok() },
         );
@@ -126,7 +126,7 @@ impl Place {
             return Some(column);
         }
         self.shelf.value_or_make_again(
-            move || -> Option<KeptColumn>
+            move || -> Option<CodeColumn>
                 ensures { IfSome result (λ column. cells_of column ≡ cells_at index (rows_of piece.entry.now)) }
             { laid_out(alloc, piece, index, laid).ok() },
         )
@@ -200,7 +200,7 @@ impl PieceColumns {
         rt: &R,
         piece: &RowPiece<H>,
         index: usize,
-        column: KeptColumn,
+        column: CodeColumn,
         laid: &AtomicU64,
     )
         requires places { ArePlacesFor piece.now self.now.places.items }
@@ -222,7 +222,7 @@ impl PieceColumns {
         piece: &RowPiece<H>,
         index: usize,
         laid: &AtomicU64,
-    ) -> Option<Arc<KeptColumn>>
+    ) -> Option<Arc<CodeColumn>>
         requires { ArePlacesFor piece.now self.now.places.items }
         ensures { IfSome result (λ column. cells_of column.value ≡ cells_at index (rows_of piece.now)) }
     {
@@ -237,13 +237,13 @@ pub(crate) fn laid_out<H: KeyHash<Cell>>(
     piece: &RowPiece<H>,
     index: usize,
     laid: &AtomicU64,
-) -> Result<KeptColumn, AllocError>
+) -> Result<CodeColumn, AllocError>
     ensures { IfOk result (λ column. cells_of column ≡ cells_at index (rows_of piece.now)) }
 {
     laid.fetch_add(1, SeqCst);
     let mut column = NamedColumn::new(alloc, index);
     column.take_all(piece)?;
-    Ok(column.column.kept())
+    Ok(column.form.kept()?)
 }
 
 /// How many columns the first row that comes has. Nothing rests on it.
