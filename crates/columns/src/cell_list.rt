@@ -1,10 +1,11 @@
 //! A list of different cells, in which each cell finds its code.
 ghost use Rattle.std.specs.Prelude.{◌≡◌, ◌∷◌, ◌<◌, [], length, slice_index_or, IfOk, IfSome, OnErr};
+ghost use Rattle.cells.specs.Lent.{lent_cell};
 ghost use Rattle.cells.specs.declared.cell.Cell.TheVariants.{Null};
 ghost use Rattle.columns.specs.Coding.{Recode};
 
 use crate::quick_hash::quick_hash;
-use cells::Cell;
+use cells::{Cell, LentCell};
 use std::alloc::{AllocError, Global};
 use std::marker::Model;
 
@@ -87,7 +88,7 @@ impl CellList {
     {
         let mut codes = Vec::with_capacity(alloc, cells.len())?;
         for cell in cells {
-            let code = self.code_of(cell)?;
+            let code = self.code_of(alloc, LentCell::of(cell))?;
             codes.push(code)?;
         }
         Ok(codes)
@@ -95,8 +96,8 @@ impl CellList {
 
     /// The code of the cell, which is added where it is not found. The only error is that a growth was refused, as that of a
     /// list of 4,294,967,296 different cells is.
-    pub fn code_of(&mut self, cell: &Cell) -> Result<u32, AllocError>
-        ensures code { IfOk result (λ code. Recode (cell.now ∷ []) self.old self.new (code ∷ [])) }
+    pub fn code_of(&mut self, alloc: Global, cell: LentCell<'_>) -> Result<u32, AllocError>
+        ensures code { IfOk result (λ code. Recode (lent_cell cell.entry ∷ []) self.old self.new (code ∷ [])) }
         ensures refused { OnErr result (self.new ≡ self.old) }
     {
         self.make_room()?;
@@ -104,15 +105,15 @@ impl CellList {
             Ok(code) => return Ok(code),
             Err(slot) => slot,
         };
-        let code = self.add(cell)?;
+        let code = self.add(alloc, cell)?;
         self.hint(slot, code);
         Ok(code)
     }
 
     /// The code of the cell, if a hint shows it; else the slot for its hint. It takes no memory.
-    fn code_or_slot(&self, cell: &Cell) -> Result<u32, usize>
+    fn code_or_slot(&self, cell: LentCell<'_>) -> Result<u32, usize>
         ensures within { IfOk result (λ code. code < length self.now) }
-        ensures found { IfOk result (λ code. slice_index_or self.now code Null ≡ cell.now) }
+        ensures found { IfOk result (λ code. slice_index_or self.now code Null ≡ lent_cell cell.entry) }
     {
         let mut slot = self.first_slot(cell);
         for _probe in 0..PROBES {
@@ -128,13 +129,13 @@ impl CellList {
     }
 
     /// The code in the slot, if it is the cell's. It takes no memory.
-    fn shown(&self, slot: usize, cell: &Cell) -> Option<u32>
+    fn shown(&self, slot: usize, cell: LentCell<'_>) -> Option<u32>
         ensures within { IfSome result (λ code. code < length self.now) }
-        ensures found { IfSome result (λ code. slice_index_or self.now code Null ≡ cell.now) }
+        ensures found { IfSome result (λ code. slice_index_or self.now code Null ≡ lent_cell cell.entry) }
     {
         let code = *self.hints.get(slot)?;
         let found = self.cells.get(code as usize)?;
-        if *found == *cell { Some(code) } else { None }
+        if cell.is(found) { Some(code) } else { None }
     }
 
     /// Whether the slot has no hint. Nothing rests on it.
@@ -146,7 +147,7 @@ impl CellList {
     }
 
     /// The slot from which on a hint of the cell is looked for. Nothing rests on it.
-    fn first_slot(&self, cell: &Cell) -> usize {
+    fn first_slot(&self, cell: LentCell<'_>) -> usize {
         let hash = quick_hash(cell) as usize >> 32;
         hash.wrapping_mul(self.hints.len().saturating_sub(PROBES)) >> 32
     }
@@ -183,14 +184,14 @@ impl CellList {
         let Some(cell) = self.cells.get(index) else {
             return;
         };
-        let slot = self.free_slot(cell);
+        let slot = self.free_slot(LentCell::of(cell));
         if let Ok(code) = u32::try_from(index) {
             self.hint(slot, code);
         }
     }
 
     /// The slot for the hint of a cell that has none. Nothing rests on it.
-    fn free_slot(&self, cell: &Cell) -> usize {
+    fn free_slot(&self, cell: LentCell<'_>) -> usize {
         let mut slot = self.first_slot(cell);
         for _probe in 0..PROBES {
             if self.is_free(slot) {
@@ -202,15 +203,15 @@ impl CellList {
     }
 
     /// Adds a cell.
-    fn add(&mut self, cell: &Cell) -> Result<u32, AllocError>
-        ensures code { IfOk result (λ code. Recode (cell.now ∷ []) self.old self.new (code ∷ [])) }
+    fn add(&mut self, alloc: Global, cell: LentCell<'_>) -> Result<u32, AllocError>
+        ensures code { IfOk result (λ code. Recode (lent_cell cell.entry ∷ []) self.old self.new (code ∷ [])) }
         ensures refused { OnErr result (self.new ≡ self.old) }
     {
         if self.cells.len() > u32::MAX as usize {
             return Err(AllocError);
         }
         let code = self.cells.len() as u32;
-        self.cells.push(cell.clone()?)?;
+        self.cells.push(cell.owned(alloc)?)?;
         Ok(code)
     }
 }

@@ -1,13 +1,14 @@
 //! One column.
 ghost use Rattle.std.specs.Prelude.{◌≡◌, ◌∷◌, ◌++◌, [], None, Some, IfOk, OnOk};
 ghost use Rattle.std.specs.Option.{option_copied};
+ghost use Rattle.cells.specs.Lent.{lent_cell};
 ghost use Rattle.columns.specs.Coding.{GivesList, Puts};
 ghost use Rattle.columns.specs.Columns.{AreCodes, cell_of, cells_of, decoded};
 
 use crate::cell_list::CellList;
 use crate::number_code::{number_cell, number_code};
 use crate::span::Span;
-use cells::Cell;
+use cells::{Cell, LentCell};
 use std::alloc::{AllocError, Global};
 use std::marker::Model;
 
@@ -103,11 +104,11 @@ impl CodeColumn {
 
     /// Puts a cell after those that are there. The only error is that a growth was refused, as that of a list of
     /// 4,294,967,296 different cells is.
-    pub fn push(&mut self, cell: &Cell) -> Result<(), AllocError>
-        ensures { OnOk result (Puts (cell.now ∷ []) self.old self.new) }
+    pub fn push(&mut self, cell: LentCell<'_>) -> Result<(), AllocError>
+        ensures { OnOk result (Puts (lent_cell cell.entry ∷ []) self.old self.new) }
     {
         if let Some(list) = &mut self.list {
-            return push_code_of(list, &mut self.by_row, cell);
+            return push_code_of(self.alloc, list, &mut self.by_row, cell);
         }
         if let Some(code) = number_code(cell) {
             return self.push_code(code);
@@ -183,11 +184,12 @@ impl CodeColumn {
     }
 
     /// Puts a cell after those that are there, by the list of the different ones.
-    fn push_listed(&mut self, cell: &Cell) -> Result<(), AllocError>
-        ensures { OnOk result (Puts (cell.now ∷ []) self.old self.new) }
+    fn push_listed(&mut self, cell: LentCell<'_>) -> Result<(), AllocError>
+        ensures { OnOk result (Puts (lent_cell cell.entry ∷ []) self.old self.new) }
     {
+        let alloc = self.alloc;
         let mut list = self.take_list()?;
-        let code = list.code_of(cell)?;
+        let code = list.code_of(alloc, cell)?;
         self.push_code(code)?;
         self.list = Some(list);
         Ok(())
@@ -217,7 +219,7 @@ impl CodeColumn {
             return Ok(());
         }
         for code in codes {
-            self.push(&number_cell(*code))?;
+            self.push(LentCell::of(&number_cell(*code)))?;
         }
         Ok(())
     }
@@ -242,7 +244,7 @@ impl CodeColumn {
         let mut list = CellList::new(self.alloc);
         let mut codes = Vec::with_capacity(self.alloc, self.by_row.len())?;
         for code in &self.by_row {
-            let code = list.code_of(&number_cell(*code))?;
+            let code = list.code_of(self.alloc, LentCell::of(&number_cell(*code)))?;
             codes.push(code)?;
         }
         self.by_row = codes;
@@ -258,12 +260,17 @@ impl CodeColumn {
 }
 
 /// Puts the code of a cell behind codes of a list, which is grown where the cell is not found.
-fn push_code_of(list: &mut CellList, codes: &mut Vec<u32>, cell: &Cell) -> Result<(), AllocError>
+fn push_code_of(
+    alloc: Global,
+    list: &mut CellList,
+    codes: &mut Vec<u32>,
+    cell: LentCell<'_>,
+) -> Result<(), AllocError>
     requires { AreCodes (Some list.old) codes.old.items }
     ensures within { AreCodes (Some list.new) codes.new.items }
-    ensures puts { OnOk result (decoded (Some list.new) codes.new.items ≡ decoded (Some list.old) codes.old.items ++ cell.now ∷ []) }
+    ensures puts { OnOk result (decoded (Some list.new) codes.new.items ≡ decoded (Some list.old) codes.old.items ++ lent_cell cell.entry ∷ []) }
 {
-    let code = list.code_of(cell)?;
+    let code = list.code_of(alloc, cell)?;
     codes.push(code)?;
     Ok(())
 }

@@ -1,11 +1,12 @@
 //! A column that is made here, or one that lies beside a piece.
 ghost use Rattle.std.specs.Prelude.{◌≡◌, ◌∷◌, [], IfOk, OnOk};
+ghost use Rattle.cells.specs.Lent.{lent_cell};
 ghost use Rattle.columns.specs.Coding.{Puts};
 ghost use Rattle.columns.specs.Columns.{cells_of};
 ghost use Rattle.columns.specs.Sharing.{column_of};
 
 use crate::code_column::CodeColumn;
-use cells::Cell;
+use cells::LentCell;
 use std::alloc::AllocError;
 use std::sync::Arc;
 
@@ -29,8 +30,8 @@ impl Form {
     }
 
     /// Puts a cell after those that are there.
-    pub fn push(&mut self, cell: &Cell) -> Result<(), AllocError>
-        ensures { OnOk result (Puts (cell.now ∷ []) (column_of self.old) (column_of self.new)) }
+    pub fn push(&mut self, cell: LentCell<'_>) -> Result<(), AllocError>
+        ensures { OnOk result (Puts (lent_cell cell.entry ∷ []) (column_of self.old) (column_of self.new)) }
     {
         match self {
             Form::Own(column) => column.push(cell),

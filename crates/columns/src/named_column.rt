@@ -8,7 +8,7 @@ ghost use Rattle.columns.specs.Columns.{cells_at, cells_of, rows_of};
 use crate::code_column::CodeColumn;
 use crate::form::Form;
 use crate::piece_columns::{PieceColumns, RowPiece, laid_out};
-use cells::{Cell, KeyHash, Row};
+use cells::{Cell, KeyHash, LentCell, Row};
 use std::alloc::{AllocError, Global};
 use std::marker::Model;
 use std::sync::Wait;
@@ -59,9 +59,8 @@ impl NamedColumn {
     pub fn take(&mut self, row: &Row) -> Result<(), AllocError>
         ensures { OnOk result (PutsFor (λ index. cells_at index (row.now ∷ [])) self.old self.new) }
     {
-        let cell = row.cells().get(self.index).unwrap_or(&Cell::Null);
-        self.width = row.cells().len();
-        self.form.push(cell)?;
+        self.width = row.width();
+        self.form.push(row.cell(self.index))?;
         Ok(())
     }
 
@@ -74,9 +73,7 @@ impl NamedColumn {
     pub fn look_at(&mut self, row: &Row)
         ensures { self.new ≡ self.old }
     {
-        if let Some(cell) = row.cells().get(self.index) {
-            self.seen = self.seen.wrapping_add(seen_of(cell));
-        }
+        self.seen = self.seen.wrapping_add(seen_of(row.cell(self.index)));
     }
 
     /// Puts the cells of a piece's rows behind those that are there.
@@ -154,9 +151,10 @@ impl Visitor<Cell, Row> for NamedColumn {
 }
 
 /// Some number that can't be told before the cell was read, and the bytes of a text.
-fn seen_of(cell: &Cell) -> u64 {
+fn seen_of(cell: LentCell<'_>) -> u64 {
     match cell {
-        Cell::Text(text) => u64::from(text.as_bytes().last().copied().unwrap_or(0)),
-        other => u64::from(other.is_null()),
+        LentCell::Null => 1,
+        LentCell::Int(_) => 0,
+        LentCell::Text(text) => u64::from(text.bytes.last().copied().unwrap_or(0)),
     }
 }

@@ -1,9 +1,10 @@
 //! Codes of integers, by which a column holds them as they stand.
 ghost use Rattle.std.specs.Prelude.{◌≡◌, IfSome};
+ghost use Rattle.cells.specs.Lent.{lent_cell};
 ghost use Rattle.cells.specs.declared.cell.Cell.TheVariants.{Int};
 ghost use Rattle.columns.specs.Columns.{number_cell};
 
-use cells::Cell;
+use cells::{Cell, LentCell};
 
 /// How much more the code of an integer is than the integer: 2^31.
 const ABOVE: i64 = 0x8000_0000;
@@ -22,13 +23,13 @@ pub fn number_cell(code: u32) -> Cell
 }
 
 /// The code of a cell that is NULL or an integer from -2,147,483,647 to 2,147,483,647; None of any other. It takes no memory.
-pub(crate) fn number_code(cell: &Cell) -> Option<u32>
-    ensures { IfSome result (λ code. number_cell code ≡ cell.now) }
+pub(crate) fn number_code(cell: LentCell<'_>) -> Option<u32>
+    ensures { IfSome result (λ code. number_cell code ≡ lent_cell cell.entry) }
 {
     match cell {
-        Cell::Null => Some(NULL),
-        Cell::Int(number) => code_of(*number),
-        Cell::Text(_) => None,
+        LentCell::Null => Some(NULL),
+        LentCell::Int(number) => code_of(number),
+        LentCell::Text(_) => None,
     }
 }
 

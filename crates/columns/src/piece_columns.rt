@@ -260,7 +260,7 @@ impl Visitor<Cell, Row> for Width {
     ghost takes = { λ _ _ _ _. ⊤ };
 
     fn visit(&mut self, _key: &Cell, row: &Row) -> Result<(), AllocError> {
-        self.cells = row.cells().len();
+        self.cells = row.width();
         // This ends the walk.
         Err(AllocError)
     }

@@ -1,6 +1,6 @@
 //! A quick hash of a cell, by which its hint is looked for. Nothing rests on it.
 
-use cells::Cell;
+use cells::LentCell;
 
 /// An odd number whose digits have no pattern: 2^64 over the golden ratio.
 const MIXER: u64 = 0x9E37_79B9_7F4A_7C15;
@@ -9,11 +9,11 @@ const MIXER: u64 = 0x9E37_79B9_7F4A_7C15;
 const NULL: u64 = 0x5555_5555_5555_5555;
 
 /// A hash of the cell, whose best bits are at the top. A text costs a step for each eight bytes. It takes no memory.
-pub(crate) fn quick_hash(cell: &Cell) -> u64 {
+pub(crate) fn quick_hash(cell: LentCell<'_>) -> u64 {
     let number = match cell {
-        Cell::Null => NULL,
-        Cell::Int(value) => value.cast_unsigned(),
-        Cell::Text(text) => bytes_hash(text.as_bytes()),
+        LentCell::Null => NULL,
+        LentCell::Int(value) => value.cast_unsigned(),
+        LentCell::Text(text) => bytes_hash(text.bytes),
     };
     number.wrapping_mul(MIXER)
 }
