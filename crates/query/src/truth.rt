@@ -1,5 +1,5 @@
 //! The truth of a predicate over a row, or over the values of a group, in three values.
-ghost use Rattle.std.specs.Prelude.{◌≡◌, map};
+ghost use Rattle.std.specs.Prelude.{◌≡◌, List, map};
 ghost use Rattle.cells.specs.TotalOrder.{cell_total};
 ghost use Rattle.cells.specs.declared.total.Total.{Total};
 ghost use Rattle.query.specs.Lent.{total_of};
@@ -7,7 +7,7 @@ ghost use Rattle.query.specs.Truth.{among, and_truth, between, compared, is_null
 
 use crate::predicate::{Predicate, PredicateForm};
 use crate::test::{Comparison, Literal, Operand, Test};
-use cells::{Cell, Row, Text, Total};
+use cells::{Cell, LentCell, Row, Total};
 use std::cmp::Ordering;
 
 /// One of the three truth values of the standard (ISO/IEC 9075-2:1999, `<boolean value expression>`).
@@ -18,12 +18,12 @@ pub enum Truth {
     Unknown,
 }
 
-/// A value that a row, a group or a query lends. Integers have 128 bits, as sums do.
+/// A value that a row, a group or a query lends. Integers have 128 bits, as sums do; of a text these are the bytes.
 #[derive(Clone, Copy, Drop)]
 enum Value<'a> {
     Null,
     Int(i128),
-    Text(&'a Text),
+    Text(&'a [u8]),
 }
 
 /// What a predicate may be asked of a list of.
@@ -42,7 +42,7 @@ impl Valued for Cell {
         match self {
             Cell::Null => Value::Null,
             Cell::Int(n) => Value::Int(i128::from(*n)),
-            Cell::Text(text) => Value::Text(text),
+            Cell::Text(text) => Value::Text(text.as_bytes()),
         }
     }
 }
@@ -54,7 +54,51 @@ impl Valued for Total {
         match self {
             Total::Null => Value::Null,
             Total::Int(n) => Value::Int(*n),
-            Total::Text(text) => Value::Text(text),
+            Total::Text(text) => Value::Text(text.as_bytes()),
+        }
+    }
+}
+
+/// What a predicate may be asked of: a value for each index.
+trait Values {
+    /// The values, in the order of their indexes.
+    ghost totals: { Self → List Total };
+
+    /// The value at an index, and NULL where there is none.
+    fn value(&self, index: usize) -> Value<'_>
+        ensures { total_of result ≡ value_at (totals self.now) index };
+}
+
+impl Values for Row {
+    ghost use Rattle.std.specs.Prelude.{map};
+    ghost use Rattle.cells.specs.TotalOrder.{cell_total};
+
+    ghost totals = { λ row. map cell_total row.cells };
+
+    fn value(&self, index: usize) -> Value<'_> {
+        match self.cell(index) {
+            LentCell::Null => Value::Null,
+            LentCell::Int(n) => Value::Int(i128::from(n)),
+            LentCell::Text(text) => Value::Text(text.bytes),
+        }
+    }
+}
+
+/// A list of values.
+#[derive(Drop)]
+struct Listed<'a, V> {
+    values: &'a [V],
+}
+
+impl<'a, V: Valued> Values for Listed<'a, V> {
+    ghost use Rattle.std.specs.Prelude.{map};
+
+    ghost totals = { λ l. map V.total l.values.now };
+
+    fn value(&self, index: usize) -> Value<'_> {
+        match self.values.get(index) {
+            Some(value) => value.value(),
+            None => Value::Null,
         }
     }
 }
@@ -104,19 +148,16 @@ fn literal_value(literal: &Literal) -> Value
 {
     match literal {
         Literal::Int(n) => Value::Int(i128::from(*n)),
-        Literal::Text(text) => Value::Text(text),
+        Literal::Text(text) => Value::Text(text.as_bytes()),
     }
 }
 
 /// The value of an operand among the values, and NULL where there is none at its index.
-fn value_at<'a, V: Valued>(operand: &'a Operand<usize>, values: &'a [V]) -> Value<'a>
-    ensures { total_of result ≡ value_of (value_at (map V.total values.now)) operand.now }
+fn value_at<'a, S: Values>(operand: &'a Operand<usize>, values: &'a S) -> Value<'a>
+    ensures { total_of result ≡ value_of (value_at (S.totals values.now)) operand.now }
 {
     match operand {
-        Operand::Column(index) => match values.get(*index) {
-            Some(value) => value.value(),
-            None => Value::Null,
-        },
+        Operand::Column(index) => values.value(*index),
         Operand::Literal(literal) => literal_value(literal),
     }
 }
@@ -185,8 +226,8 @@ fn among(value: Value, literals: &[Literal]) -> Truth
 
 impl Test<usize> {
     /// The truth of the test over the values.
-    fn truth<V: Valued>(&self, row: &[V]) -> Truth
-        ensures { result ≡ test_truth (value_at (map V.total row.now)) self.now }
+    fn truth<S: Values>(&self, row: &S) -> Truth
+        ensures { result ≡ test_truth (value_at (S.totals row.now)) self.now }
     {
         match self {
             Test::Compare(a, comparison, b) => {
@@ -221,7 +262,7 @@ impl Predicate<usize> {
     pub fn truth(&self, row: &Row) -> Truth
         ensures { result ≡ truth self.now (map cell_total row.now.cells) }
     {
-        self.truth_of_cells(row.cells())
+        self.truth_over(row)
     }
 
     /// The truth of the predicate over cells, one at each index that it names. An index that is not there is
@@ -229,18 +270,18 @@ impl Predicate<usize> {
     pub fn truth_of_cells(&self, cells: &[Cell]) -> Truth
         ensures { result ≡ truth self.now (map cell_total cells.now) }
     {
-        self.truth_over(cells)
+        self.truth_over(&Listed { values: cells })
     }
 
     /// The truth of the predicate over values, one at each index that it names. It takes no memory.
     pub fn truth_of(&self, values: &[Total]) -> Truth
         ensures { result ≡ truth self.now values.now }
     {
-        self.truth_over(values)
+        self.truth_over(&Listed { values })
     }
 
-    fn truth_over<V: Valued>(&self, values: &[V]) -> Truth
-        ensures { result ≡ truth self.now (map V.total values.now) }
+    fn truth_over<S: Values>(&self, values: &S) -> Truth
+        ensures { result ≡ truth self.now (S.totals values.now) }
     {
         match &self.form {
             PredicateForm::Or(predicates) => {
