@@ -83,8 +83,9 @@ impl<H: KeyHash<Cell>> Keeper<H> {
         ensures refused { IfErr result (λ e. (e ≡ Refused.TooManyRows) ⊎ (e ≡ Refused.OutOfMemory)) }
         ensures unchanged { OnErr result (self.new ≡ self.old) }
     {
-        if has_room(&self.draft, row.key(), self.limit) {
-            self.draft = self.draft.put(row)?;
+        let key = row.key().owned(self.alloc)?;
+        if has_room(&self.draft, &key, self.limit) {
+            self.draft = self.draft.put(key, row)?;
             return Ok(());
         }
         Err(Refused::TooManyRows)

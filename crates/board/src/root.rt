@@ -74,13 +74,13 @@ impl<H: KeyHash<Cell>> Root<H> {
     }
 
     /// The rows with this one laid over the row of its key.
-    pub(crate) fn put(&self, row: Row) -> Result<Root<H>, AllocError>
-        requires { map.len self.now + 1 < 2 ^ 64 }
+    pub(crate) fn put(&self, key: Cell, row: Row) -> Result<Root<H>, AllocError>
+        requires key { key ≡ row.key }
+        requires room { map.len self.now + 1 < 2 ^ 64 }
         ensures { IfOk result (λ root. root ≡ map.insert self.now row.key row) }
     {
         entries_are_a_map::<Cell, Row, H>();
         entries_still_rise::<Cell, Row, H>();
-        let key = row.key().clone()?;
         let rows = self.rows.put(self.alloc, key, row, &mut Ticks::new())?;
         Ok(Root::of(self.alloc, rows))
     }

@@ -93,7 +93,7 @@ fn read_rows<H: KeyHash<Cell>>(
             Err(Refused::OutOfMemory) => return Err(AllocError),
             Err(_) => return Ok(Err(number)),
         };
-        let key = row.key().clone()?;
+        let key = row.key().owned(alloc)?;
         rows.push::<H>(key, row)?;
         number += 1;
     }

@@ -3,7 +3,7 @@ ghost use Rattle.std.specs.Prelude.{◌≤◌};
 ghost use Rattle.board.specs.Limits.{row_limit};
 
 use board::Keeper;
-use cells::{Cell, Plain, Refused, Row, Schema};
+use cells::{Cell, LentCell, Plain, Refused, Row, Schema};
 use std::alloc::Global;
 use std::process::Abort;
 use std::sync::Wait;
@@ -46,8 +46,8 @@ fn apply(
 fn held_by(keeper: &Keeper<Plain>) -> Result<(u64, u64, Option<i64>), Refused> {
     let snapshot = keeper.snapshot()?;
     let root = snapshot.root();
-    let value = match root.get(&Cell::Int(1)).map(|row| row.cells()) {
-        Some([_, Cell::Int(value)]) => Some(*value),
+    let value = match root.get(&Cell::Int(1)).map(|row| row.cell(1)) {
+        Some(LentCell::Int(value)) => Some(value),
         _ => None,
     };
     Ok((snapshot.edition(), root.len(), value))

@@ -54,7 +54,7 @@ fn push_row(
     record: &[&[u8]],
 ) -> Result<(), Refused> {
     let row = Row::read(alloc, record, schema)?;
-    let key = row.key().clone()?;
+    let key = row.key().owned(alloc)?;
     pairs.push((key, row))?;
     Ok(())
 }
