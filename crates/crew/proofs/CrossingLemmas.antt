@@ -46,8 +46,11 @@ aggregation_send = search (sendable, crosses) depth 40
 column_send : IsSend CodeColumn.the_field.row
 column_send = let cell = cell_send in search (sendable, crosses) depth 40
 
+column_sync : IsSync CodeColumn.the_field.row
+column_sync = let cell = cell_sync in search (sendable, crosses) depth 40
+
 named_send : IsSend NamedColumn.the_field.row
-named_send = let column = column_send in search (sendable, crosses) depth 40
+named_send = let send = column_send in let sync = column_sync in search (sendable, crosses) depth 40
 
 columns_send : IsSend Columns.the_field.row
 columns_send = let column = named_send in search (sendable, crosses) depth 40
@@ -55,11 +58,8 @@ columns_send = let column = named_send in search (sendable, crosses) depth 40
 different_send : IsSend DifferentCells.the_field.row
 different_send = let send = cell_send in let sync = cell_sync in search (sendable, crosses) depth 40
 
-column_sync : IsSync CodeColumn.the_field.row
-column_sync = let cell = cell_sync in search (sendable, crosses) depth 40
-
 named_sync : IsSync NamedColumn.the_field.row
-named_sync = let column = column_sync in search (sendable, crosses) depth 40
+named_sync = let send = column_send in let sync = column_sync in search (sendable, crosses) depth 40
 
 columns_sync : IsSync Columns.the_field.row
 columns_sync = let column = named_sync in search (sendable, crosses) depth 40

@@ -16,9 +16,9 @@ use std::alloc::{AllocError, Global};
 use std::mem;
 use std::sync::Wait;
 
-// So many rows make a batch: what is noted of each of them while they are folded is near, and what is made of their groups costs
-// little beside them.
-const BATCH_ROWS: u64 = 32_768;
+// So many rows make a batch: what is made of their groups costs little beside them. A piece of so many rows is one by itself, so that
+// none of its columns is copied.
+const BATCH_ROWS: u64 = 2_048;
 
 /// The rows of some pieces: some of them are folded, and the columns that the plan needs hold the others. Where groups are few,
 /// a worker folds the rows that it drew batch by batch, so that they stay near; where they may be many, the columns of all rows are
