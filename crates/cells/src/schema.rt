@@ -40,14 +40,15 @@ pub struct Schema {
 }
 
 impl Model for Schema {
-    ghost use Rattle.std.specs.Prelude.{◌<◌, length};
+    ghost use Rattle.std.specs.Prelude.{◌<◌, ◌≤◌, length};
+    ghost use Rattle.cells.specs.Limits.{column_limit};
     ghost use Rattle.cells.specs.Values.{Table};
 
     ghost Value = { Table };
 
     ghost view = { λ s. record { name = s.name; columns = s.columns.items; key = s.key } };
 
-    ghost invariant = { λ s. s.key < length s.columns.items };
+    ghost invariant = { λ s. (s.key < length s.columns.items) × (length s.columns.items ≤ column_limit) };
 }
 
 /// A column definition: a column, and whether KEY stands behind it.
@@ -89,6 +90,13 @@ impl Schema {
         ensures { result.now ≡ self.now.columns }
     {
         self.columns.as_slice()
+    }
+
+    /// How many columns it has, of which there are so few that a byte holds their number. It takes no memory.
+    pub(crate) fn width(&self) -> u8
+        ensures { result ≡ length self.now.columns }
+    {
+        self.columns.len() as u8
     }
 
     /// The place of the key column among [`columns`](Schema::columns), counted from 0. It takes no memory.
