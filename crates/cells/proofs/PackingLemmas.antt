@@ -7,7 +7,8 @@ use Rattle.std.proofs.Math.Seq.{take-length}
 use Rattle.std.proofs.Math.Logic.{∥∥₁_elim}
 use mir.Val.{bits}
 use Rattle.std.proofs.lemmas.Bool.Decides.{nat_tests}
-use Rattle.std.proofs.lemmas.List.{append-nil, drop-append-le, take-append-le, drop-drop, get_or-drop, get_or_past, nil_from_length}
+use Rattle.std.proofs.lemmas.Grind.{merely}
+use Rattle.std.proofs.lemmas.List.{drop-append-le, take-append-le, drop-drop, get_or-drop, nil_from_length, take_all, take_more}
 use Rattle.std.proofs.lemmas.Nat.{from_le_bytes-to_le_bytes_2, from_le_bytes-to_le_bytes_4, from_le_bytes-to_le_bytes_8}
 use Rattle.std.proofs.lemmas.Int.{to_z-of_z}
 use Rattle.std.specs.Prelude.{ℤ, FitsSigned, IsUtf8, OnOk, Result, Ok, Err, is_ok, slice_index_or}
@@ -16,6 +17,7 @@ use Rattle.cells.specs.declared.cell.Cell.{Cell}
 use Rattle.cells.specs.declared.cell.Cell.TheVariants as cell
 use Rattle.cells.specs.declared.packing.CellForm.{CellForm}
 use Rattle.cells.specs.declared.packing.CellForm.TheVariants.{Null, Int32, Int64, ShortText, LongText}
+use Rattle.cells.specs.RowForms.{packed_row}
 use Rattle.cells.specs.Packing.{Fills, IsFirst, IsMoreBy, IsPacked, IsSpelt, cell_behind, cells_in, first_cell, first_size, form_of, long_len, size_behind}
 
 -- ---- the cell that stands first
@@ -89,6 +91,28 @@ module _ (own : List ℕ) where
   left-append : (bytes : List ℕ) → IsFirst bytes → drop (first_size (bytes ++ own)) (bytes ++ own) ≡ drop (first_size bytes) bytes ++ own
   left-append bytes whole = ap (λ n. drop n (bytes ++ own)) (size-append bytes whole.inside) ∙ drop-append-le (first_size bytes) bytes own whole.inside
 
+-- ---- that bytes are cells is a proposition
+
+IsSpelt-prop : (x : Cell) → IsProp (IsSpelt x)
+IsSpelt-prop cell.Null = hlevel
+IsSpelt-prop (cell.Int n) = hlevel
+IsSpelt-prop (cell.Text t) = hlevel
+
+IsFirst-prop : (bytes : List ℕ) → IsProp (IsFirst bytes)
+IsFirst-prop bytes = hlevel (IsSpelt-prop, le_prop)
+
+Fills-prop : (n : ℕ) (bytes : List ℕ) → IsProp (Fills n bytes)
+unfolding Fills
+Fills-prop zero bytes = hlevel ℕ_set
+Fills-prop (suc n) bytes = let first = IsFirst-prop bytes in let rest = Fills-prop n (drop (first_size bytes) bytes) in hlevel (first, rest)
+
+Fills-had : (n : ℕ) (bytes : List ℕ) → ∥ Fills n bytes ∥₁ → Fills n bytes
+Fills-had n bytes had = ∥∥₁_elim had (Fills-prop n bytes) (λ fills. fills)
+
+-- the same of equal numbers and bytes
+pub fills_as : (n m : ℕ) (bytes same : List ℕ) → ∥ Fills n bytes ∥₁ → m ≡ n → same ≡ bytes → Fills m same
+fills_as n m bytes same had count is = subst (Fills m) (sym is) (subst (λ k. Fills k bytes) (sym count) (Fills-had n bytes had))
+
 -- ---- one cell more
 
 fills_more : (n : ℕ) (bytes own : List ℕ) → Fills n bytes → Fills 1 own → Fills (suc n) (bytes ++ own)
@@ -105,78 +129,88 @@ cells_more (suc n) bytes own some =
     ∙ ap (λ bs. first_cell bytes ∷ cells_in (suc n) bs) (left-append own bytes some.0)
     ∙ ap (λ xs. first_cell bytes ∷ xs) (cells_more n (drop (first_size bytes) bytes) own some.1)
 
-module _ (n : ℕ) (x : Cell) (old new : List ℕ) (fills : Fills n old) (more : IsMoreBy x old new) where
-  pub more_fills : Fills (n + 1) new
+module _ (n : ℕ) (x : Cell) (old new : List ℕ) (had : ∥ Fills n old ∥₁) (more : IsMoreBy x old new) where
+  pub more_fills : ∥ Fills (n + 1) new ∥₁
   more_fills =
       let count : suc n ≡ n + 1 = omega arith in
-      subst (λ k. Fills k new) count (subst (Fills (suc n)) (sym more.is) (fills_more n old more.own fills more.packed.fills))
+      merely (subst (λ k. Fills k new) count (subst (Fills (suc n)) (sym more.is) (fills_more n old more.own (Fills-had n old had) more.packed.fills)))
 
   pub more_cells : cells_in (n + 1) new ≡ cells_in n old ++ x ∷ []
   more_cells =
       let count : n + 1 ≡ suc n = omega arith in
-      ap (λ k. cells_in k new) count ∙ ap (cells_in (suc n)) more.is ∙ cells_more n old more.own fills ∙ ap (λ y. cells_in n old ++ y ∷ []) more.packed.is
+      ap (λ k. cells_in k new) count ∙ ap (cells_in (suc n)) more.is ∙ cells_more n old more.own (Fills-had n old had) ∙ ap (λ y. cells_in n old ++ y ∷ []) more.packed.is
+
+-- no cells are no bytes
+pub fills_none : (bytes : List ℕ) → bytes ≡ [] → ∥ Fills 0 bytes ∥₁
+unfolding Fills
+fills_none bytes none = merely (ap length none)
+
+pub cells_in_none : (bytes : List ℕ) → cells_in 0 bytes ≡ []
+unfolding cells_in
+cells_in_none bytes = refl
+
+-- the row of equal parts
+pub packed_as : (key place n count : ℕ) (bytes same : List ℕ) → place ≡ key → count ≡ n → same ≡ bytes → packed_row place count same ≡ packed_row key n bytes
+packed_as key place n count bytes same p c b =
+    ap (λ k. packed_row k count same) p ∙ ap (λ k. packed_row key k same) c ∙ ap (packed_row key n) b
 
 pub cells_in-length : (n : ℕ) (bytes : List ℕ) → length (cells_in n bytes) ≡ n
 unfolding cells_in
 cells_in-length zero bytes = refl
 cells_in-length (suc n) bytes = ap suc (cells_in-length n (drop (first_size bytes) bytes))
 
--- ---- that bytes are cells is a proposition
-
-IsSpelt-prop : (x : Cell) → IsProp (IsSpelt x)
-IsSpelt-prop cell.Null = hlevel
-IsSpelt-prop (cell.Int n) = hlevel
-IsSpelt-prop (cell.Text t) = hlevel
-
-IsFirst-prop : (bytes : List ℕ) → IsProp (IsFirst bytes)
-IsFirst-prop bytes = hlevel (IsSpelt-prop, le_prop)
-
-Fills-prop : (n : ℕ) (bytes : List ℕ) → IsProp (Fills n bytes)
-unfolding Fills
-Fills-prop zero bytes = hlevel ℕ_set
-Fills-prop (suc n) bytes = let first = IsFirst-prop bytes in let rest = Fills-prop n (drop (first_size bytes) bytes) in hlevel (first, rest)
-
-pub Fills-had : (n : ℕ) (bytes : List ℕ) → ∥ Fills n bytes ∥₁ → Fills n bytes
-Fills-had n bytes had = ∥∥₁_elim had (Fills-prop n bytes) (λ fills. fills)
-
 -- ---- what is left behind the first cells
 
--- what is left of n cells behind the first i of them
-pub record IsLeft (n i : ℕ) (bytes rest : List ℕ) : Type 0 where
+-- of the n cells xs those behind the first i are left
+pub record IsLeft (n i : ℕ) (xs : List Cell) (rest : List ℕ) : Type 0 where
   pub fills : Fills (n - i) rest
-  pub cells : cells_in (n - i) rest ≡ drop i (cells_in n bytes)
+  pub cells : cells_in (n - i) rest ≡ drop i xs
 
-pub left_all : (n : ℕ) (bytes : List ℕ) → Fills n bytes → IsLeft n 0 bytes bytes
+pub left_all : (n : ℕ) (bytes : List ℕ) → Fills n bytes → IsLeft n 0 (cells_in n bytes) bytes
 left_all n bytes fills =
     let count : n - 0 ≡ n = omega arith in
     record { fills = subst (λ k. Fills k bytes) (sym count) fills; cells = ap (λ k. cells_in k bytes) count }
 
-module _ (n i : ℕ) (bytes rest : List ℕ) (inside : i < n) (left : IsLeft n i bytes rest) where
+-- the same of equal numbers, bytes and cells
+pub left_as : (n count : ℕ) (bytes same : List ℕ) (xs : List Cell) → ∥ Fills n bytes ∥₁ → count ≡ n → same ≡ bytes → cells_in n bytes ≡ xs → IsLeft count 0 xs same
+left_as n count bytes same xs had c b is =
+    subst (λ ys. IsLeft count 0 ys same) (ap (λ k. cells_in k same) c ∙ ap (cells_in n) b ∙ is) (left_all count same (fills_as n count bytes same had c b))
+
+left_length : (n i : ℕ) (xs : List Cell) (rest : List ℕ) → IsLeft n i xs rest → n - i ≡ length xs - i
+left_length n i xs rest left = sym (cells_in-length (n - i) rest) ∙ ap length left.cells ∙ length-drop i xs
+
+-- nothing is left
+pub left_none : (n i : ℕ) (xs : List Cell) (rest : List ℕ) → n ≤ i → IsLeft n i xs rest → take i xs ≡ xs
+left_none n i xs rest end left = let len = left_length n i xs rest left in take_all i xs (omega arith)
+
+module _ (n i : ℕ) (xs : List Cell) (rest : List ℕ) (inside : i < n) (left : IsLeft n i xs rest) where
   count : n - i ≡ suc (n - (i + 1))
   count = omega (arith, inside)
 
   fills_next : Fills (suc (n - (i + 1))) rest
   fills_next = subst (λ k. Fills k rest) count left.fills
 
-  cells_next : cells_in (suc (n - (i + 1))) rest ≡ drop i (cells_in n bytes)
+  cells_next : cells_in (suc (n - (i + 1))) rest ≡ drop i xs
   cells_next = ap (λ k. cells_in k rest) (sym count) ∙ left.cells
 
   pub left_first : IsFirst rest
   unfolding Fills
   left_first = fills_next.0
 
-  pub left_cell : (d : Cell) → first_cell rest ≡ slice_index_or (cells_in n bytes) i d
+  pub left_cell : (d : Cell) → first_cell rest ≡ slice_index_or xs i d
   unfolding cells_in
   left_cell d =
       let place : i + 0 ≡ i = omega arith in
-      ap (λ xs. get_or xs 0 d) cells_next ∙ get_or-drop i (cells_in n bytes) 0 d ∙ ap (λ k. get_or (cells_in n bytes) k d) place
+      ap (λ ys. get_or ys 0 d) cells_next ∙ get_or-drop i xs 0 d ∙ ap (λ k. get_or xs k d) place
 
-  pub left_next : IsLeft n (i + 1) bytes (drop (first_size rest) rest)
+  pub left_next : IsLeft n (i + 1) xs (drop (first_size rest) rest)
   unfolding Fills cells_in
-  left_next = record {
-    fills = fills_next.1;
-    cells = ap (drop 1) cells_next ∙ drop-drop 1 i (cells_in n bytes);
-  }
+  left_next = record { fills = fills_next.1; cells = ap (drop 1) cells_next ∙ drop-drop 1 i xs }
+
+  pub left_taken : take i xs ++ first_cell rest ∷ [] ≡ take (i + 1) xs
+  left_taken =
+      let len = left_length n i xs rest left in
+      ap (λ x. take i xs ++ x ∷ []) (left_cell cell.Null) ∙ sym (take_more xs i cell.Null (omega (arith, inside)))
 
 -- ---- the bytes of each form
 

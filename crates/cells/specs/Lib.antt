@@ -11,6 +11,7 @@ pub mod Literals
 pub mod Packing
 pub mod Reading
 pub mod Records
+pub mod RowBytes
 pub mod RowForms
 pub mod RowReading
 pub mod RowsFit

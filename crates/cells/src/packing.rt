@@ -6,7 +6,7 @@ ghost use Rattle.std.specs.Prelude.{◌≡◌, ◌+◌, ◌^◌, ◌<◌, ◌≤
 ghost use Rattle.std.specs.Int.{cast_signed, from_le_bytes, w32, w64};
 ghost use Rattle.cells.specs.Lent.{lent_cell};
 ghost use Rattle.cells.specs.Packing.{Fills, IsFirst, IsMoreBy, IsShort, cell_behind, cells_in, first_cell, first_size, form_of, long_len, size_behind};
-ghost use Rattle.cells.specs.RowForms.{row_bytes};
+ghost use Rattle.cells.specs.RowBytes.{row_bytes};
 ghost use Rattle.cells.specs.declared.cell.Cell.TheVariants.{Null};
 ghost use Rattle.cells.specs.declared.cell.Cell.TheVariants as cell;
 

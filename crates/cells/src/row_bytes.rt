@@ -1,6 +1,6 @@
 //! The bytes of a row that is read: near while they are few.
 ghost use Rattle.std.specs.Prelude.{◌≡◌, ◌++◌, [], IfOk, if◌then◌else◌, is_ok, length};
-ghost use Rattle.cells.specs.RowForms.{row_bytes};
+ghost use Rattle.cells.specs.RowBytes.{row_bytes};
 
 use crate::near_bytes::NearBytes;
 use std::alloc::{AllocError, Global};

@@ -1,7 +1,7 @@
 use Rattle.std.proofs.Common.{◌∷◌, [], ap, subst, sym}
 use Rattle.cells.specs.Lent.{lent_cell}
 use Rattle.cells.specs.Packing.{IsPacked}
-use Rattle.cells.specs.RowForms.{row_bytes}
+use Rattle.cells.specs.RowBytes.{row_bytes}
 use Rattle.cells.proofs.PackingLemmas.{more_by, packed_null}
 use Rattle.cells.proofs.packing.pack.Goals as goal
 

@@ -1,4 +1,4 @@
-use Rattle.cells.specs.RowForms.{row_bytes}
+use Rattle.cells.specs.RowBytes.{row_bytes}
 use Rattle.cells.proofs.PackingLemmas.{more_by, packed_large, packed_small}
 use Rattle.cells.proofs.packing.pack_int.Goals as goal
 

@@ -1,6 +1,6 @@
 use Rattle.std.proofs.Common.{◌∷◌, get_or, subst, sym}
 use Rattle.cells.specs.Packing.{IsPacked}
-use Rattle.cells.specs.RowForms.{row_bytes}
+use Rattle.cells.specs.RowBytes.{row_bytes}
 use Rattle.cells.specs.declared.cell.Cell.TheVariants.{Text}
 use Rattle.cells.proofs.PackingLemmas.{more_by, packed_short, packed_long}
 use Rattle.cells.proofs.packing.pack_text.Goals as goal
