@@ -1,5 +1,5 @@
 -- Cells in bytes: what stands first, what is left behind it, and one cell more.
-use Rattle.std.proofs.Common.{◌≡◌, ◌≢◌, ℕ, zero, suc, ◌+◌, ◌-◌, ◌<◌, ◌≤◌, ◌^◌, ◌==◌, Bool, true, false, cond, List, [], ◌∷◌, ◌++◌, length, take, drop, get_or, refl, sym, ap, ◌∙◌, subst, arith, length-append, length-drop}
+use Rattle.std.proofs.Common.{◌≡◌, ℕ, zero, suc, ◌+◌, ◌-◌, ◌<◌, ◌≤◌, ◌^◌, ◌==◌, false, cond, List, [], ◌∷◌, ◌++◌, length, take, drop, get_or, refl, sym, ap, ◌∙◌, subst, arith, length-append, length-drop}
 use Rattle.std.proofs.Math.Facts.{Fits-of_z}
 use Rattle.std.proofs.Math.Bridge.{le_prop}
 use Rattle.std.proofs.Math.Nat.{ℕ_set}
@@ -231,9 +231,10 @@ packed_by form first behind x formed size is spelt =
     let whole = size_is (first ∷ behind) first behind form refl formed in
     let same : first_cell (first ∷ behind) ≡ x = cell_is (first ∷ behind) first behind form refl formed ∙ is in
     record {
-      fills =
-          (record { inside = omega arith; spelt = subst IsSpelt (sym same) spelt },
-          ap length (drop_first (first ∷ behind) first behind form refl formed) ∙ (let left = length-drop (size_behind form behind) behind in omega arith));
+      fills = (
+        record { inside = omega arith; spelt = subst IsSpelt (sym same) spelt },
+        ap length (drop_first (first ∷ behind) first behind form refl formed) ∙ (let left = length-drop (size_behind form behind) behind in omega arith),
+      );
       is = same;
     }
 

@@ -78,7 +78,7 @@ module _ (start : RowStart) (t : Table) (xs : List Cell) (is : record { table = 
     spelt_next more o is_cell =
         had.spelt (f ∷ more)
         ∙ ap (λ columns. option_map (λ rest. xs ++ rest) (cells_of columns (f ∷ more)))
-          (ap (λ k. drop k t.columns) len ∙ drop_more t.columns n c inside ∙ ap (λ (d : Column). d ∷ drop (n + 1) t.columns) (sym at))
+        (ap (λ k. drop k t.columns) len ∙ drop_more t.columns n c inside ∙ ap (λ (d : Column). d ∷ drop (n + 1) t.columns) (sym at))
         ∙ ap (λ p. option_map (λ rest. xs ++ rest) (option_and_then (λ x. option_map (λ ys. x ∷ ys) (cells_of (drop (n + 1) t.columns) more)) p)) is_cell
 
     -- the field spells no cell of its column

@@ -156,7 +156,11 @@ pub(crate) fn cell_at(bytes: &[u8], count: usize, index: usize) -> LentCell<'_>
 }
 
 /// Appends the bytes of a cell. Where memory is wanting the bytes stay as they are.
-pub(crate) fn pack(bytes: &mut RowBytes, alloc: Global, cell: LentCell<'_>) -> Result<(), AllocError>
+pub(crate) fn pack(
+    bytes: &mut RowBytes,
+    alloc: Global,
+    cell: LentCell<'_>,
+) -> Result<(), AllocError>
     requires { IsShort (lent_cell cell) }
     ensures more { OnOk result (IsMoreBy (lent_cell cell.entry) (row_bytes bytes.old) (row_bytes bytes.new)) }
     ensures same { OnErr result (row_bytes bytes.new ≡ row_bytes bytes.old) }

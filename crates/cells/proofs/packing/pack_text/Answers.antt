@@ -13,6 +13,6 @@ pub returns-clause-more : goal.returns-clause-more
 returns-clause-more c =
     let text = c.args.text.bytes.now in
     let packed =
-        subst (λ len. IsPacked (Text text) (255 ∷ get_or len 0 0 ∷ get_or len 1 0 ∷ text)) (sym c.to_le_bytes.ensures)
-        (packed_long text c.args.text.spelt c.requires) in
+    subst (λ len. IsPacked (Text text) (255 ∷ get_or len 0 0 ∷ get_or len 1 0 ∷ text)) (sym c.to_le_bytes.ensures)
+    (packed_long text c.args.text.spelt c.requires) in
     more_by c.push-2.result _ (row_bytes c.args.bytes.now) _ _ c.push-2.ensures packed

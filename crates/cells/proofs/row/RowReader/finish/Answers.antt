@@ -1,4 +1,4 @@
-use Rattle.std.proofs.Common.{◌≡◌, ◌≢◌, ◌<◌, ◌≤◌, Some, ap, arith, inr, length, refl, rules, slice_index_or, sym, ◌∙◌}
+use Rattle.std.proofs.Common.{◌≡◌, ◌<◌, ◌≤◌, Some, ap, arith, inr, length, refl, slice_index_or, sym, ◌∙◌}
 use Rattle.cells.specs.Lent.{lent_cell}
 use Rattle.cells.specs.Packing.{cells_in}
 use Rattle.cells.specs.RowBytes.{row_bytes}

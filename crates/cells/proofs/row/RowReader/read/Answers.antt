@@ -1,4 +1,4 @@
-use Rattle.std.proofs.Common.{◌≡◌, ◌<◌, ◌≤◌, ap, arith, get_or, length, sym, ◌∙◌}
+use Rattle.std.proofs.Common.{◌<◌, ◌≤◌, ap, arith, get_or, length, sym, ◌∙◌}
 use Rattle.cells.specs.Lent.{lent_cell}
 use Rattle.cells.specs.Packing.{cells_in}
 use Rattle.cells.specs.Records.{cell_of}
