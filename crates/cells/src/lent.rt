@@ -28,7 +28,7 @@ impl<'a> LentCell<'a> {
     }
 
     /// Whether the cell is NULL. It takes no memory.
-    pub fn is_null(self) -> bool
+    pub(crate) fn is_null(self) -> bool
         ensures { IsTrue result ↔ (lent_cell self.entry ≡ Null) }
     {
         matches!(self, LentCell::Null)
