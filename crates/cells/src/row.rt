@@ -297,10 +297,7 @@ fn read_text(kind: ColumnType, text: &str) -> Option<LentCell<'_>>
     ensures short { IfSome result (λ cell. IsShort (lent_cell cell)) }
 {
     match kind {
-        ColumnType::Int => match integer_of(text) {
-            Some(n) => Some(LentCell::Int(n)),
-            None => None,
-        },
+        ColumnType::Int => Some(LentCell::Int(integer_of(text)?)),
         ColumnType::Text if text.len() <= MAX_TEXT_BYTES => {
             Some(LentCell::Text(LentText::of(text.as_bytes())))
         }
