@@ -9,6 +9,7 @@ pub mod MarksLemmas
 pub mod NamesLemmas
 pub mod NumbersLemmas
 pub mod OverLemmas
+pub mod PackingLemmas
 pub mod QuotesLemmas
 pub mod ReadingLemmas
 pub mod RecordsLemmas

@@ -8,8 +8,11 @@ pub mod Laws
 pub mod Lent
 pub mod Limits
 pub mod Literals
+pub mod Packing
 pub mod Reading
 pub mod Records
+pub mod RowBytes
+pub mod RowForms
 pub mod RowReading
 pub mod RowsFit
 pub mod Refusals

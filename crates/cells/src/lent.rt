@@ -1,6 +1,7 @@
 //! Cells that are lent by a row, or by who owns them.
-ghost use Rattle.std.specs.Prelude.{◌≡◌, IfOk, true};
+ghost use Rattle.std.specs.Prelude.{◌≡◌, ◌↔◌, IfOk, IsTrue, true};
 ghost use Rattle.cells.specs.Lent.{lent_cell};
+ghost use Rattle.cells.specs.declared.cell.Cell.TheVariants.{Null};
 
 use crate::cell::Cell;
 use crate::lent_text::LentText;
@@ -24,6 +25,13 @@ impl<'a> LentCell<'a> {
             Cell::Int(n) => LentCell::Int(*n),
             Cell::Text(text) => LentCell::Text(text.lent()),
         }
+    }
+
+    /// Whether the cell is NULL. It takes no memory.
+    pub(crate) fn is_null(self) -> bool
+        ensures { IsTrue result ↔ (lent_cell self.entry ≡ Null) }
+    {
+        matches!(self, LentCell::Null)
     }
 
     /// A copy of it. Want of memory comes of a text of more than 14 bytes alone.

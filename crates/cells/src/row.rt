@@ -1,46 +1,108 @@
 //! The rows of a table, and how they are read.
-ghost use Rattle.std.specs.Prelude.{◌≡◌, ◌++◌, ◌∷◌, ◌⊎◌, ℕ, List, [], None, IfErr, IfOk, IsErrOf, OnOk, length, map, slice_index_or};
+ghost use Rattle.std.specs.Prelude.{◌≡◌, ◌++◌, ◌∷◌, ◌⊎◌, ℕ, List, [], None, IfErr, IfOk, IfSome, IsErrOf, OnOk, length, map, option_map, slice_index_or};
 ghost use Rattle.cells.specs.Fitting.{IsRowOf};
 ghost use Rattle.cells.specs.Lent.{lent_cell};
+ghost use Rattle.cells.specs.Packing.{IsShort};
 ghost use Rattle.cells.specs.Refusals.{Answers};
 ghost use Rattle.cells.specs.Records.{cell_of, row_of, text_cell};
+ghost use Rattle.cells.specs.RowBytes.{row_bytes};
+ghost use Rattle.cells.specs.RowForms.{form_bytes, form_count, form_key};
 ghost use Rattle.cells.specs.RowReading.{HasRead};
 ghost use Rattle.cells.specs.declared.cell.Cell.TheVariants.{Null};
 
-use crate::cell::Cell;
 use crate::integers::integer_of;
 use crate::lent::LentCell;
+use crate::lent_text::LentText;
 use crate::limits::MAX_TEXT_BYTES;
+use crate::near_bytes::NearBytes;
+use crate::packing::{behind_first, cell_at, first_cell, pack};
 use crate::refused::Refused;
+use crate::row_bytes::RowBytes;
 use crate::schema::{ColumnType, Schema};
-use crate::text::Text;
-use smallvec::SmallVec;
 use std::alloc::{AllocError, Global};
 use std::marker::Model;
 
-/// Rows of at most so many cells lie in one block with whoever owns them: who comes to the row has come to its cells.
-const NEAR_CELLS: usize = 4;
-
-/// The cells of a row, in the row itself where there are few of them.
-type RowCells = SmallVec<Cell, NEAR_CELLS>;
-
 /// A row: a cell for each column, of the column's type or NULL, and no NULL at the key.
+///
+/// It holds its cells in bytes, and while these are few they lie in the row itself: who comes to the row has come to its
+/// cells.
 #[derive(Debug, Drop)]
 pub struct Row {
-    cells: RowCells,
-    key: usize,
+    form: Form,
+}
+
+/// Where the bytes of the cells lie. A row takes 32 bytes, in both forms: beside the bytes, or beside the vector of them,
+/// there is room for the place of the key and the number of the cells.
+#[derive(Debug, Drop)]
+enum Form {
+    Near {
+        key: u8,
+        count: u8,
+        bytes: NearBytes,
+    },
+    Far {
+        key: u8,
+        count: u8,
+        bytes: Vec<u8>,
+    },
 }
 
 impl Model for Row {
-    ghost use Rattle.std.specs.Prelude.{◌<◌, length, slice_index_or};
     ghost use Rattle.cells.specs.Values.{RowValue};
-    ghost use Rattle.cells.specs.declared.cell.Cell.TheVariants.{Null};
 
     ghost Value = { RowValue };
 
-    ghost view = { λ r. record { key = slice_index_or r.cells.items r.key Null; cells = r.cells.items } };
+    ghost use Rattle.cells.specs.Packing.{Fills};
+    ghost use Rattle.cells.specs.RowForms.{form_bytes, form_count, form_key, packed_row};
 
-    ghost invariant = { λ r. r.key < length r.cells.items };
+    ghost view = { λ r. packed_row (form_key r.form) (form_count r.form) (form_bytes r.form) };
+
+    ghost invariant = { λ r. ∥ Fills (form_count r.form) (form_bytes r.form) ∥₁ };
+}
+
+impl Form {
+    /// The bytes that were read, with the place of the key. No room stands empty behind bytes that lie elsewhere.
+    fn of(key: u8, count: u8, bytes: RowBytes) -> Form
+        ensures key { form_key result ≡ key }
+        ensures count { form_count result ≡ count }
+        ensures bytes { form_bytes result ≡ row_bytes bytes }
+    {
+        match bytes {
+            RowBytes::Near(bytes) => Form::Near { key, count, bytes },
+            RowBytes::Far(mut bytes) => {
+                bytes.shrink_to_fit();
+                Form::Far { key, count, bytes }
+            }
+        }
+    }
+
+    /// The place of the key.
+    fn key(&self) -> usize
+        ensures { result ≡ form_key self.now }
+    {
+        match self {
+            Form::Near { key, .. } | Form::Far { key, .. } => *key as usize,
+        }
+    }
+
+    /// How many cells there are.
+    fn count(&self) -> usize
+        ensures { result ≡ form_count self.now }
+    {
+        match self {
+            Form::Near { count, .. } | Form::Far { count, .. } => *count as usize,
+        }
+    }
+
+    /// The bytes of the cells.
+    fn bytes(&self) -> &[u8]
+        ensures { result.now ≡ form_bytes self.now }
+    {
+        match self {
+            Form::Near { bytes, .. } => bytes.as_slice(),
+            Form::Far { bytes, .. } => bytes.as_slice(),
+        }
+    }
 }
 
 impl Row {
@@ -66,26 +128,26 @@ impl Row {
     pub fn cell(&self, index: usize) -> LentCell<'_>
         ensures { lent_cell result ≡ slice_index_or self.now.cells index Null }
     {
-        match self.cells.as_slice().get(index) {
-            Some(cell) => LentCell::of(cell),
-            None => LentCell::Null,
-        }
+        cell_at(self.form.bytes(), self.form.count(), index)
     }
 
     /// How many cells it has. It takes no memory.
     pub fn width(&self) -> usize
         ensures { result ≡ length self.now.cells }
     {
-        self.cells.len()
+        self.form.count()
     }
 
     /// All cells, in the order of the columns, lent.
     pub fn cells(&self, alloc: Global) -> Result<Vec<LentCell<'_>>, AllocError>
         ensures { IfOk result (λ v. map lent_cell v.items ≡ self.now.cells) }
     {
-        let mut cells = Vec::with_capacity(alloc, self.width())?;
-        for index in 0..self.width() {
-            cells.push(self.cell(index))?;
+        let count = self.form.count();
+        let mut cells = Vec::with_capacity(alloc, count)?;
+        let mut rest = self.form.bytes();
+        for _i in 0..count {
+            cells.push(first_cell(rest))?;
+            rest = behind_first(rest);
         }
         Ok(cells)
     }
@@ -94,7 +156,7 @@ impl Row {
     pub fn key(&self) -> LentCell<'_>
         ensures { lent_cell result ≡ self.now.key }
     {
-        self.cell(self.key)
+        self.cell(self.form.key())
     }
 }
 
@@ -103,9 +165,27 @@ impl Clone for Row {
 
     fn clone(&self) -> Result<Row, AllocError> {
         Ok(Row {
-            cells: self.cells.clone()?,
-            key: self.key,
+            form: self.form.clone()?,
         })
+    }
+}
+
+impl Clone for Form {
+    ghost is_clone = { λ form copy. (form_key copy ≡ form_key form) × ((form_count copy ≡ form_count form) × (form_bytes copy ≡ form_bytes form)) };
+
+    fn clone(&self) -> Result<Form, AllocError> {
+        match self {
+            Form::Near { key, count, bytes } => Ok(Form::Near {
+                key: *key,
+                count: *count,
+                bytes: bytes.clone()?,
+            }),
+            Form::Far { key, count, bytes } => Ok(Form::Far {
+                key: *key,
+                count: *count,
+                bytes: bytes.clone()?,
+            }),
+        }
     }
 }
 
@@ -114,15 +194,23 @@ impl Clone for Row {
 pub struct RowReader<'a> {
     alloc: Global,
     schema: &'a Schema,
-    cells: RowCells,
+    bytes: RowBytes,
+    count: usize,
 }
 
 impl<'a> Model for RowReader<'a> {
+    ghost use Rattle.std.specs.Prelude.{◌≤◌};
+    ghost use Rattle.cells.specs.Limits.{column_limit};
     ghost use Rattle.cells.specs.RowReading.{RowStart};
 
     ghost Value = { RowStart };
 
-    ghost view = { λ r. record { table = r.schema.now; cells = r.cells.items } };
+    ghost use Rattle.cells.specs.Packing.{Fills, cells_in};
+    ghost use Rattle.cells.specs.RowBytes.{row_bytes};
+
+    ghost view = { λ r. record { table = r.schema.now; cells = cells_in r.count (row_bytes r.bytes) } };
+
+    ghost invariant = { λ r. (r.count ≤ column_limit) × ∥ Fills r.count (row_bytes r.bytes) ∥₁ };
 }
 
 impl<'a> RowReader<'a> {
@@ -131,11 +219,11 @@ impl<'a> RowReader<'a> {
         ensures table { IfOk result (λ row. row.table ≡ schema.now) }
         ensures nothing { IfOk result (HasRead []) }
     {
-        let cells = SmallVec::with_capacity(alloc, schema.columns().len())?;
         Ok(RowReader {
             alloc,
             schema,
-            cells,
+            bytes: RowBytes::new(),
+            count: 0,
         })
     }
 
@@ -149,11 +237,15 @@ impl<'a> RowReader<'a> {
         ensures bad { IsErrOf result Refused.BadRecord → (fields more : List (List ℕ)) → HasRead fields self.old → row_of self.old.table (fields ++ field.now ∷ more) ≡ None }
         ensures refused { IfErr result (λ e. (e ≡ Refused.BadRecord) ⊎ (e ≡ Refused.OutOfMemory)) }
     {
-        let Some(column) = self.schema.columns().get(self.cells.len()) else {
+        if self.count >= self.schema.width() {
+            return Err(Refused::BadRecord);
+        }
+        let kind = self.schema.columns()[self.count].kind;
+        let Some(cell) = read_cell(kind, field) else {
             return Err(Refused::BadRecord);
         };
-        let cell = read_cell(self.alloc, column.kind, field)?;
-        self.cells.push(cell)?;
+        pack(&mut self.bytes, self.alloc, cell)?;
+        self.count += 1;
         Ok(())
     }
 
@@ -165,41 +257,50 @@ impl<'a> RowReader<'a> {
         ensures fits { (fields : List (List ℕ)) → HasRead fields self.entry → IfOk result (IsRowOf self.entry.table) }
         ensures refused { IfErr result (λ e. e ≡ Refused.BadRecord) }
     {
-        let RowReader { schema, cells, .. } = self;
+        let RowReader {
+            schema,
+            bytes,
+            count,
+            ..
+        } = self;
         let key = schema.key();
-        if cells.len() < schema.columns().len() {
+        if count < schema.width() {
             return Err(Refused::BadRecord);
         }
-        if cells.as_slice()[key].is_null() {
+        if cell_at(bytes.as_slice(), count, key).is_null() {
             return Err(Refused::BadRecord);
         }
-        Ok(Row { cells, key })
+        Ok(Row {
+            form: Form::of(key as u8, count as u8, bytes),
+        })
     }
 }
 
-/// The cell that a field of a column spells.
+/// The cell that a field of a column spells, lent by the field. It takes no memory.
 #[tactic(auto, using(crate::proofs::RecordsLemmas::cell_of_text, crate::proofs::RecordsLemmas::cell_of_other))]
-fn read_cell(alloc: Global, kind: ColumnType, field: &[u8]) -> Result<Cell, Refused>
-    ensures { Answers Refused.BadRecord (cell_of kind field.now) result }
+fn read_cell(kind: ColumnType, field: &[u8]) -> Option<LentCell<'_>>
+    ensures exact { option_map lent_cell result ≡ cell_of kind field.now }
+    ensures short { IfSome result (λ cell. IsShort (lent_cell cell)) }
 {
     if field.is_empty() {
-        return Ok(Cell::Null);
+        return Some(LentCell::Null);
     }
     match str::from_utf8(field) {
-        Ok(text) => read_text(alloc, kind, text),
-        Err(_) => Err(Refused::BadRecord),
+        Ok(text) => read_text(kind, text),
+        Err(_) => None,
     }
 }
 
-/// The cell that a text of a column spells.
-fn read_text(alloc: Global, kind: ColumnType, text: &str) -> Result<Cell, Refused>
-    ensures { Answers Refused.BadRecord (text_cell kind text.now) result }
+/// The cell that a text of a column spells, lent by the text. It takes no memory.
+fn read_text(kind: ColumnType, text: &str) -> Option<LentCell<'_>>
+    ensures exact { option_map lent_cell result ≡ text_cell kind text.now }
+    ensures short { IfSome result (λ cell. IsShort (lent_cell cell)) }
 {
     match kind {
-        ColumnType::Int => integer_of(text).map(Cell::Int).ok_or(Refused::BadRecord),
-        ColumnType::Text if text.len() <= MAX_TEXT_BYTES => Ok(Cell::Text(Text::copied(
-            alloc, text,
-        )?)),
-        ColumnType::Text => Err(Refused::BadRecord),
+        ColumnType::Int => Some(LentCell::Int(integer_of(text)?)),
+        ColumnType::Text if text.len() <= MAX_TEXT_BYTES => {
+            Some(LentCell::Text(LentText::of(text.as_bytes())))
+        }
+        ColumnType::Text => None,
     }
 }

@@ -1,7 +1,8 @@
 //! The schema of a table, and how it is read.
-ghost use Rattle.std.specs.Prelude.{◌≡◌, ◌<◌, ◌⊎◌, ◌↔◌, List, [], ◌∷◌, IfOk, IfErr, IsTrue, MatchOption, Some, bytes_eq, count_by, length, map, position};
+ghost use Rattle.std.specs.Prelude.{◌≡◌, ◌<◌, ◌≤◌, ◌⊎◌, ◌↔◌, List, [], ◌∷◌, IfOk, IfErr, IsTrue, MatchOption, Some, bytes_eq, count_by, length, map, position};
 ghost use Rattle.std.specs.Bool.{Decides};
 ghost use Rattle.std.specs.List.{IsDistinct, list_any};
+ghost use Rattle.cells.specs.Limits.{column_limit};
 ghost use Rattle.cells.specs.Reading.{schema_of};
 ghost use Rattle.cells.specs.Refusals.{Answers, AnswersBy};
 ghost use Rattle.cells.specs.SchemaReading.{BeginsNot, SpellsColumns, definition_at, key_mark, key_place, mark_token, type_of};
@@ -40,14 +41,15 @@ pub struct Schema {
 }
 
 impl Model for Schema {
-    ghost use Rattle.std.specs.Prelude.{◌<◌, length};
+    ghost use Rattle.std.specs.Prelude.{◌<◌, ◌≤◌, length};
+    ghost use Rattle.cells.specs.Limits.{column_limit};
     ghost use Rattle.cells.specs.Values.{Table};
 
     ghost Value = { Table };
 
     ghost view = { λ s. record { name = s.name; columns = s.columns.items; key = s.key } };
 
-    ghost invariant = { λ s. s.key < length s.columns.items };
+    ghost invariant = { λ s. (s.key < length s.columns.items) × (length s.columns.items ≤ column_limit) };
 }
 
 /// A column definition: a column, and whether KEY stands behind it.
@@ -89,6 +91,14 @@ impl Schema {
         ensures { result.now ≡ self.now.columns }
     {
         self.columns.as_slice()
+    }
+
+    /// How many columns it has: at most [`MAX_COLUMNS`]. It takes no memory.
+    pub(crate) fn width(&self) -> usize
+        ensures value { result ≡ length self.now.columns }
+        ensures few { result ≤ column_limit }
+    {
+        self.columns.len()
     }
 
     /// The place of the key column among [`columns`](Schema::columns), counted from 0. It takes no memory.

@@ -1,6 +1,11 @@
 use Rattle.std.proofs.Common.{◌≡◌, map, take}
 use Rattle.cells.specs.Lent.{lent_cell}
+use Rattle.cells.proofs.PackingLemmas.{IsLeft}
 use Rattle.cells.proofs.row.Row.cells.Given as goal
 
-abbrev pub invariant-loop-index : goal.invariant-loop-index
-invariant-loop-index l = map lent_cell l.cells.items ≡ take l.index l.self.cells
+-- the cells so far, and those that are left
+abbrev pub invariant-loop-i : goal.invariant-loop-i
+invariant-loop-i l = record {
+  read : map lent_cell l.cells.items ≡ take l._i l.self.cells;
+  left : IsLeft l.count l._i l.self.cells l.rest;
+}
