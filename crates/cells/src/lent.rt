@@ -1,5 +1,5 @@
 //! Cells that are lent by a row, or by who owns them.
-ghost use Rattle.std.specs.Prelude.{◌≡◌, ◌↔◌, IfOk, IsTrue, true};
+ghost use Rattle.std.specs.Prelude.{◌≡◌, ◌↔◌, IfOk, IsTrue};
 ghost use Rattle.cells.specs.Lent.{lent_cell};
 ghost use Rattle.cells.specs.declared.cell.Cell.TheVariants.{Null};
 
@@ -47,7 +47,7 @@ impl<'a> LentCell<'a> {
 
     /// Whether it is the same cell. It takes no memory.
     pub fn is(self, cell: &Cell) -> bool
-        ensures { result ≡ true → lent_cell self.entry ≡ cell.now }
+        ensures { IsTrue result ↔ (lent_cell self.entry ≡ cell.now) }
     {
         match (self, cell) {
             (LentCell::Null, Cell::Null) => true,

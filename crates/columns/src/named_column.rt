@@ -15,7 +15,7 @@ use std::sync::Wait;
 use std::sync::atomic::AtomicU64;
 use trie::{Beside, Piece, Visitor};
 
-/// Rows of more cells than these have them in a block of their own.
+/// Rows of more cells than these have their bytes in a block of their own, for the most part.
 const NEAR_CELLS: usize = 4;
 
 /// A column, and the index that it has in the rows.
