@@ -4,7 +4,7 @@ use Rattle.std.proofs.Math.Facts.{Fits-of_z}
 use Rattle.std.proofs.Math.Bridge.{le_prop}
 use Rattle.std.proofs.Math.Nat.{ℕ_set}
 use Rattle.std.proofs.Math.Seq.{take-length}
-use Rattle.std.proofs.Math.Logic.{∥∥₁_elim}
+use Rattle.std.proofs.Math.Logic.{∥∥₁_elim, ∥∥₁_prop}
 use mir.Val.{bits}
 use Rattle.std.proofs.lemmas.Bool.Decides.{nat_tests}
 use Rattle.std.proofs.lemmas.Grind.{merely}
@@ -12,13 +12,15 @@ use Rattle.std.proofs.lemmas.List.{drop-append-le, take-append-le, drop-drop, ge
 use Rattle.std.proofs.lemmas.Nat.{from_le_bytes-to_le_bytes_2, from_le_bytes-to_le_bytes_4, from_le_bytes-to_le_bytes_8}
 use Rattle.std.proofs.lemmas.Int.{to_z-of_z}
 use Rattle.std.specs.Prelude.{ℤ, FitsSigned, IsUtf8, OnOk, Result, Ok, Err, is_ok, slice_index_or}
+use Rattle.std.specs.Coded.{codes}
 use Rattle.std.specs.Int.{cast_signed, Width, cast_unsigned, from_le_bytes, to_le_bytes, w16, w32, w64}
 use Rattle.cells.specs.declared.cell.Cell.{Cell}
 use Rattle.cells.specs.declared.cell.Cell.TheVariants as cell
 use Rattle.cells.specs.declared.packing.CellForm.{CellForm}
 use Rattle.cells.specs.declared.packing.CellForm.TheVariants.{Null, Int32, Int64, ShortText, LongText}
+use Rattle.cells.specs.Codes.{coded_cell}
 use Rattle.cells.specs.RowForms.{packed_row}
-use Rattle.cells.specs.Packing.{Fills, IsFirst, IsMoreBy, IsPacked, IsSpelt, cell_behind, cells_in, first_cell, first_size, form_of, long_len, size_behind}
+use Rattle.cells.specs.Packing.{Fills, IsFirst, IsLeft, IsMoreBy, IsPacked, IsSpelt, cell_behind, cells_in, first_cell, first_size, form_of, long_len, size_behind}
 
 -- ---- the cell that stands first
 
@@ -161,11 +163,6 @@ cells_in-length (suc n) bytes = ap suc (cells_in-length n (drop (first_size byte
 
 -- ---- what is left behind the first cells
 
--- of the n cells xs those behind the first i are left
-pub record IsLeft (n i : ℕ) (xs : List Cell) (rest : List ℕ) : Type 0 where
-  pub fills : Fills (n - i) rest
-  pub cells : cells_in (n - i) rest ≡ drop i xs
-
 pub left_all : (n : ℕ) (bytes : List ℕ) → Fills n bytes → IsLeft n 0 (cells_in n bytes) bytes
 left_all n bytes fills =
     let count : n - 0 ≡ n = omega arith in
@@ -211,6 +208,39 @@ module _ (n i : ℕ) (xs : List Cell) (rest : List ℕ) (inside : i < n) (left :
   left_taken =
       let len = left_length n i xs rest left in
       ap (λ x. take i xs ++ x ∷ []) (left_cell cell.Null) ∙ sym (take_more xs i cell.Null (omega (arith, inside)))
+
+-- ---- what is left, by steps; of it no more is known than that it is there
+
+Cell-prop : (x y : Cell) → IsProp (x ≡ y)
+Cell-prop x y = hlevel (codes, coded_cell)
+
+pub left_begin : (n : ℕ) (bytes : List ℕ) → ∥ Fills n bytes ∥₁ → ∥ IsLeft n 0 (cells_in n bytes) bytes ∥₁
+left_begin n bytes had = merely (left_all n bytes (Fills-had n bytes had))
+
+pub left_fills : (n i : ℕ) (xs : List Cell) (rest : List ℕ) → ∥ IsLeft n i xs rest ∥₁ → Fills (n - i) rest
+left_fills n i xs rest had = ∥∥₁_elim had (Fills-prop (n - i) rest) (λ left. left.fills)
+
+pub left_on : (n i k : ℕ) (xs : List Cell) (rest more : List ℕ) → i ≤ k → ∥ IsLeft n i xs rest ∥₁ → IsLeft (n - i) (k - i) (cells_in (n - i) rest) more → ∥ IsLeft n k xs more ∥₁
+left_on n i k xs rest more h had on = ∥∥₁_elim had ∥∥₁_prop (λ left. merely (both left))
+  where
+    count : n - i - (k - i) ≡ n - k
+    count = omega (arith, h)
+
+    place : i + (k - i) ≡ k
+    place = omega (arith, h)
+
+    both : IsLeft n i xs rest → IsLeft n k xs more
+    both left = record {
+      fills = subst (λ j. Fills j more) count on.fills;
+      cells = ap (λ j. cells_in j more) (sym count) ∙ on.cells ∙ ap (drop (k - i)) left.cells ∙ drop-drop (k - i) i xs ∙ ap (λ j. drop j xs) place;
+    }
+
+module _ (n i : ℕ) (xs : List Cell) (rest : List ℕ) (inside : i < n) (had : ∥ IsLeft n i xs rest ∥₁) where
+  pub there_first : IsFirst rest
+  there_first = ∥∥₁_elim had (IsFirst-prop rest) (λ left. left_first n i xs rest inside left)
+
+  pub there_cell : first_cell rest ≡ slice_index_or xs i cell.Null
+  there_cell = ∥∥₁_elim had (Cell-prop _ _) (λ left. left_cell n i xs rest inside left cell.Null)
 
 -- ---- the bytes of each form
 

@@ -63,6 +63,11 @@ unfoldable pub Fills : ℕ → List ℕ → Type 0
 Fills zero bytes = length bytes ≡ 0
 Fills (suc n) bytes = IsFirst bytes × Fills n (drop (first_size bytes) bytes)
 
+-- of the n cells xs those behind the first i are left
+pub record IsLeft (n i : ℕ) (xs : List Cell) (rest : List ℕ) : Type 0 where
+  pub fills : Fills (n - i) rest
+  pub cells : cells_in (n - i) rest ≡ drop i xs
+
 -- the bytes are those of one cell
 pub record IsPacked (x : Cell) (bytes : List ℕ) : Type 0 where
   pub fills : Fills 1 bytes

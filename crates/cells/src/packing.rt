@@ -5,7 +5,7 @@
 ghost use Rattle.std.specs.Prelude.{◌≡◌, ◌+◌, ◌^◌, ◌<◌, ◌≤◌, drop, length, slice_index_or, OnErr, OnOk, take};
 ghost use Rattle.std.specs.Int.{cast_signed, from_le_bytes, w32, w64};
 ghost use Rattle.cells.specs.Lent.{lent_cell};
-ghost use Rattle.cells.specs.Packing.{Fills, IsFirst, IsMoreBy, IsShort, cell_behind, cells_in, first_cell, first_size, form_of, long_len, size_behind};
+ghost use Rattle.cells.specs.Packing.{Fills, IsFirst, IsLeft, IsMoreBy, IsShort, cell_behind, cells_in, first_cell, first_size, form_of, long_len, size_behind};
 ghost use Rattle.cells.specs.RowBytes.{row_bytes};
 ghost use Rattle.cells.specs.declared.cell.Cell.TheVariants.{Null};
 ghost use Rattle.cells.specs.declared.cell.Cell.TheVariants as cell;
@@ -148,11 +148,20 @@ pub(crate) fn cell_at(bytes: &[u8], count: usize, index: usize) -> LentCell<'_>
     if index >= count {
         return LentCell::Null;
     }
+    first_cell(behind(bytes, count, index))
+}
+
+/// What is left of so many cells behind the first ones. It takes no memory.
+pub(crate) fn behind(bytes: &[u8], count: usize, first: usize) -> &[u8]
+    requires fills { Fills count bytes.now }
+    requires few { first ≤ count }
+    ensures { IsLeft count first (cells_in count bytes.now) result.now }
+{
     let mut rest = bytes;
-    for _i in 0..index {
+    for _i in 0..first {
         rest = behind_first(rest);
     }
-    first_cell(rest)
+    rest
 }
 
 /// Appends the bytes of a cell. Where memory is wanting the bytes stay as they are.

@@ -18,6 +18,7 @@ use crate::near_bytes::NearBytes;
 use crate::packing::{behind_first, cell_at, first_cell, pack};
 use crate::refused::Refused;
 use crate::row_bytes::RowBytes;
+use crate::row_walk::RowWalk;
 use crate::schema::{ColumnType, Schema};
 use std::alloc::{AllocError, Global};
 use std::marker::Model;
@@ -129,6 +130,13 @@ impl Row {
         ensures { lent_cell result ≡ slice_index_or self.now.cells index Null }
     {
         cell_at(self.form.bytes(), self.form.count(), index)
+    }
+
+    /// Its cells, lent by their indexes to who goes over several of them. It takes no memory.
+    pub fn walk(&self) -> RowWalk<'_>
+        ensures { result ≡ self.now.cells }
+    {
+        RowWalk::new(self.form.bytes(), self.form.count())
     }
 
     /// How many cells it has. It takes no memory.

@@ -1,9 +1,10 @@
 use Rattle.std.proofs.Common.{◌++◌, ◌∷◌, [], ◌+◌, ap, map, sym, subst, take, ◌∙◌}
 use Rattle.std.proofs.lemmas.List.{map-append}
 use Rattle.cells.specs.Lent.{lent_cell}
+use Rattle.cells.specs.Packing.{IsLeft}
 use Rattle.cells.specs.RowForms.{form_bytes, form_count}
 use Rattle.cells.specs.Values.{RowValue}
-use Rattle.cells.proofs.PackingLemmas.{IsLeft, left_as, left_first, left_next, left_none, left_taken}
+use Rattle.cells.proofs.PackingLemmas.{left_as, left_first, left_next, left_none, left_taken}
 use Rattle.cells.proofs.row.Row.cells.Goals as goal
 
 pub first_cell-requires : goal.first_cell-requires

@@ -1,6 +1,6 @@
 use Rattle.std.proofs.Common.{◌≡◌, map, take}
 use Rattle.cells.specs.Lent.{lent_cell}
-use Rattle.cells.proofs.PackingLemmas.{IsLeft}
+use Rattle.cells.specs.Packing.{IsLeft}
 use Rattle.cells.proofs.row.Row.cells.Given as goal
 
 -- the cells so far, and those that are left
