@@ -1,13 +1,9 @@
 -- The rows that updates leave are those of the last puts.
-use Rattle.std.proofs.Common.{◌≡◌, Bool, true, false, not, cond, List, [], ◌∷◌, ◌++◌, ◌||◌, filter, refl, ap, sym, subst, ◌∙◌, inl, inr, arith}
+use Rattle.std.proofs.Common.{◌≡◌, Bool, true, false, cond, List, [], ◌∷◌, ◌++◌, refl, ap, subst, inl, inr, arith}
 use Rattle.std.specs.Prelude.{◌↔◌, Contains}
-use Rattle.std.proofs.lemmas.List.Folds.{list_any-append}
-use Rattle.std.proofs.lemmas.List.{append-nil}
 use Rattle.std.proofs.lemmas.List.Elements.{Contains-append_left, Contains-append_right, Contains-append_cases, Contains-push, Contains-push_cases}
-use Rattle.cells.specs.CellOrder.{cell_eq, cell_eq-equiv}
-use Rattle.cells.specs.Updates.{Update, Put, Delete, key_of, rows, touches, without, IsLastPut}
+use Rattle.cells.specs.Updates.{Update, Put, Delete, rows, touches, IsLastPut}
 use Rattle.cells.specs.Values.{RowValue}
-use Rattle.cells.specs.declared.cell.Cell.{Cell}
 
 -- one update more at the front changes nothing behind it
 under : (u : Update) (us : List Update) (row : RowValue) → IsLastPut us row → IsLastPut (u ∷ us) row

@@ -1,7 +1,8 @@
 //! The columns of rows.
-ghost use Rattle.std.specs.Prelude.{◌≡◌, ◌<◌, ◌∷◌, ◌++◌, ℕ, List, [], true, IfOk, IfSome, OnOk, length};
+ghost use Rattle.std.specs.Prelude.{◌≡◌, ◌<◌, ◌∷◌, ◌++◌, ℕ, List, [], true, IfOk, IfSome, OnOk, length, slice_index_or};
 ghost use Rattle.std.specs.Option.{is_some, option_copied};
 ghost use Rattle.cells.specs.Values.{RowValue};
+ghost use Rattle.cells.specs.declared.cell.Cell.TheVariants.{Null};
 ghost use Rattle.columns.specs.Beside.{ArePlacesFor};
 ghost use Rattle.columns.specs.Coding.{AddsColumn, PutsAt};
 ghost use Rattle.columns.specs.Columns.{HaveAll, Hold, cells_at, cells_of, has, rows_of};
@@ -9,7 +10,7 @@ ghost use Rattle.columns.specs.Columns.{HaveAll, Hold, cells_at, cells_of, has, 
 use crate::code_column::CodeColumn;
 use crate::named_column::NamedColumn;
 use crate::piece_columns::{PieceColumns, RowPiece};
-use cells::{Cell, KeyHash, Row};
+use cells::{Cell, KeyHash, Row, RowWalk};
 use std::alloc::{AllocError, Global};
 use std::marker::Model;
 use std::sync::Wait;
@@ -61,18 +62,6 @@ impl Columns {
             }
         }
         None
-    }
-
-    /// Whether each of the indexes has a column. It takes no memory.
-    pub fn have_all(&self, indexes: &[usize]) -> bool
-        ensures { result ≡ true → HaveAll indexes.now self.now }
-    {
-        for index in indexes {
-            if self.at(*index).is_none() {
-                return false;
-            }
-        }
-        true
     }
 
     /// Puts the rows of a piece of a table behind those that are there, in the order in which they are walked. After an error,
@@ -223,7 +212,7 @@ impl Columns {
         self.columns[place].take_kept(rt, alloc, piece, kept, laid)
     }
 
-    /// Looks at the row's cell for the column at the place.
+    /// Looks at a row for the column at the place.
     fn look_at(&mut self, place: usize, row: &Row)
         requires { place < length self.old }
         ensures { self.new ≡ self.old }
@@ -231,12 +220,13 @@ impl Columns {
         self.columns[place].look_at(row);
     }
 
-    /// Puts the row's cell at the end of the column at the place.
-    fn take_at(&mut self, place: usize, row: &Row) -> Result<(), AllocError>
+    /// Puts a row's cell at the end of the column at the place.
+    fn take_at(&mut self, place: usize, cells: &mut RowWalk<'_>) -> Result<(), AllocError>
         requires { place < length self.old }
-        ensures { OnOk result (PutsAt place (λ index. cells_at index (row.now ∷ [])) self.old self.new) }
+        ensures puts { OnOk result (PutsAt place (λ index. slice_index_or cells.old index Null ∷ []) self.old self.new) }
+        ensures same { cells.new ≡ cells.old }
     {
-        self.columns[place].take(row)
+        self.columns[place].take(cells)
     }
 }
 
@@ -249,8 +239,9 @@ impl Visitor<Cell, Row> for Columns {
     ghost takes = { λ old key row new. TakesRow row old new };
 
     fn visit(&mut self, _key: &Cell, row: &Row) -> Result<(), AllocError> {
+        let mut cells = row.walk();
         for place in 0..self.column_count() {
-            self.take_at(place, row)?;
+            self.take_at(place, &mut cells)?;
         }
         Ok(())
     }
@@ -260,8 +251,8 @@ impl Visitor<Cell, Row> for Columns {
     }
 
     fn look(&mut self, row: &Row) {
-        for place in 0..self.column_count() {
-            self.look_at(place, row);
+        if self.column_count() > 0 {
+            self.look_at(0, row);
         }
     }
 }

@@ -1,6 +1,7 @@
 //! A column with the index that it has in the rows.
-ghost use Rattle.std.specs.Prelude.{◌≡◌, ◌∷◌, [], List, IfOk, None, OnOk};
+ghost use Rattle.std.specs.Prelude.{◌≡◌, ◌∷◌, [], List, IfOk, None, OnOk, slice_index_or};
 ghost use Rattle.cells.specs.Values.{RowValue};
+ghost use Rattle.cells.specs.declared.cell.Cell.TheVariants.{Null};
 ghost use Rattle.columns.specs.Beside.{ArePlacesFor};
 ghost use Rattle.columns.specs.Coding.{PutsFor};
 ghost use Rattle.columns.specs.Columns.{cells_at, cells_of, rows_of};
@@ -8,7 +9,7 @@ ghost use Rattle.columns.specs.Columns.{cells_at, cells_of, rows_of};
 use crate::code_column::CodeColumn;
 use crate::form::Form;
 use crate::piece_columns::{PieceColumns, RowPiece, laid_out};
-use cells::{Cell, KeyHash, LentCell, Row};
+use cells::{Cell, KeyHash, LentCell, Row, RowWalk};
 use std::alloc::{AllocError, Global};
 use std::marker::Model;
 use std::sync::Wait;
@@ -23,7 +24,7 @@ const NEAR_CELLS: usize = 4;
 pub(crate) struct NamedColumn {
     pub index: usize,
     pub form: Form,
-    // how many cells the last row had, and what was seen of cells that were looked at; nothing rests on them
+    // how many cells the last row had, and what was seen of rows that were looked at; nothing rests on them
     width: usize,
     seen: u64,
 }
@@ -55,12 +56,14 @@ impl NamedColumn {
         }
     }
 
-    /// Puts the row's cell behind those that are there.
-    pub fn take(&mut self, row: &Row) -> Result<(), AllocError>
-        ensures { OnOk result (PutsFor (λ index. cells_at index (row.now ∷ [])) self.old self.new) }
+    /// Puts a row's cell behind those that are there.
+    pub fn take(&mut self, cells: &mut RowWalk<'_>) -> Result<(), AllocError>
+        ensures puts { OnOk result (PutsFor (λ index. slice_index_or cells.old index Null ∷ []) self.old self.new) }
+        ensures same { cells.new ≡ cells.old }
     {
-        self.width = row.width();
-        self.form.push(row.cell(self.index))?;
+        self.width = cells.width();
+        let cell = cells.cell(self.index);
+        self.form.push(cell)?;
         Ok(())
     }
 
@@ -69,11 +72,12 @@ impl NamedColumn {
         self.width > NEAR_CELLS || self.form.column().has_long_texts()
     }
 
-    /// Looks at the row's cell. What is seen is kept, since a load of which nothing is kept would be left out.
+    /// Looks at a row: at its first cell, beside which the others lie. What is seen is kept, since a load of which nothing is
+    /// kept would be left out.
     pub fn look_at(&mut self, row: &Row)
         ensures { self.new ≡ self.old }
     {
-        self.seen = self.seen.wrapping_add(seen_of(row.cell(self.index)));
+        self.seen = self.seen.wrapping_add(seen_of(row.cell(0)));
     }
 
     /// Puts the cells of a piece's rows behind those that are there.
@@ -138,7 +142,7 @@ impl Visitor<Cell, Row> for NamedColumn {
     ghost takes = { λ old key row new. PutsFor (λ index. cells_at index (row ∷ [])) old new };
 
     fn visit(&mut self, _key: &Cell, row: &Row) -> Result<(), AllocError> {
-        self.take(row)
+        self.take(&mut row.walk())
     }
 
     fn looks(&self) -> bool {

@@ -11,7 +11,7 @@ use std::thread::Promise;
 
 /// The fewest entries that have a place for a summary. One of fewer entries spares little, and needs about as much
 /// memory as they do. A put asks for memory for each place on its path: for one or two where hashes spread evenly.
-pub const LEAST_SUMMED: u64 = 512;
+pub const LEAST_SUMMED: u64 = 64;
 
 /// The most entries that have a place for a summary. After a put the summaries on its path are made anew where they
 /// are asked for, so one of more entries costs more than it spares. So many entries can be numbered with 16 bits.
