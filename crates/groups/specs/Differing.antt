@@ -14,10 +14,10 @@ groups_of_parts parts = map (λ part. part.group) parts
 abbrev pub cells_of_parts : Option (List Cell) → List Part → List Cell
 cells_of_parts cells parts = map (λ part. cell_of cells part.code) parts
 
-abbrev pub lists_of : List (Vec Cell Global) → List (List Cell)
+abbrev pub lists_of : {X : Type 0} → List (Vec X Global) → List (List X)
 lists_of lists = map (λ list. list.items) lists
 
--- lists, one for each number below the count, of the cells that have it
-pub record AreListed (count : ℕ) (numbers : List ℕ) (cells : List Cell) (lists : List (List Cell)) : Type 0 where
+-- lists, one for each number below the count, of those of some things that have it
+pub record AreListed {X : Type 0} (count : ℕ) (numbers : List ℕ) (xs : List X) (lists : List (List X)) : Type 0 where
   pub counted : length lists ≡ count
-  pub each : (n : ℕ) → n < count → slice_index_or lists n [] ≡ those_of n numbers cells
+  pub each : (n : ℕ) → n < count → slice_index_or lists n [] ≡ those_of n numbers xs
