@@ -62,9 +62,8 @@ pub fn answer<H: KeyHash<Cell> + KeyHash<Tuple> + Send + Sync, G: Gate, R: Threa
 /// into pieces, and who is told of the pieces.
 ///
 /// No text depends on these. A report puts the columns that its plan needs together from those beside the pieces, by as many
-/// workers, and lays out those that are not there yet. These stay beside the piece, for all editions that share it. Rows of
-/// which there are fewer than 4,096 are cut as `cutting` says, and their pieces have no place for columns unless they have 512
-/// rows; more rows are cut into pieces that have one.
+/// workers, and lays out those that are not there yet. These stay beside the piece, for all editions that share it, where it has
+/// 64 rows or more. At most 2,560 rows are cut as `cutting` says; more are cut by their number, into pieces that keep their columns.
 #[derive(Drop)]
 pub struct Answering<'a, R, G> {
     pub rt: &'a R,

@@ -11,28 +11,22 @@ use trie::{
     pieces_are_parts,
 };
 
-/// From so many rows on columns stay beside the pieces of a table. With fewer they cost less than what keeps them.
-const KEPT_FROM: u64 = 4_096;
-
-/// So many parts make the least piece that is cut. Its 32 parts then have a place for columns each, with hardly an exception,
-/// since hashes spread evenly.
-const LEAST_PARTS: u64 = 40;
+/// Only a piece of more rows than these is cut. Its 32 parts then have a place for columns each, with hardly an exception, since
+/// hashes spread evenly.
+const LEAST_CUT: u64 = 40 * LEAST_SUMMED;
 
 /// A put makes the columns of one piece anew, so that pieces should not have much more than this part of the rows.
 const SHARE: u64 = 16;
 
-/// The cutting of so many rows, where this one is asked for: it, or from [`KEPT_FROM`] rows on one whose pieces have places
-/// for their columns and are few.
+/// The cutting of so many rows, where this one is asked for: where they are few it is the same, and else one whose pieces have
+/// places for their columns and are few.
 pub(crate) fn cutting_of(rows: u64, asked: Cutting) -> Cutting {
-    if rows < KEPT_FROM {
+    if rows <= LEAST_CUT {
         return asked;
     }
-    let small = (rows / SHARE)
-        .max(LEAST_PARTS * LEAST_SUMMED)
-        .min(MOST_SUMMED);
     Cutting {
         depth: MAX_DEPTH,
-        small,
+        small: (rows / SHARE).max(LEAST_CUT).min(MOST_SUMMED),
     }
 }
 
