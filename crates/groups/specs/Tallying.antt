@@ -19,7 +19,12 @@ passing p (k ∷ numbers) (x ∷ xs) = keep_if (p k) x (passing p numbers xs)
 abbrev pub those_of : {X : Type 0} → ℕ → List ℕ → List X → List X
 those_of n numbers xs = passing (λ k. k == n) numbers xs
 
--- accumulators, one for each number below the count, of the cells that have it
+-- accumulators of one type, one for each number below the count, of the cells that have it
+pub record AreStepped {A : Type 0} (of : List Cell → A) (count : ℕ) (numbers : List ℕ) (cells : List Cell) (accs : List A) : Type 0 where
+  pub counted : length accs ≡ count
+  pub each : (n : ℕ) → n < count → (d : A) → slice_index_or accs n d ≡ of (those_of n numbers cells)
+
+-- the same of accumulators of any kind
 pub record AreTallied {H : Type 0} (kind : Kind) (count : ℕ) (numbers : List ℕ) (cells : List Cell) (accs : List (Acc H)) : Type 0 where
   pub counted : length accs ≡ count
   pub each : (n : ℕ) → n < count → (d : Acc H) → slice_index_or accs n d ≡ acc_of kind (those_of n numbers cells)

@@ -1,6 +1,6 @@
 //! What is held of a group's cells for one aggregate.
-ghost use Rattle.std.specs.Prelude.{◌≡◌, [], ◌∷◌, IfOk, OnErr};
-ghost use Rattle.aggs.specs.Accs.{AccsFit, acc_of, acc_together, acc_total, kind_of};
+ghost use Rattle.std.specs.Prelude.{◌≡◌, IfOk};
+ghost use Rattle.aggs.specs.Accs.{AccsFit, acc_of, acc_together, acc_total};
 ghost use Rattle.aggs.specs.declared.acc.Kind.TheVariants as kind;
 
 use crate::different_cells::DifferentCells;
@@ -70,23 +70,6 @@ impl<H: KeyHash<Cell>> Held<H> {
         Ok(Held {
             form: Form::Cells(DifferentCells::of(alloc, cells)?),
         })
-    }
-
-    /// Makes it what is held of its list and the cell behind it. After a refusal it is as it was.
-    pub fn step(&mut self, alloc: Global, cell: &Cell) -> Result<(), AllocError>
-        requires { AccsFit self.old (acc_of (kind_of self.old) (cell.now ∷ [])) }
-        ensures stepped { IfOk result (λ _. self.new ≡ acc_together self.old (acc_of (kind_of self.old) (cell.now ∷ []))) }
-        ensures unchanged { OnErr result (self.new ≡ self.old) }
-    {
-        match &mut self.form {
-            Form::Accumulator(accumulator) => accumulator.step(alloc, cell),
-            Form::Cells(cells) => {
-                let mut accumulator = cells.accumulator(alloc)?;
-                accumulator.step(alloc, cell)?;
-                *self = Held::of(accumulator);
-                Ok(())
-            }
-        }
     }
 
     /// What is held of both lists put together.

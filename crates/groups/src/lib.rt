@@ -21,6 +21,7 @@ mod laying;
 mod meeting;
 mod needed;
 mod numbered;
+mod of_kind;
 mod partial;
 mod parting;
 mod pool;

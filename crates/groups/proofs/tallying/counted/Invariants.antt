@@ -1,8 +1,7 @@
 use Rattle.std.proofs.Common.{take}
-use Rattle.aggs.specs.declared.acc.Kind.TheVariants.{CountRows}
-use Rattle.groups.specs.Tallying.{AreTallied}
-use Rattle.groups.proofs.TallyingLemmas.{nulls}
+use Rattle.groups.specs.Tallying.{AreStepped}
+use Rattle.groups.proofs.TallyingLemmas.{nulls, rows_of}
 use Rattle.groups.proofs.tallying.counted.Given as goal
 
 abbrev pub invariant-loop-number : goal.invariant-loop-number
-invariant-loop-number g l = AreTallied CountRows l.count (take l.number-index l.numbers) (take l.number-index (nulls l.numbers)) l.accs.items
+invariant-loop-number g l = AreStepped rows_of l.count (take l.number-index l.numbers) (take l.number-index (nulls l.numbers)) l.accs.items

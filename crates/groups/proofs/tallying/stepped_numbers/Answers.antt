@@ -3,9 +3,9 @@ use Rattle.std.specs.Prelude.{None}
 use Rattle.cells.specs.declared.cell.Cell.{Cell}
 use Rattle.columns.specs.Columns.{decoded}
 use Rattle.groups.specs.Parting.{codes_at}
-use Rattle.groups.proofs.TallyingLemmas.{cell_there, decoded_length, fits_cell, tallied_all, tallied_next}
+use Rattle.groups.proofs.TallyingLemmas.{cell_there, decoded_length, fits_cell, stepped_all, stepped_next, stepped_none}
 use Rattle.groups.proofs.TuplesLemmas.{all_at}
-use Rattle.groups.proofs.tallying.tallied_numbers.Goals as goal
+use Rattle.groups.proofs.tallying.stepped_numbers.Goals as goal
 
 pub step-requires : goal.step-requires
 step-requires g c =
@@ -16,9 +16,8 @@ step-requires g c =
     let within : i < length all = omega (arith, c.loop-at-test.true, decoded_length None c.args.codes.now rows) in
     let below : get_or c.args.numbers.now i 0 < c.args.count =
     all_at (λ n. n < c.args.count) c.args.numbers.now i 0 c.requires.numbers.1 (omega (arith, c.loop-at-test.true, c.requires.numbers.0)) in
-    let there : cell ≡ get_or all i cell = cell_there None c.args.codes.now rows i cell c.loop-at-test.true c.number_cell-cell.ensures in
-    fits_cell c.args.kind c.args.count c.args.numbers.now all c.loop-at.accs.items i (get_or c.args.numbers.now i 0) cell c.index_mut.result.now within there below c.index_mut.ensures.value
-    (omega (arith, c.requires.rows.few, decoded_length None c.args.codes.now rows)) c.loop-at.invariant
+    fits_cell g.A.Aggregate.of g.A.Aggregate.fits g.met.A.Aggregate.room c.args.count c.args.numbers.now all c.loop-at.accs.items i (get_or c.args.numbers.now i 0) cell c.index_mut.result.now within below
+    c.index_mut.ensures.value (omega (arith, c.requires.rows.few, decoded_length None c.args.codes.now rows)) c.loop-at.invariant
 
 pub loop-at-preserved : goal.loop-at-preserved
 loop-at-preserved g c =
@@ -30,17 +29,17 @@ loop-at-preserved g c =
     let below : get_or c.args.numbers.now i 0 < c.args.count =
     all_at (λ n. n < c.args.count) c.args.numbers.now i 0 c.requires.numbers.1 (omega (arith, c.loop-at-test.true, c.requires.numbers.0)) in
     let there : cell ≡ get_or all i cell = cell_there None c.args.codes.now rows i cell c.loop-at-test.true c.number_cell-cell.ensures in
-    tallied_next c.args.kind c.args.count c.args.numbers.now all c.loop-at.accs.items i (get_or c.args.numbers.now i 0) cell c.step.new.self c.index_mut.result.now
+    stepped_next g.A.Aggregate.of g.A.Aggregate.together g.met.A.Aggregate.joins c.args.count c.args.numbers.now all c.loop-at.accs.items i (get_or c.args.numbers.now i 0) cell c.step.new.self c.index_mut.result.now
     (c.requires.numbers.0 ∙ sym (decoded_length None c.args.codes.now rows)) within there refl below c.index_mut.ensures.value c.loop-at.invariant c.in_ok-step.ensures.stepped
 
 pub returns : goal.returns
 returns g c =
-    tallied_all c.args.kind c.args.count c.args.numbers.now (decoded None (codes_at c.args.codes.now c.args.rows.now)) c.loop-at.accs.items c.loop-at.at
+    stepped_all g.A.Aggregate.of c.args.count c.args.numbers.now (decoded None (codes_at c.args.codes.now c.args.rows.now)) c.loop-at.accs.items c.loop-at.at
     (omega (arith, c.loop-at-test.false, c.loop-at.auto.at-end, c.requires.numbers.0))
     (omega (arith, c.loop-at-test.false, c.loop-at.auto.at-end, decoded_length None c.args.codes.now c.args.rows.now)) c.loop-at.invariant
 
 pub loop-at-init : goal.loop-at-init
-loop-at-init g c = c.in_ok-accs.ensures
+loop-at-init g c = stepped_none g.A.Aggregate.of c.args.count c.in_ok-accs.accs.items c.in_ok-accs.ensures
 
 pub bounds-numbers-at : goal.bounds-numbers-at
 bounds-numbers-at g c = omega (arith, c.loop-at-test.true, c.requires.numbers.0)

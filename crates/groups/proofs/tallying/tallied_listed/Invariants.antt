@@ -1,9 +1,0 @@
-use Rattle.std.proofs.Common.{take}
-use Rattle.std.specs.Prelude.{Some}
-use Rattle.columns.specs.Columns.{decoded}
-use Rattle.groups.specs.Parting.{codes_at}
-use Rattle.groups.specs.Tallying.{AreTallied}
-use Rattle.groups.proofs.tallying.tallied_listed.Given as goal
-
-abbrev pub invariant-loop-at : goal.invariant-loop-at
-invariant-loop-at g l = AreTallied l.fn.kind l.count (take l.at l.numbers) (take l.at (decoded (Some l.cells) (codes_at l.codes l.rows))) l.accs.items
