@@ -20,6 +20,10 @@ use std::sync::Wait;
 // none of its columns is copied.
 const BATCH_ROWS: u64 = 2_048;
 
+// To join the groups of two batches costs as much as to fold some dozens of rows for each. So a batch has so many times the rows for
+// which its groups are few, unless no more may come.
+const BATCH_SHARE: u64 = 8;
+
 /// The rows of some pieces: some of them are folded, and the columns that the plan needs hold the others. Where groups are few,
 /// a worker folds the rows that it drew batch by batch, so that they stay near; where they may be many, the columns of all rows are
 /// put together first, and rows are dealt out by their groups.
@@ -64,8 +68,10 @@ impl<'a, H: KeyHash<Cell> + KeyHash<Tuple>> Gathered<'a, H> {
     /// Whether it pays to fold the rows of the columns now: they have few groups, and are a batch, or no more may come. Nothing
     /// rests on it.
     pub fn is_batch(&self, plan: &Plan, may_be_last: bool) -> bool {
-        let are_many = may_be_last || self.count >= BATCH_ROWS;
-        are_many && has_few_groups(plan, &self.columns, self.count)
+        if may_be_last {
+            return has_few_groups(plan, &self.columns, self.count);
+        }
+        self.count >= BATCH_ROWS && has_few_groups(plan, &self.columns, self.count / BATCH_SHARE)
     }
 
     /// Folds the rows of the columns.
