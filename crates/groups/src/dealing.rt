@@ -156,6 +156,9 @@ impl Dealer<'_> {
         requires { 0 < lists }
         ensures { result < lists }
     {
+        if lists == 1 {
+            return 0;
+        }
         let list = if self.set.is_empty() {
             row / self.size.max(1)
         } else {

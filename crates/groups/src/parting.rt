@@ -113,6 +113,8 @@ struct Slots {
     count: usize,
     // where the codes lie, where each group has a slot for each of them; else a part's slot is found by a hash
     span: Option<Span>,
+    // how many slots each group has there
+    width: usize,
 }
 
 impl Slots {
@@ -122,17 +124,20 @@ impl Slots {
         requires { rows ≤ 2 ^ 32 }
         ensures { result.count ≤ entry_limit rows }
     {
-        if let Some(size) = count.checked_mul(span.width()) {
+        let width = span.width();
+        if let Some(size) = count.checked_mul(width) {
             if size <= ENTRIES_PER_ROW * rows + SPARE_ENTRIES {
                 return Slots {
                     count: size,
                     span: Some(span),
+                    width,
                 };
             }
         }
         Slots {
             count: 2 * rows + PROBES,
             span: None,
+            width: 0,
         }
     }
 
@@ -141,7 +146,7 @@ impl Slots {
         let group = part.group as usize;
         if let Some(span) = self.span {
             return group
-                .wrapping_mul(span.width())
+                .wrapping_mul(self.width)
                 .wrapping_add(span.place(part.code));
         }
         let both = group.wrapping_mul(MIXER) ^ part.code as usize;
@@ -181,7 +186,12 @@ impl Numbering {
     fn number_or_slot(&self, part: Part) -> Result<u32, usize>
         ensures { IfOk result (λ n. IsNumbered part self.now.parts.items self.now.parts.items n) }
     {
-        let mut slot = self.slots.first(part);
+        // Nearly all parts are found in their first slot, so the loop is kept out of their way.
+        let first = self.slots.first(part);
+        if let Some(number) = self.found(first, part) {
+            return Ok(number);
+        }
+        let mut slot = first;
         for _probe in 0..PROBES {
             if let Some(number) = self.found(slot, part) {
                 return Ok(number);
