@@ -63,13 +63,7 @@ impl<'a> RowWalk<'a> {
 }
 
 /// What is left of so many cells behind those before an index, where `rest` is left behind those before the index `from`.
-fn seek<'a>(
-    bytes: &'a [u8],
-    count: usize,
-    from: usize,
-    rest: &'a [u8],
-    index: usize,
-) -> &'a [u8]
+fn seek<'a>(bytes: &'a [u8], count: usize, from: usize, rest: &'a [u8], index: usize) -> &'a [u8]
     requires fills { Fills count bytes.now }
     requires left { ∥ IsLeft count from (cells_in count bytes.now) rest.now ∥₁ }
     requires few { index ≤ count }

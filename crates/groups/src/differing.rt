@@ -109,11 +109,7 @@ fn held_of_codes<H: KeyHash<Cell>>(
 }
 
 /// The cells of some codes, that of each code once.
-fn cells_once(
-    alloc: Global,
-    codes: Vec<u32>,
-    column: &CodeColumn,
-) -> Result<Vec<Cell>, AllocError>
+fn cells_once(alloc: Global, codes: Vec<u32>, column: &CodeColumn) -> Result<Vec<Cell>, AllocError>
     ensures { IfOk result (λ v. different v.items ≡ different (decoded column.now.cells codes.items)) }
 {
     let mut codes = codes;
