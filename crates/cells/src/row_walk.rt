@@ -1,5 +1,5 @@
 //! A walk over the cells of a row.
-ghost use Rattle.std.specs.Prelude.{◌≡◌, ◌≤◌, length, slice_index_or};
+ghost use Rattle.std.specs.Prelude.{◌≡◌, ◌≤◌, slice_index_or};
 ghost use Rattle.cells.specs.Lent.{lent_cell};
 ghost use Rattle.cells.specs.Packing.{Fills, IsLeft, cells_in};
 ghost use Rattle.cells.specs.declared.cell.Cell.TheVariants.{Null};
@@ -45,13 +45,6 @@ impl<'a> RowWalk<'a> {
             index: 0,
             rest: bytes,
         }
-    }
-
-    /// How many cells the row has. It takes no memory.
-    pub fn width(&self) -> usize
-        ensures { result ≡ length self.now }
-    {
-        self.count
     }
 
     /// The cell at an index, lent; NULL where the row has none there. It takes no memory.

@@ -72,14 +72,10 @@ impl CellList {
     pub fn kept(self) -> CellList
         ensures { result ≡ self }
     {
-        let CellList {
-            mut cells,
-            mut hints,
-        } = self;
-        cells.shrink_to_fit();
-        hints.clear();
-        hints.shrink_to_fit();
-        CellList { cells, hints }
+        let mut list = self;
+        list.cells.shrink_to_fit();
+        list.forget_hints();
+        list
     }
 
     /// The codes of some cells, which are added where they are not found.

@@ -12,9 +12,6 @@ use cells::{Cell, LentCell};
 use std::alloc::{AllocError, Global};
 use std::marker::Model;
 
-/// Texts of more bytes than these have them in a block of their own.
-const SHORT_BYTES: usize = 14;
-
 /// The cells of rows in one column, one for each row. Each is held as a code of 32 bits. As long as all cells are NULL or
 /// integers of 32 bits, the codes are those of [`number_cell`](crate::number_cell); from the first other cell on, a code is the index of its
 /// cell in a list of the column's different cells, of which it owns copies.
@@ -91,14 +88,6 @@ impl CodeColumn {
         match &self.list {
             Some(list) => Span::of_list(list.cells().len()),
             None => self.numbers,
-        }
-    }
-
-    /// Whether its texts are long ones, as its last different cell is: their bytes lie in blocks of their own. Nothing rests on it.
-    pub(crate) fn has_long_texts(&self) -> bool {
-        match self.cells().and_then(|cells| cells.last()) {
-            Some(Cell::Text(text)) => text.as_bytes().len() > SHORT_BYTES,
-            _ => false,
         }
     }
 

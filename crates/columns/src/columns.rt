@@ -247,7 +247,7 @@ impl Visitor<Cell, Row> for Columns {
     }
 
     fn looks(&self) -> bool {
-        self.columns.iter().any(|named| named.is_far())
+        true
     }
 
     fn look(&mut self, row: &Row) {

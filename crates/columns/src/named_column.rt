@@ -16,16 +16,12 @@ use std::sync::Wait;
 use std::sync::atomic::AtomicU64;
 use trie::{Beside, Piece, Visitor};
 
-/// Rows of more cells than these have their bytes in a block of their own, for the most part.
-const NEAR_CELLS: usize = 4;
-
 /// A column, and the index that it has in the rows.
 #[derive(Drop)]
 pub(crate) struct NamedColumn {
     pub index: usize,
     pub form: Form,
-    // how many cells the last row had, and what was seen of rows that were looked at; nothing rests on them
-    width: usize,
+    // what was seen of rows that were looked at; nothing rests on it
     seen: u64,
 }
 
@@ -51,7 +47,6 @@ impl NamedColumn {
         NamedColumn {
             index,
             form: Form::Own(CodeColumn::new(alloc)),
-            width: 0,
             seen: 0,
         }
     }
@@ -61,15 +56,9 @@ impl NamedColumn {
         ensures puts { OnOk result (PutsFor (λ index. slice_index_or cells.old index Null ∷ []) self.old self.new) }
         ensures same { cells.new ≡ cells.old }
     {
-        self.width = cells.width();
         let cell = cells.cell(self.index);
         self.form.push(cell)?;
         Ok(())
-    }
-
-    /// Whether its cells are far from their rows, so that it pays to look at them before they are taken. Nothing rests on it.
-    pub fn is_far(&self) -> bool {
-        self.width > NEAR_CELLS || self.form.column().has_long_texts()
     }
 
     /// Looks at a row: at its first cell, beside which the others lie. What is seen is kept, since a load of which nothing is
@@ -126,7 +115,6 @@ impl NamedColumn {
         Ok(NamedColumn {
             index,
             form,
-            width: 0,
             seen: 0,
         })
     }
@@ -146,7 +134,7 @@ impl Visitor<Cell, Row> for NamedColumn {
     }
 
     fn looks(&self) -> bool {
-        self.is_far()
+        true
     }
 
     fn look(&mut self, row: &Row) {
