@@ -1,13 +1,11 @@
 -- Cells that are sorted, each once, and of which those that are not NULL stay: as many as there are different ones.
-use Rattle.std.specs.Prelude.{◌≡◌, Bool, true, not, ◌&&◌, List, [], ◌∷◌, filter, length, refl}
-use Rattle.std.specs.Cmp.{both_ways}
+use Rattle.std.specs.Prelude.{◌≡◌, not, ◌&&◌, List, [], ◌∷◌, filter, length, refl}
 use Rattle.std.specs.FinSet.{from_list, len, same_set}
-use Rattle.std.specs.List.{dedup, list_any}
+use Rattle.std.specs.List.{dedup}
 use Rattle.std.specs.List.Sorted.{IsPermutation, IsSorted, IsStrictlySortedBy}
 use Rattle.std.specs.Set.{distinct_count}
 use Rattle.std.proofs.Common.{ap, subst, sym, ◌∙◌}
-use Rattle.std.proofs.lemmas.List.Folds.{Any-from_list_any, list_any_at}
-use Rattle.std.proofs.lemmas.List.Kept.{Contains-dedup, Contains-from_dedup, IsStrictlySortedBy-dedup, IsStrictlySortedBy-filter}
+use Rattle.std.proofs.lemmas.List.Kept.{Contains-dedup, IsStrictlySortedBy-dedup, IsStrictlySortedBy-filter}
 use Rattle.std.proofs.lemmas.Map.Keys.{IsDistinct-from_sorted}
 use Rattle.std.proofs.lemmas.Map.Made.{distinct_count-from_IsDistinct}
 use Rattle.aggs.specs.Differing.{contains_different, different, different_any_order, different_count_is}
@@ -16,27 +14,11 @@ use Rattle.cells.specs.CellOrder.{cell_cmp, cell_cmp-total, cell_eq, cell_eq-equ
 use Rattle.cells.specs.SameKeys.{exact_cells, same_cells}
 use Rattle.cells.specs.declared.cell.Cell.{Cell}
 use Rattle.cells.specs.declared.cell.Cell.TheVariants.{Null, Int, Text}
-use Rattle.groups.proofs.DifferingLemmas.{any_present}
-
--- whether one of the cells is so does not ask how often it comes
-any_once : (p : Cell → Bool) (cells : List Cell) → list_any p (dedup cell_eq cells) ≡ list_any p cells
-any_once p cells = both_ways (list_any p (dedup cell_eq cells)) (list_any p cells) down up
-  where
-    down : list_any p (dedup cell_eq cells) ≡ true → list_any p cells ≡ true
-    down e =
-        let found = Any-from_list_any p (dedup cell_eq cells) e in
-        let at = Contains-from_dedup cell_eq cells found.1 (found.0, found.2, found.3) in
-        list_any_at p cells at.0 found.1 at.1 (subst (λ c. p c ≡ true) (sym at.2) found.4)
-
-    up : list_any p cells ≡ true → list_any p (dedup cell_eq cells) ≡ true
-    up e =
-        let found = Any-from_list_any p cells e in
-        let at = Contains-dedup cell_eq-equiv same_cells cells found.1 (found.0, found.2, found.3) in
-        list_any_at p (dedup cell_eq cells) at.0 found.1 at.1 (subst (λ c. p c ≡ true) (sym at.2) found.4)
+use Rattle.groups.proofs.DifferingLemmas.{any_once, any_present}
 
 same_once : (cells : List Cell) → different (dedup cell_eq cells) ≡ different cells
 same_once cells = same_set cell_cmp-total exact_cells _ _ (λ q.
-    contains_different (dedup cell_eq cells) q ∙ any_present (cell_eq q) (dedup cell_eq cells) ∙ any_once (λ c. not (is_null c) && cell_eq q c) cells ∙
+    contains_different (dedup cell_eq cells) q ∙ any_present (cell_eq q) (dedup cell_eq cells) ∙ any_once cell_eq (Contains-dedup cell_eq-equiv same_cells) (λ c. not (is_null c) && cell_eq q c) cells ∙
     sym (any_present (cell_eq q) cells) ∙ sym (contains_different cells q))
 
 present_twice : (cells : List Cell) → present (present cells) ≡ present cells

@@ -173,21 +173,24 @@ module _ (groups codes numbers : List ℕ) (parts : List Part) (cells : Option (
     each = λ n h d. now.each n h d ∙ ap acc.CountDistinct (sym (same_cells_of n));
   }
 
--- ---- codes, each once
-any_code_once : (p : ℕ → Bool) (codes : List ℕ) → list_any p (dedup eqb codes) ≡ list_any p codes
-any_code_once p codes = both_ways (list_any p (dedup eqb codes)) (list_any p codes) down up
-  where
-    down : list_any p (dedup eqb codes) ≡ true → list_any p codes ≡ true
-    down e =
-        let found = Any-from_list_any p (dedup eqb codes) e in
-        let at = Contains-from_dedup eqb codes found.1 (found.0, found.2, found.3) in
-        list_any_at p codes at.0 found.1 at.1 (subst (λ c. p c ≡ true) (sym at.2) found.4)
+-- ---- some things, each once
 
-    up : list_any p codes ≡ true → list_any p (dedup eqb codes) ≡ true
+-- whether one of them is so does not ask how often it comes
+pub any_once : {X : Type 0} (same : X → X → Bool) → ((xs : List X) (x : X) → Contains xs x → Contains (dedup same xs) x) → (p : X → Bool) (xs : List X) →
+    list_any p (dedup same xs) ≡ list_any p xs
+any_once same stays p xs = both_ways (list_any p (dedup same xs)) (list_any p xs) down up
+  where
+    down : list_any p (dedup same xs) ≡ true → list_any p xs ≡ true
+    down e =
+        let found = Any-from_list_any p (dedup same xs) e in
+        let at = Contains-from_dedup same xs found.1 (found.0, found.2, found.3) in
+        list_any_at p xs at.0 found.1 at.1 (subst (λ x. p x ≡ true) (sym at.2) found.4)
+
+    up : list_any p xs ≡ true → list_any p (dedup same xs) ≡ true
     up e =
-        let found = Any-from_list_any p codes e in
-        let at = Contains-dedup_nat codes found.1 (found.0, found.2, found.3) in
-        list_any_at p (dedup eqb codes) at.0 found.1 at.1 (subst (λ c. p c ≡ true) (sym at.2) found.4)
+        let found = Any-from_list_any p xs e in
+        let at = stays xs found.1 (found.0, found.2, found.3) in
+        list_any_at p (dedup same xs) at.0 found.1 at.1 (subst (λ x. p x ≡ true) (sym at.2) found.4)
 
 any_mapped : (p : Cell → Bool) (f : ℕ → Cell) (codes : List ℕ) → list_any p (map f codes) ≡ list_any (λ c. p (f c)) codes
 any_mapped p f [] = refl
@@ -196,7 +199,7 @@ any_mapped p f (c ∷ codes) = ap (λ b. p (f c) || b) (any_mapped p f codes)
 same_codes_once : (f : ℕ → Cell) (codes : List ℕ) → different (map f (dedup eqb codes)) ≡ different (map f codes)
 same_codes_once f codes = same_set cell_cmp-total exact_cells _ _ (λ q.
     let p : Cell → Bool = λ c. not (is_null c) && cell_eq q c in
-    contains_different (map f (dedup eqb codes)) q ∙ any_present (cell_eq q) (map f (dedup eqb codes)) ∙ any_mapped p f (dedup eqb codes) ∙ any_code_once (λ c. p (f c)) codes ∙
+    contains_different (map f (dedup eqb codes)) q ∙ any_present (cell_eq q) (map f (dedup eqb codes)) ∙ any_mapped p f (dedup eqb codes) ∙ any_once eqb Contains-dedup_nat (λ c. p (f c)) codes ∙
     sym (any_mapped p f codes) ∙ sym (any_present (cell_eq q) (map f codes)) ∙ sym (contains_different (map f codes) q))
 
 -- the cells of codes that are sorted, each once, are those of the codes, as a set
