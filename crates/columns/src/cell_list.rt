@@ -84,7 +84,7 @@ impl CellList {
     {
         let mut codes = Vec::with_capacity(alloc, cells.len())?;
         for cell in cells {
-            let code = self.code_of(alloc, LentCell::of(cell))?;
+            let code = self.code_of(alloc, &LentCell::of(cell))?;
             codes.push(code)?;
         }
         Ok(codes)
@@ -92,8 +92,8 @@ impl CellList {
 
     /// The code of the cell, which is added where it is not found. The only error is that a growth was refused, as that of a
     /// list of 4,294,967,296 different cells is.
-    pub fn code_of(&mut self, alloc: Global, cell: LentCell<'_>) -> Result<u32, AllocError>
-        ensures code { IfOk result (λ code. Recode (lent_cell cell.entry ∷ []) self.old self.new (code ∷ [])) }
+    pub fn code_of(&mut self, alloc: Global, cell: &LentCell<'_>) -> Result<u32, AllocError>
+        ensures code { IfOk result (λ code. Recode (lent_cell cell.now ∷ []) self.old self.new (code ∷ [])) }
         ensures refused { OnErr result (self.new ≡ self.old) }
     {
         self.make_room()?;
@@ -107,9 +107,9 @@ impl CellList {
     }
 
     /// The code of the cell, if a hint shows it; else the slot for its hint. It takes no memory.
-    fn code_or_slot(&self, cell: LentCell<'_>) -> Result<u32, usize>
+    fn code_or_slot(&self, cell: &LentCell<'_>) -> Result<u32, usize>
         ensures within { IfOk result (λ code. code < length self.now) }
-        ensures found { IfOk result (λ code. slice_index_or self.now code Null ≡ lent_cell cell.entry) }
+        ensures found { IfOk result (λ code. slice_index_or self.now code Null ≡ lent_cell cell.now) }
     {
         let mut slot = self.first_slot(cell);
         for _probe in 0..PROBES {
@@ -125,9 +125,9 @@ impl CellList {
     }
 
     /// The code in the slot, if it is the cell's. It takes no memory.
-    fn shown(&self, slot: usize, cell: LentCell<'_>) -> Option<u32>
+    fn shown(&self, slot: usize, cell: &LentCell<'_>) -> Option<u32>
         ensures within { IfSome result (λ code. code < length self.now) }
-        ensures found { IfSome result (λ code. slice_index_or self.now code Null ≡ lent_cell cell.entry) }
+        ensures found { IfSome result (λ code. slice_index_or self.now code Null ≡ lent_cell cell.now) }
     {
         let code = *self.hints.get(slot)?;
         let found = self.cells.get(code as usize)?;
@@ -143,7 +143,7 @@ impl CellList {
     }
 
     /// The slot from which on a hint of the cell is looked for. Nothing rests on it.
-    fn first_slot(&self, cell: LentCell<'_>) -> usize {
+    fn first_slot(&self, cell: &LentCell<'_>) -> usize {
         let hash = quick_hash(cell) as usize >> 32;
         hash.wrapping_mul(self.hints.len().saturating_sub(PROBES)) >> 32
     }
@@ -180,14 +180,14 @@ impl CellList {
         let Some(cell) = self.cells.get(index) else {
             return;
         };
-        let slot = self.free_slot(LentCell::of(cell));
+        let slot = self.free_slot(&LentCell::of(cell));
         if let Ok(code) = u32::try_from(index) {
             self.hint(slot, code);
         }
     }
 
     /// The slot for the hint of a cell that has none. Nothing rests on it.
-    fn free_slot(&self, cell: LentCell<'_>) -> usize {
+    fn free_slot(&self, cell: &LentCell<'_>) -> usize {
         let mut slot = self.first_slot(cell);
         for _probe in 0..PROBES {
             if self.is_free(slot) {
@@ -199,8 +199,8 @@ impl CellList {
     }
 
     /// Adds a cell.
-    fn add(&mut self, alloc: Global, cell: LentCell<'_>) -> Result<u32, AllocError>
-        ensures code { IfOk result (λ code. Recode (lent_cell cell.entry ∷ []) self.old self.new (code ∷ [])) }
+    fn add(&mut self, alloc: Global, cell: &LentCell<'_>) -> Result<u32, AllocError>
+        ensures code { IfOk result (λ code. Recode (lent_cell cell.now ∷ []) self.old self.new (code ∷ [])) }
         ensures refused { OnErr result (self.new ≡ self.old) }
     {
         if self.cells.len() > u32::MAX as usize {

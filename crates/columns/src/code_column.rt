@@ -93,8 +93,8 @@ impl CodeColumn {
 
     /// Puts a cell after those that are there. The only error is that a growth was refused, as that of a list of
     /// 4,294,967,296 different cells is.
-    pub fn push(&mut self, cell: LentCell<'_>) -> Result<(), AllocError>
-        ensures { OnOk result (Puts (lent_cell cell.entry ∷ []) self.old self.new) }
+    pub fn push(&mut self, cell: &LentCell<'_>) -> Result<(), AllocError>
+        ensures { OnOk result (Puts (lent_cell cell.now ∷ []) self.old self.new) }
     {
         if let Some(list) = &mut self.list {
             return push_code_of(self.alloc, list, &mut self.by_row, cell);
@@ -103,6 +103,13 @@ impl CodeColumn {
             return self.push_code(code);
         }
         self.push_listed(cell)
+    }
+
+    /// Makes room for the cells of so many rows more, so that the list of codes does not grow again and again.
+    pub(crate) fn reserve(&mut self, rows: usize) -> Result<(), AllocError>
+        ensures { self.new ≡ self.old }
+    {
+        self.by_row.reserve(rows)
     }
 
     /// Puts the cells of another column after those that are there. Each different cell is looked up once. Errors are those
@@ -173,8 +180,8 @@ impl CodeColumn {
     }
 
     /// Puts a cell after those that are there, by the list of the different ones.
-    fn push_listed(&mut self, cell: LentCell<'_>) -> Result<(), AllocError>
-        ensures { OnOk result (Puts (lent_cell cell.entry ∷ []) self.old self.new) }
+    fn push_listed(&mut self, cell: &LentCell<'_>) -> Result<(), AllocError>
+        ensures { OnOk result (Puts (lent_cell cell.now ∷ []) self.old self.new) }
     {
         let alloc = self.alloc;
         let mut list = self.take_list()?;
@@ -208,7 +215,7 @@ impl CodeColumn {
             return Ok(());
         }
         for code in codes {
-            self.push(LentCell::of(&number_cell(*code)))?;
+            self.push(&LentCell::of(&number_cell(*code)))?;
         }
         Ok(())
     }
@@ -233,7 +240,7 @@ impl CodeColumn {
         let mut list = CellList::new(self.alloc);
         let mut codes = Vec::with_capacity(self.alloc, self.by_row.len())?;
         for code in &self.by_row {
-            let code = list.code_of(self.alloc, LentCell::of(&number_cell(*code)))?;
+            let code = list.code_of(self.alloc, &LentCell::of(&number_cell(*code)))?;
             codes.push(code)?;
         }
         self.by_row = codes;
@@ -253,11 +260,11 @@ fn push_code_of(
     alloc: Global,
     list: &mut CellList,
     codes: &mut Vec<u32>,
-    cell: LentCell<'_>,
+    cell: &LentCell<'_>,
 ) -> Result<(), AllocError>
     requires { AreCodes (Some list.old) codes.old.items }
     ensures within { AreCodes (Some list.new) codes.new.items }
-    ensures puts { OnOk result (decoded (Some list.new) codes.new.items ≡ decoded (Some list.old) codes.old.items ++ lent_cell cell.entry ∷ []) }
+    ensures puts { OnOk result (decoded (Some list.new) codes.new.items ≡ decoded (Some list.old) codes.old.items ++ lent_cell cell.now ∷ []) }
 {
     let code = list.code_of(alloc, cell)?;
     codes.push(code)?;

@@ -73,6 +73,7 @@ impl Columns {
         ensures same { (index : ℕ) → OnOk result (has self.new index ≡ has self.old index) }
         ensures held { (rows : List RowValue) → Hold rows self.old → OnOk result (Hold (rows ++ rows_of piece.now) self.new) }
     {
+        self.reserve(piece.len() as usize)?;
         piece.walk(self)?;
         Ok(())
     }
@@ -93,27 +94,56 @@ impl Columns {
             return Ok(self.column_count() as u64);
         };
         let laid = AtomicU64::new(0);
-        self.lay_out_missing(rt, alloc, piece, &kept, &laid)?;
+        self.lay_out_missing(rt, alloc, piece, &kept, 2, &laid)?;
         for place in 0..self.column_count() {
             self.take_kept_at(rt, alloc, place, piece, &kept, &laid)?;
         }
         Ok(laid.load(SeqCst))
     }
 
-    /// Lays out those of the columns that do not lie beside the piece yet. Several are laid out in one walk, in which each row is
-    /// fetched once for all of them; a single one is left to who takes it. Nothing rests on which are there then.
+    /// Lays out those of the columns that do not lie beside the piece yet, for who takes them later, unless another thread is at
+    /// the piece now. So threads that go over the same pieces share that work, and none waits. It tells how many columns were laid
+    /// out. Nothing rests on which are there then.
+    pub fn lay_out_ahead<H: KeyHash<Cell>, R: Wait>(
+        &self,
+        rt: &R,
+        alloc: Global,
+        piece: &RowPiece<H>,
+    ) -> Result<u64, AllocError> {
+        let Some(kept) = PieceColumns::beside(rt, alloc, piece) else {
+            return Ok(0);
+        };
+        if !self.wants_any(&kept) || !kept.claim() {
+            return Ok(0);
+        }
+        let laid = AtomicU64::new(0);
+        let done = self.lay_out_missing(rt, alloc, piece, &kept, 1, &laid);
+        kept.release();
+        done?;
+        Ok(laid.load(SeqCst))
+    }
+
+    /// Whether one of the columns does not lie beside the piece yet. Nothing rests on it.
+    fn wants_any(&self, kept: &PieceColumns) -> bool {
+        self.columns.iter().any(|named| kept.wants(named.index))
+    }
+
+    /// Lays out those of the columns that do not lie beside the piece yet, in one walk, in which each row is fetched once for all
+    /// of them. Fewer than so many are left to who takes them, and who waits where another thread is at it. Nothing rests on which
+    /// are there then.
     fn lay_out_missing<H: KeyHash<Cell>, R: Wait>(
         &self,
         rt: &R,
         alloc: Global,
         piece: &RowPiece<H>,
         kept: &PieceColumns,
+        fewest: usize,
         laid: &AtomicU64,
     ) -> Result<(), AllocError>
         requires { ArePlacesFor piece.now kept.now.places.items }
     {
         let missing = self.missing(alloc, kept)?;
-        if missing.len() < 2 {
+        if missing.len() < fewest {
             return Ok(());
         }
         let mut all = Columns::of_named(alloc, missing.as_slice())?;
@@ -175,6 +205,16 @@ impl Columns {
         for place in 0..self.columns.len() {
             self.columns[place].form.forget_hints();
         }
+    }
+
+    /// Makes room for so many rows more.
+    fn reserve(&mut self, rows: usize) -> Result<(), AllocError>
+        ensures { self.new ≡ self.old }
+    {
+        for place in 0..self.columns.len() {
+            self.columns[place].reserve(rows)?;
+        }
+        Ok(())
     }
 
     /// Adds a column of no rows, unless there is one of the index.

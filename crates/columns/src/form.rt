@@ -30,17 +30,25 @@ impl Form {
     }
 
     /// Puts a cell after those that are there.
-    pub fn push(&mut self, cell: LentCell<'_>) -> Result<(), AllocError>
-        ensures { OnOk result (Puts (lent_cell cell.entry ∷ []) (column_of self.old) (column_of self.new)) }
+    pub fn push(&mut self, cell: &LentCell<'_>) -> Result<(), AllocError>
+        ensures { OnOk result (Puts (lent_cell cell.now ∷ []) (column_of self.old) (column_of self.new)) }
     {
         match self {
             Form::Own(column) => column.push(cell),
             Form::Shared(column) => {
-                let mut own = column.copied()?;
-                own.push(cell)?;
-                *self = Form::Own(own);
+                *self = Form::Own(copy_with(column, cell)?);
                 Ok(())
             }
+        }
+    }
+
+    /// Makes room for the cells of so many rows more. A column that lies beside a piece is left as it is.
+    pub fn reserve(&mut self, rows: usize) -> Result<(), AllocError>
+        ensures { column_of self.new ≡ column_of self.old }
+    {
+        match self {
+            Form::Own(column) => column.reserve(rows),
+            Form::Shared(_) => Ok(()),
         }
     }
 
@@ -88,4 +96,14 @@ impl Form {
             column.forget_hints();
         }
     }
+}
+
+/// A copy of the column with a cell after its own. It is apart from [`push`](Form::push), which is called for each cell and
+/// hardly ever needs it.
+fn copy_with(column: &CodeColumn, cell: &LentCell<'_>) -> Result<CodeColumn, AllocError>
+    ensures { IfOk result (Puts (lent_cell cell.now ∷ []) column.now) }
+{
+    let mut copy = column.copied()?;
+    copy.push(cell)?;
+    Ok(copy)
 }

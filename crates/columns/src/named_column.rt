@@ -57,8 +57,7 @@ impl NamedColumn {
         ensures same { cells.new ≡ cells.old }
     {
         let cell = cells.cell(self.index);
-        self.form.push(cell)?;
-        Ok(())
+        self.form.push(&cell)
     }
 
     /// Looks at a row: at its first cell, beside which the others lie. What is seen is kept, since a load of which nothing is
@@ -69,6 +68,13 @@ impl NamedColumn {
         self.seen = self.seen.wrapping_add(seen_of(row.cell(0)));
     }
 
+    /// Makes room for the cells of so many rows more.
+    pub fn reserve(&mut self, rows: usize) -> Result<(), AllocError>
+        ensures { self.new ≡ self.old }
+    {
+        self.form.reserve(rows)
+    }
+
     /// Puts the cells of a piece's rows behind those that are there.
     pub fn take_all<H: KeyHash<Cell>, S: Beside<Cell, Row>>(
         &mut self,
@@ -76,6 +82,7 @@ impl NamedColumn {
     ) -> Result<(), AllocError>
         ensures { OnOk result (PutsFor (λ index. cells_at index (rows_of piece.now)) self.old self.new) }
     {
+        self.reserve(piece.len() as usize)?;
         piece.walk(self)?;
         Ok(())
     }

@@ -23,12 +23,12 @@ pub fn number_cell(code: u32) -> Cell
 }
 
 /// The code of a cell that is NULL or an integer from -2,147,483,647 to 2,147,483,647; None of any other. It takes no memory.
-pub(crate) fn number_code(cell: LentCell<'_>) -> Option<u32>
-    ensures { IfSome result (λ code. number_cell code ≡ lent_cell cell.entry) }
+pub(crate) fn number_code(cell: &LentCell<'_>) -> Option<u32>
+    ensures { IfSome result (λ code. number_cell code ≡ lent_cell cell.now) }
 {
     match cell {
         LentCell::Null => Some(NULL),
-        LentCell::Int(number) => code_of(number),
+        LentCell::Int(number) => code_of(*number),
         LentCell::Text(_) => None,
     }
 }

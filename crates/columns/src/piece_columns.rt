@@ -138,6 +138,8 @@ impl Place {
 #[derive(Drop)]
 pub struct PieceColumns {
     pub(crate) places: Vec<Place>,
+    // how many threads wanted to lay out columns since nobody did; nothing rests on it
+    claims: AtomicU64,
 }
 
 impl Summary<Cell, Row> for PieceColumns {
@@ -182,7 +184,21 @@ impl PieceColumns {
             let place = Place::new(alloc, piece, index)?;
             places.push(place)?;
         }
-        Ok(PieceColumns { places })
+        Ok(PieceColumns {
+            places,
+            claims: AtomicU64::new(0),
+        })
+    }
+
+    /// Whether the caller is to lay out columns now: no other thread that asked so is at it. Who is told so calls
+    /// [`release`](PieceColumns::release) when it is done. Nothing rests on it.
+    pub(crate) fn claim(&self) -> bool {
+        self.claims.fetch_add(1, SeqCst) == 0
+    }
+
+    /// Lets others lay out columns again.
+    pub(crate) fn release(&self) {
+        self.claims.store(0, SeqCst);
     }
 
     /// Whether the rows have a column of the index that is not laid out yet. Nothing rests on it.

@@ -15,7 +15,8 @@ pub trait Gate: Sync {
     fn left(&self, _piece: u64) {}
 
     /// So many columns of the piece of this number were laid out, each by going through its rows: the others that were wanted lay
-    /// beside it. Called by the worker that has left it.
+    /// beside it, or another thread was at them. Called by each worker before it draws its first piece, for all pieces and twice,
+    /// and by the worker that has left the piece.
     fn laid_out(&self, _piece: u64, _columns: u64) {}
 
     /// The edition of this number, counted from 1, is the last published one now, and has so many rows. Called after each

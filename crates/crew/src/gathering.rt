@@ -25,6 +25,9 @@ use std::marker::Model;
 use std::sync::Wait;
 use std::thread::Threads;
 
+// How often a worker goes over the pieces to lay out what is wanting, before it draws the first.
+const ROUNDS: u64 = 2;
+
 /// The partial result of the rows of all pieces, of which there are at most [`MAX_PIECES`](crate::MAX_PIECES), for
 /// which the plan's WHERE is true. The pieces have at most 4,294,967,296 rows. As many workers as the smaller of `workers`,
 /// taken as 1 at least and [`MAX_SEATS`](crate::MAX_SEATS) at most, and the number of pieces draw pieces until none are
@@ -221,7 +224,17 @@ impl<'a, 'p, H: KeyHash<Cell> + KeyHash<Tuple> + Send + Sync, G: Gate, R: Wait +
     ghost makes = { λ g places made. Gathers g.plan (rows_at g.pieces places) made };
 
     fn begin(&self, alloc: Global) -> Result<Gathered<'a, H>, AllocError> {
-        Gathered::new(alloc, self.plan)
+        let made = Gathered::new(alloc, self.plan)?;
+        // Reports that run beside each other would come to the same pieces at the same time, and each lay out their columns. Here
+        // each passes by pieces at which another one is, and comes to them once more. Nothing rests on it: who takes a piece lays
+        // out what is wanting, or is refused.
+        for _round in 0..ROUNDS {
+            for (place, piece) in self.pieces.iter().enumerate() {
+                let laid = made.columns.lay_out_ahead(self.rt, alloc, piece);
+                self.gate.laid_out(place as u64, laid.unwrap_or(0));
+            }
+        }
+        Ok(made)
     }
 
     fn take(

@@ -15,8 +15,8 @@ const TEXTS: [Written; 4] = [Null, Text("a"), Text("b"), Text("ab")];
 fn different_in_turn(alloc: Global, first: &Cell, second: &Cell) -> Result<usize, AllocError> {
     let mut column = CodeColumn::new(alloc);
     for _i in 0..100u64 {
-        column.push(LentCell::of(first))?;
-        column.push(LentCell::of(second))?;
+        column.push(&LentCell::of(first))?;
+        column.push(&LentCell::of(second))?;
     }
     let mut codes = Vec::from_slice(alloc, column.codes())?;
     codes.sort_unstable();
@@ -64,7 +64,7 @@ const FIRST: i64 = 1 << 40;
 /// Puts so many integers into the column.
 fn push_many(column: &mut CodeColumn) -> Result<(), AllocError> {
     for number in 0..MANY {
-        column.push(LentCell::Int(FIRST + number))?;
+        column.push(&LentCell::Int(FIRST + number))?;
     }
     Ok(())
 }
