@@ -49,6 +49,10 @@ pub record Editions : Type 0 where
 abbrev pub editions_of : Rows → ℕ → Edition → History → TableId → Editions
 editions_of drafted most last all board = record { drafted = drafted; most = most; last = last; all = all; board = board }
 
+-- where there are no viewers there is no board
+abbrev pub no_board : TableId
+no_board = record { words = 0; slots = 0; views_name = 0; atom = 0; block = 0; offset = 0; slot_names = [] }
+
 -- the rows that updates have left so far
 abbrev pub draft : Editions → Rows
 draft k = k.drafted

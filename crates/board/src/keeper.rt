@@ -1,14 +1,14 @@
 //! The keeper, who alone changes the table.
-ghost use Rattle.std.specs.Prelude.{◌≡◌, ◌+◌, ◌<◌, ◌≤◌, ◌^◌, ◌⊎◌, ◌↔◌, IfOk, IfErr, IsErrOf, IsTrue, OnErr, OnOk};
+ghost use Rattle.std.specs.Prelude.{◌≡◌, ◌+◌, ◌<◌, ◌≤◌, ◌^◌, ◌⊎◌, IfOk, IfErr, IsErrOf, OnErr, OnOk};
 ghost use Rattle.std.specs.FinMap as map;
 ghost use Rattle.cells.specs.CellOrder.{cell_cmp};
 ghost use Rattle.cells.specs.Fitting.{IsRowOf};
 ghost use Rattle.cells.specs.Tables.{AreRowsOf, laid_over};
-ghost use Rattle.cells.specs.Values.{RowValue};
 ghost use Rattle.trie.specs.Maps.{map_of};
 ghost use Rattle.board.specs.Editions.{Begins, ChangesDraft, IsHistory, IsLastOf, IsNewViewer, KnowsAllOf, Publishes, draft, edition, history, limit, published, schema};
 ghost use Rattle.board.specs.Limits.{place_limit, row_limit};
 
+use crate::drafting::{Drafts, with_all, with_put};
 use crate::root::Root;
 use crate::snapshot::Snapshot;
 use crate::told::Told;
@@ -19,7 +19,6 @@ use columns::RowTrie;
 use std::alloc::Global;
 use std::marker::Model;
 use std::sync::{Arc, Wait};
-use trie::entries_are_a_map;
 
 /// Holds a draft, which updates change, and the last published edition. A report never reads the
 /// draft: it takes a [`Snapshot`] of what was published.
@@ -83,12 +82,8 @@ impl<H: KeyHash<Cell>> Keeper<H> {
         ensures refused { IfErr result (λ e. (e ≡ Refused.TooManyRows) ⊎ (e ≡ Refused.OutOfMemory)) }
         ensures unchanged { OnErr result (self.new ≡ self.old) }
     {
-        let key = row.key().owned(self.alloc)?;
-        if has_room(&self.draft, &key, self.limit) {
-            self.draft = self.draft.put(key, row)?;
-            return Ok(());
-        }
-        Err(Refused::TooManyRows)
+        self.draft = with_put(self.alloc, &self.draft, self.limit, row)?;
+        Ok(())
     }
 
     /// Lays all rows of a trie over the draft, as many puts of them would: each takes the place of the row of
@@ -104,20 +99,9 @@ impl<H: KeyHash<Cell>> Keeper<H> {
         ensures refused { IfErr result (λ e. (e ≡ Refused.TooManyRows) ⊎ (e ≡ Refused.OutOfMemory)) }
         ensures unchanged { OnErr result (self.new ≡ self.old) }
     {
-        // The law by which rows laid over others are no fewer; it does nothing.
+        // The law by which rows laid over rows of the table are such rows; it does nothing.
         later_puts_lie_over();
-        if !is_within(&rows, self.limit) {
-            drop(rows);
-            return Err(Refused::TooManyRows);
-        }
-        let laid = self.draft.with_rows(&rows);
-        drop(rows);
-        let draft = laid?;
-        if draft.len() > self.limit {
-            drop(draft);
-            return Err(Refused::TooManyRows);
-        }
-        self.draft = draft;
+        self.draft = with_all(&self.draft, self.limit, rows)?;
         Ok(())
     }
 
@@ -194,6 +178,13 @@ impl<H: KeyHash<Cell>> Keeper<H> {
         Ok(self.last.share()?)
     }
 
+    /// The last published edition, lent. It takes no memory.
+    pub fn last(&self) -> &Snapshot<H>
+        ensures { result.now ≡ self.now.last }
+    {
+        &self.last
+    }
+
     /// The schema of the table. It takes no memory.
     pub fn schema(&self) -> &Schema
         ensures { result.now ≡ schema self.now }
@@ -227,24 +218,14 @@ impl<H: KeyHash<Cell>> Keeper<H> {
     }
 }
 
-/// Whether a draft that keeps the limit still keeps it with a row laid over the key. The key is looked up only where the
-/// draft is full.
-#[tactic(auto, using(crate::proofs::EditionsLemmas::len_most, crate::proofs::EditionsLemmas::len_over, crate::proofs::EditionsLemmas::len_beside))]
-fn has_room<H: KeyHash<Cell>>(draft: &Root<H>, key: &Cell, limit: u64) -> bool
-    requires { map.len draft.now ≤ limit }
-    ensures { (row : RowValue) → IsTrue result ↔ (map.len (map.insert draft.now key.now row) ≤ limit) }
-{
-    if draft.len() < limit {
-        return true;
-    }
-    draft.get(key).is_some()
-}
+impl<H: KeyHash<Cell>> Drafts for Keeper<H> {
+    ghost editions = { λ k. k };
 
-/// Whether the rows of a trie are no more than the limit.
-fn is_within<H: KeyHash<Cell>>(rows: &RowTrie<H>, limit: u64) -> bool
-    ensures { IsTrue result ↔ (map.len (map_of cell_cmp rows.now) ≤ limit) }
-{
-    entries_are_a_map::<Cell, Row, H>();
-    rows.keys_rise();
-    rows.len() <= limit
+    fn put(&mut self, row: Row) -> Result<(), Refused> {
+        Keeper::put(self, row)
+    }
+
+    fn delete(&mut self, key: &Cell) -> Result<(), Refused> {
+        Keeper::delete(self, key)
+    }
 }

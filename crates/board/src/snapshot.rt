@@ -62,8 +62,8 @@ impl<H: KeyHash<Cell>> Snapshot<H> {
         Ok(Snapshot::new(self.edition + 1, root, schema))
     }
 
-    /// One owner more of the same edition.
-    pub(crate) fn share(&self) -> Result<Snapshot<H>, AllocError>
+    /// One owner more of the same edition. The only error is that it was refused.
+    pub fn share(&self) -> Result<Snapshot<H>, AllocError>
         ensures { IfOk result (λ s. s ≡ self.now) }
     {
         let root = self.root.share()?;
