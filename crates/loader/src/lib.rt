@@ -1,4 +1,5 @@
-//! CSV texts as rows of a table: the record of a `put` line, and whole parts, which workers read side by side.
+//! CSV texts as rows of a table: the record of a `put` line, and whole parts, which workers read side by side, or the thread
+//! that calls.
 #![tactic(auto)]
 
 mod cutting;
@@ -17,5 +18,5 @@ mod tries;
 pub use fault::PartFault;
 pub use header::is_header;
 pub use limits::MAX_LISTED_BYTES;
-pub use loading::load;
+pub use loading::{load, load_here};
 pub use records::{Records, fields, read_record};

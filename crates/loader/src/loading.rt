@@ -1,5 +1,5 @@
 //! Lists of parts, which workers read side by side.
-ghost use Rattle.std.specs.Prelude.{◌≡◌, ◌<◌, ◌≤◌, ◌+◌, IfOk, length, map, slice_index_or, sum_by};
+ghost use Rattle.std.specs.Prelude.{◌≡◌, ◌<◌, ◌≤◌, ◌+◌, IfOk, IsErrOf, length, map, slice_index_or, sum_by};
 ghost use Rattle.std.specs.List.{AllZip};
 ghost use Rattle.cells.specs.CellOrder.{cell_cmp};
 ghost use Rattle.crew.specs.Limits.{piece_limit};
@@ -17,7 +17,7 @@ use crate::fault::PartFault;
 use crate::part::{Content, Counted, read_piece};
 use crate::pieces::{Piece, piece_size, pieces_of};
 use crate::shares::Shares;
-use crate::tries::{Sources, trie_of_shares};
+use crate::tries::{Sources, trie_here, trie_of_shares};
 use cells::{Cell, KeyHash, Schema};
 use columns::RowTrie;
 use crew::{Gate, Task, share_out};
@@ -72,6 +72,56 @@ pub fn load<H: KeyHash<Cell> + Send + Sync, G: Gate, R: Threads + Wait>(
         workers,
         gate,
     )
+}
+
+/// [`load`] in the thread that calls: it reads one part after another, and then makes the trie. Nobody is told of that.
+///
+/// [`PartFault::OutOfMemory`] where there was no memory; otherwise [`PartFault::Bad`] where a part has a faulty record, with the
+/// first listed part that has one. No thread is wanted.
+pub fn load_here<H: KeyHash<Cell>>(
+    alloc: Global,
+    parts: &[(u64, &[u8])],
+    schema: &Schema,
+) -> Result<RowTrie<H>, PartFault>
+    requires many { length parts.now ≤ piece_limit }
+    ensures loaded { Loads (rows_of_parts schema.now (map part_of parts.now)) result }
+    ensures fits { IfOk result (λ trie. AreRowsOf schema.now (map_of cell_cmp trie)) }
+    ensures alone { IsErrOf result PartFault.NoWorker → ⊥ }
+{
+    let pieces = pieces_of(alloc, parts, piece_size(parts, 1))?;
+    load_pieces_here(alloc, pieces.as_slice(), schema)
+}
+
+/// The same of the pieces of the parts.
+fn load_pieces_here<H: KeyHash<Cell>>(
+    alloc: Global,
+    pieces: &[Piece<'_>],
+    schema: &Schema,
+) -> Result<RowTrie<H>, PartFault>
+    ensures loaded { Loads (rows_of_pieces schema.now 0 pieces.now) result }
+    ensures fits { IfOk result (λ trie. AreRowsOf schema.now (map_of cell_cmp trie)) }
+    ensures alone { IsErrOf result PartFault.NoWorker → ⊥ }
+{
+    let found = read_here::<H>(alloc, pieces, schema)?;
+    let shares = rows_of::<H>(alloc, pieces, schema, found)?;
+    Ok(trie_here(alloc, shares)?)
+}
+
+/// What the pieces hold, read one after another.
+fn read_here<H: KeyHash<Cell>>(
+    alloc: Global,
+    pieces: &[Piece<'_>],
+    schema: &Schema,
+) -> Result<Vec<Found>, AllocError>
+    ensures { IfOk result (λ all. AreRead H.hash_of schema.now pieces.now all.items) }
+{
+    let mut all = Vec::with_capacity(alloc, pieces.len())?;
+    for piece in pieces {
+        let place = all.len() as u64;
+        let content = read_piece::<H>(alloc, piece, schema)?;
+        all.push(Found { place, content })?;
+    }
+    Ok(all)
 }
 
 /// Loads the pieces of so many parts.

@@ -9,7 +9,7 @@ use crate::fault::PartFault;
 use crate::shares::{KeyedRows, SHARES, Share, Shares};
 use cells::{Cell, KeyHash, Row, later_puts_lie_over, updates_make_a_map};
 use columns::RowTrie;
-use crew::Gate;
+use crew::{Gate, Open};
 use std::alloc::{AllocError, Global};
 use std::snapshot::Snapshot;
 use std::sync::Wait;
@@ -58,6 +58,22 @@ pub(crate) fn trie_of_shares<H: KeyHash<Cell> + Send + Sync, G: Gate, R: Threads
     } else {
         Ok(one_by_one(alloc, runs, gate)?)
     }
+}
+
+/// The same in the thread that calls: one run of all shares.
+pub(crate) fn trie_here<H: KeyHash<Cell>>(
+    alloc: Global,
+    shares: Shares,
+) -> Result<RowTrie<H>, AllocError>
+    ensures { IfOk result (HoldsShares H.hash_of (in_shares shares.shares.items)) }
+{
+    updates_make_a_map();
+    let sources = Sources {
+        parts: 1,
+        pieces: 1,
+    };
+    let runs = runs_of(alloc, shares.shares, sources, 1)?;
+    one_by_one(alloc, runs, &Open)
 }
 
 /// The shares of rows from these sources, in their order, in runs for so many workers. Each run has as many shares as the

@@ -1,5 +1,6 @@
 pub mod ArrangingLemmas
 pub mod CrossingLemmas
+pub mod HereLemmas
 pub mod PiecesLemmas
 pub mod SortingLemmas
 pub mod StartedLemmas

@@ -9,22 +9,23 @@ ghost use Rattle.report.specs.Reports.{classic, question_of};
 ghost use Rattle.report.specs.Standing.{AreRowsFor, AreShown};
 ghost use Rattle.report.specs.Waiting.{IsReportText};
 
-use crate::arranging::{Arrangement, arrange};
+use crate::arranging::Arrangement;
+use crate::here::arranged;
 use crate::pieces::{cutting_of, pieces_of};
 use crate::printing::text_in;
 use crate::question::Question;
 use crate::want::Want;
 use board::Snapshot;
-use cells::{Cell, KeyHash, Refused, Row, Tuple};
+use cells::{Cell, KeyHash, Refused, Tuple};
 use columns::RowPiece;
 use crew::{Gate, gather_pieces};
 use forms::Form;
-use groups::{ReportRow, any_order};
+use groups::ReportRow;
 use query::Plan;
 use std::alloc::{AllocError, Global};
 use std::sync::Wait;
 use std::thread::Threads;
-use trie::{Cutting, a_map_has_its_entries};
+use trie::Cutting;
 
 /// The text of the plan's report over the rows of the snapshot, in the classic form, in whatever order they came and however they are cut
 /// into pieces. As many workers as the smaller of `workers`, taken as 1 at least and
@@ -160,12 +161,8 @@ impl<'a, R: Threads + Wait + Sync, G: Gate> Answering<'a, R, G> {
     ) -> Result<Vec<ReportRow>, Want>
         ensures { IfOk result (λ v. AreShown snapshot.now.rows plan.now arrangement.now v.items) }
     {
-        // These do nothing: the order of rows does not count, and a list of an edition's rows has those of its map.
-        any_order::<H>();
-        a_map_has_its_entries::<Cell, Row>();
-        let mut rows = self.unarranged(snapshot, plan)?;
-        arrange(self.alloc, arrangement, plan.headings(), &mut rows)?;
-        Ok(rows)
+        let rows = self.unarranged(snapshot, plan)?;
+        Ok(arranged(self.alloc, snapshot.root(), plan, arrangement, rows)?)
     }
 
     /// The rows of the plan's report over those of the snapshot, by the columns of the pieces that its rows are cut into.
