@@ -4,6 +4,7 @@ pub mod ChangesLemmas
 pub mod CommandsLemmas
 pub mod EndingsLemmas
 pub mod GalleryLemmas
+pub mod HereLemmas
 pub mod LinesLemmas
 pub mod ListingsLemmas
 pub mod ParametersLemmas

@@ -7,8 +7,7 @@ use Rattle.cells.specs.Tables.{Rows}
 use Rattle.cells.specs.Values.{RowValue, Table}
 use Rattle.cells.specs.declared.refused.Refused.{Refused}
 use Rattle.cells.specs.declared.refused.Refused.TheVariants.{OutOfMemory}
-use Rattle.board.specs.Editions.{Editions}
-use Rattle.board.specs.Editions as keeper
+use Rattle.board.specs.Editions.{Edition}
 use Rattle.script.specs.Blocks.{WillReport, WillReportPlan}
 use Rattle.script.specs.Output.{IsReport, report}
 use Rattle.report.specs.Wants.{refusal_of}
@@ -103,22 +102,22 @@ pub never_wrong : OneAnswer → {t : Table} {rs : List RowValue} {query : List �
 never_wrong law says wrong = let both = says_one law says wrong.says in absurd cc
 
 -- the block of a refused report
-pub answers_refused : {H : Type 0} {manner : Manner} (k : Editions) (number : ℕ) (query : List ℕ) (fault : Refused) (bytes : Vec ℕ Global) →
-    IsRefused (keeper.schema k) query fault → (Line fault ≡ Line OutOfMemory → false ≡ true) → bytes.items ≡ refusal manner.form number (Line fault) → WillReport {H = H} manner k number query (Refusal bytes)
-answers_refused k number query fault bytes (inl wanting) memory is = absurd (let bad : false ≡ true = memory (ap Line wanting) in cc)
-answers_refused {manner = manner} k number query fault bytes (inr says) memory is = record {
+pub answers_refused : {H : Type 0} {manner : Manner} (last : Edition) (number : ℕ) (query : List ℕ) (fault : Refused) (bytes : Vec ℕ Global) →
+    IsRefused last.schema query fault → (Line fault ≡ Line OutOfMemory → false ≡ true) → bytes.items ≡ refusal manner.form number (Line fault) → WillReport {H = H} manner last number query (Refusal bytes)
+answers_refused last number query fault bytes (inl wanting) memory is = absurd (let bad : false ≡ true = memory (ap Line wanting) in cc)
+answers_refused {manner = manner} last number query fault bytes (inr says) memory is = record {
   is = λ rs left same. record { text = refusal manner.form number (Line fault); is = record { said = Err fault; says = says rs; is = refl }; will = is; tells = record { fault = fault; says = says rs } };
 }
 
 -- the block of a report that is answered
-pub answers_plan : {H : Type 0} {manner : Manner} → OneAnswer → (k : Editions) (number : ℕ) (query : List ℕ) (plan : PlanTree) (block : Block H) →
-    MeansPlan (keeper.schema k) query plan → WillReportPlan manner k number plan block → WillReport manner k number query block
-answers_plan {manner = manner} law k number query plan block asks answers = record {
+pub answers_plan : {H : Type 0} {manner : Manner} → OneAnswer → (last : Edition) (number : ℕ) (query : List ℕ) (plan : PlanTree) (block : Block H) →
+    MeansPlan last.schema query plan → WillReportPlan manner last number plan block → WillReport manner last number query block
+answers_plan {manner = manner} law last number query plan block asks answers = record {
   is = λ rs left same. record {
-    text = report manner number (keeper.edition k) (Ok (answer_of plan rs));
+    text = report manner number last.number (Ok (answer_of plan rs));
     is = record { said = Ok (answer_of plan rs); says = asks rs; is = refl };
     will = answers.is rs left same;
-    tells = subst (λ b. Tells b (AsksWrongly (keeper.schema k) rs query)) (sym answers.accepted) (never_wrong law (asks rs));
+    tells = subst (λ b. Tells b (AsksWrongly last.schema rs query)) (sym answers.accepted) (never_wrong law (asks rs));
   };
 }
 

@@ -238,7 +238,7 @@ executes_refused_text hash givens line number desk fault (Ok bytes) (inr does) m
 executes_refused_text hash givens line number desk fault (Err e) asks memory is = tt
 
 pub steps_report : {H : Type 0} (hash : Cell → ℕ) (givens : Givens) (line : List ℕ) (number : ℕ) (k : Editions) (query : List ℕ) (block : Block H)
-    → deed (Some (keeper.schema k)) line ≡ Ok (Reports (keeper.schema k) query) → WillReport givens.manner k number query block → Steps hash givens line number (Some k) (Some k) block
+    → deed (Some (keeper.schema k)) line ≡ Ok (Reports (keeper.schema k) query) → WillReport givens.manner k.last number query block → Steps hash givens line number (Some k) (Some k) block
 steps_report hash givens line number k query block does answers =
     let r = Ok (Reports (keeper.schema k) query) in record {
       foretells = λ before stands n.

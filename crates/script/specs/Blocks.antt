@@ -1,8 +1,7 @@
 -- What a line gives: the text of its block, or a report whose answer is still to come.
 use Rattle.std.specs.Prelude.{◌≡◌, ◌+◌, ℕ, Bool, true, false, List, [], ◌∷◌, length, Option, Ok, Vec, ⊤}
 use Rattle.std.specs.declared.alloc.Global.{Global}
-use Rattle.board.specs.Editions.{Editions}
-use Rattle.board.specs.Editions as keeper
+use Rattle.board.specs.Editions.{Edition, Editions}
 use Rattle.cells.specs.Tables.{table}
 use Rattle.cells.specs.Updates.{AreLeft}
 use Rattle.cells.specs.Values.{RowValue}
@@ -61,11 +60,11 @@ pub record Steps {H : Type 0} (hash : Cell → ℕ) (givens : Givens) (line : Li
   pub stays : Stays old new
   pub asks : IsAsked block → HasWorkers (deed (schema_of_desk old) line)
 
--- the block will be that of a report over the rows that the keeper has published, in whatever order they are listed
-pub record WillReport {H : Type 0} (manner : Manner) (k : Editions) (number : ℕ) (query : List ℕ) (block : Block H) : Type 0 where
-  pub is : (rs : List RowValue) → AreLeft rs → keeper.published k ≡ table rs → Foretells (IsReport manner number (keeper.edition k) (keeper.schema k) rs query) (AsksWrongly (keeper.schema k) rs query) block
+-- the block will be that of a report over the rows of the last edition, in whatever order they are listed
+pub record WillReport {H : Type 0} (manner : Manner) (last : Edition) (number : ℕ) (query : List ℕ) (block : Block H) : Type 0 where
+  pub is : (rs : List RowValue) → AreLeft rs → last.rows ≡ table rs → Foretells (IsReport manner number last.number last.schema rs query) (AsksWrongly last.schema rs query) block
 
 -- the block will be that of the plan's answer over those rows
-pub record WillReportPlan {H : Type 0} (manner : Manner) (k : Editions) (number : ℕ) (plan : PlanTree) (block : Block H) : Type 0 where
-  pub is : (rs : List RowValue) → AreLeft rs → keeper.published k ≡ table rs → WillBe block (report manner number (keeper.edition k) (Ok (answer_of plan rs)))
+pub record WillReportPlan {H : Type 0} (manner : Manner) (last : Edition) (number : ℕ) (plan : PlanTree) (block : Block H) : Type 0 where
+  pub is : (rs : List RowValue) → AreLeft rs → last.rows ≡ table rs → WillBe block (report manner number last.number (Ok (answer_of plan rs)))
   pub accepted : is_refused block ≡ false

@@ -3,7 +3,6 @@ ghost use Rattle.std.specs.Prelude.{◌≡◌, ◌++◌, IfOk, IsErr, OnOk};
 ghost use Rattle.std.specs.FinMap.{keys};
 ghost use Rattle.std.specs.List.{flat_map};
 ghost use Rattle.trie.specs.Shapes.{shape_of};
-ghost use Rattle.board.specs.Editions as editions;
 ghost use Rattle.script.specs.Blocks.{is_refused, quiet};
 ghost use Rattle.script.specs.Spelling.{opening, refusal, shape_text, viewers_refused};
 ghost use Rattle.script.specs.Viewers.{view_block};
@@ -13,7 +12,7 @@ use crate::fault::Fault;
 use crate::manner::Manner;
 use crate::setup::SpeltSetup;
 use crate::spelling;
-use board::{Keeper, Snapshot};
+use board::Snapshot;
 use cells::{Cell, KeyHash, Refused};
 use crew::Gate;
 use forms::Form;
@@ -63,34 +62,17 @@ pub struct Asked<H: KeyHash<Cell>> {
     pub question: Question,
 }
 
-/// The block of a shape of the last published edition.
+/// The block of a shape of the edition.
 pub fn shape_block<H: KeyHash<Cell>>(
     alloc: Global,
     manner: &Manner,
-    keeper: &Keeper<H>,
+    last: &Snapshot<H>,
     number: u64,
 ) -> Result<Vec<u8>, AllocError>
-    ensures { IfOk result (λ block. block.items ≡ shape_text manner.now number (editions.edition keeper.now) (shape_of H.hash_of (keys (editions.published keeper.now)))) }
+    ensures { IfOk result (λ block. block.items ≡ shape_text manner.now number last.now.number (shape_of H.hash_of (keys last.now.rows))) }
 {
-    let Ok(snapshot) = keeper.snapshot() else {
-        return Err(AllocError);
-    };
-    let block = snapshot_block(alloc, manner, &snapshot, number);
-    drop(snapshot);
-    block
-}
-
-/// The block of a shape of the snapshot's edition.
-fn snapshot_block<H: KeyHash<Cell>>(
-    alloc: Global,
-    manner: &Manner,
-    snapshot: &Snapshot<H>,
-    number: u64,
-) -> Result<Vec<u8>, AllocError>
-    ensures { IfOk result (λ block. block.items ≡ shape_text manner.now number snapshot.now.number (shape_of H.hash_of (keys snapshot.now.rows))) }
-{
-    let shape = snapshot.root().shape()?;
-    let block = shape_lines(alloc, manner, number, snapshot.edition(), shape.as_slice());
+    let shape = last.root().shape()?;
+    let block = shape_lines(alloc, manner, number, last.edition(), shape.as_slice());
     drop(shape);
     block
 }

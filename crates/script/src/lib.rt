@@ -16,6 +16,7 @@ mod finish;
 mod gallery;
 mod hash_choice;
 mod heard;
+mod here;
 mod how;
 mod json_spelling;
 mod laws;
@@ -48,6 +49,7 @@ pub use ended::Ended;
 pub use finish::Finish;
 pub use hash_choice::HashChoice;
 pub use heard::Heard;
+pub use here::output_here;
 pub use how::How;
 pub use laws::{
     a_session_writes_the_output_of_its_lines, each_line_by_itself, each_script_has_one_output,

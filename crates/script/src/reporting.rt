@@ -18,19 +18,19 @@ use std::alloc::{AllocError, Global};
 use std::sync::Wait;
 use std::thread::Threads;
 
-/// The block of a report of the last published edition: what the text asks of that edition, or its first fault.
+/// The block of a report of the edition that stands published: what the text asks of it, or its first fault.
 pub fn execute_report<H: KeyHash<Cell>, G: Gate, R>(
     setup: &SpeltSetup<'_, R, G>,
-    keeper: &Keeper<H>,
+    last: &Snapshot<H>,
     text: &str,
     number: u64,
 ) -> Result<Block<H>, AllocError>
-    ensures { IfOk result (WillReport setup.now.manner.now keeper.now number text.now) }
+    ensures { IfOk result (WillReport setup.now.manner.now last.now number text.now) }
 {
     // The law by which a line whose report is answered is not refused; it does nothing.
     a_text_has_one_answer();
-    match read_plan(setup.alloc, text, keeper.schema()) {
-        Ok(plan) => ask(setup.alloc, setup.manner, keeper, plan, number),
+    match read_plan(setup.alloc, text, last.schema()) {
+        Ok(plan) => ask(setup.alloc, setup.manner, last, plan, number),
         Err(fault) => {
             let block = refuse(setup, number, Fault::Line(fault))?;
             Ok(Block::Refusal(block))
@@ -85,33 +85,23 @@ fn snapshot_values<
     Ok(Answer { plan, rows })
 }
 
-/// A snapshot of the last published edition, with the plan whose report of it is the block.
+/// One owner more of that edition, with the plan whose report of it is the block.
 fn ask<H: KeyHash<Cell>>(
     alloc: Global,
     manner: &Manner,
-    keeper: &Keeper<H>,
+    last: &Snapshot<H>,
     plan: Plan,
     number: u64,
 ) -> Result<Block<H>, AllocError>
-    ensures { IfOk result (WillReportPlan manner.now keeper.now number plan) }
+    ensures { IfOk result (WillReportPlan manner.now last.now number plan) }
 {
     let question = manner.question(alloc, plan)?;
-    let opening = report_opening(alloc, manner, number, keeper.edition());
+    let opening = report_opening(alloc, manner, number, last.edition());
     let (question, opening) = beside(opening, question)?;
-    let (question, snapshot) = beside(published(keeper), question)?;
+    let (question, snapshot) = beside(last.share(), question)?;
     Ok(Block::Report(Asked {
         opening,
         snapshot,
         question,
     }))
-}
-
-/// The last published edition.
-fn published<H: KeyHash<Cell>>(keeper: &Keeper<H>) -> Result<Snapshot<H>, AllocError>
-    ensures { IfOk result (λ s. s.rows ≡ editions.published keeper.now) }
-{
-    let Ok(snapshot) = keeper.snapshot() else {
-        return Err(AllocError);
-    };
-    Ok(snapshot)
 }

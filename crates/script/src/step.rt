@@ -22,7 +22,7 @@ use crate::load_line::execute_load;
 use crate::reporting::execute_report;
 use crate::setup::SpeltSetup;
 use crate::statement::{Statement, read_first, read_statement};
-use board::{Keeper, rows_have_the_shape_of_their_keys};
+use board::{Drafts, Keeper, rows_have_the_shape_of_their_keys};
 use cells::{Cell, KeyHash, Refused, Row, later_puts_lie_over};
 use crew::Gate;
 use report::Want;
@@ -104,18 +104,20 @@ fn execute_kept<H: KeyHash<Cell> + Send + Sync, G: Gate, R: Threads + Wait>(
         Ok(Statement::Put(row)) => quiet_block(put(setup, keeper, row, line.number)),
         Ok(Statement::Delete(key)) => quiet_block(delete(alloc, keeper, key)),
         Ok(Statement::Publish) => quiet_block(publish(setup, keeper)),
-        Ok(Statement::Report(query)) => Ok(execute_report(setup, keeper, query, line.number)?),
+        Ok(Statement::Report(query)) => {
+            Ok(execute_report(setup, keeper.last(), query, line.number)?)
+        }
         Ok(Statement::Shape) => {
             // The law by which the block is that of the published rows; it does nothing.
             rows_have_the_shape_of_their_keys::<H>();
-            text_block(shape_block(alloc, setup.manner, keeper, line.number))
+            text_block(shape_block(alloc, setup.manner, keeper.last(), line.number))
         }
         Err(fault) => quiet_block(refuse(setup, line.number, fault)),
     }
 }
 
 /// The block of a line that gives this text.
-fn text_block<H: KeyHash<Cell>>(text: Result<Vec<u8>, AllocError>) -> Result<Block<H>, Want>
+pub fn text_block<H: KeyHash<Cell>>(text: Result<Vec<u8>, AllocError>) -> Result<Block<H>, Want>
     ensures found { IfOk text (λ bytes. result ≡ Ok (Block.Text bytes)) }
     ensures memory { IfErr text (λ _. result ≡ Err want.Memory) }
     ensures worker { IsErrOf result want.Worker → ⊥ }
@@ -127,7 +129,7 @@ fn text_block<H: KeyHash<Cell>>(text: Result<Vec<u8>, AllocError>) -> Result<Blo
 }
 
 /// What a line gives that writes nothing where it is accepted.
-fn quiet_block<H: KeyHash<Cell>>(text: Result<Vec<u8>, AllocError>) -> Result<Block<H>, Want>
+pub fn quiet_block<H: KeyHash<Cell>>(text: Result<Vec<u8>, AllocError>) -> Result<Block<H>, Want>
     ensures found { IfOk text (λ bytes. result ≡ Ok (quiet bytes)) }
     ensures memory { IfErr text (λ _. result ≡ Err want.Memory) }
     ensures worker { IsErrOf result want.Worker → ⊥ }
@@ -139,16 +141,16 @@ fn quiet_block<H: KeyHash<Cell>>(text: Result<Vec<u8>, AllocError>) -> Result<Bl
 }
 
 /// Lays a row over the draft, or refuses it where the draft is full.
-fn put<H: KeyHash<Cell>, G: Gate, R>(
+pub fn put<D: Drafts, G: Gate, R>(
     setup: &SpeltSetup<'_, R, G>,
-    keeper: &mut Keeper<H>,
+    table: &mut D,
     row: Row,
     number: u64,
 ) -> Result<Vec<u8>, AllocError>
-    requires row { IsRowOf (editions.schema keeper.old) row }
-    ensures step { IfOk result (λ block. PutsRow setup.now.manner.now.form keeper.old keeper.new row number block.items) }
+    requires row { IsRowOf (editions.schema (D.editions table.old)) row }
+    ensures step { IfOk result (λ block. PutsRow setup.now.manner.now.form (D.editions table.old) (D.editions table.new) row number block.items) }
 {
-    match lay(keeper, row)? {
+    match lay(table, row)? {
         None => Ok(Vec::new(setup.alloc)),
         Some(rule) => refuse(setup, number, Fault::Line(rule)),
     }
@@ -156,14 +158,11 @@ fn put<H: KeyHash<Cell>, G: Gate, R>(
 
 /// The same, but for the text: it gives the rule that refuses the row, where one does.
 #[tactic(auto, using(crate::proofs::ChangesLemmas::laid, crate::proofs::ChangesLemmas::overflown))]
-pub fn lay<H: KeyHash<Cell>>(
-    keeper: &mut Keeper<H>,
-    row: Row,
-) -> Result<Option<Refused>, AllocError>
-    requires row { IsRowOf (editions.schema keeper.old) row }
-    ensures step { IfOk result (λ rule. (form : Form) (number : ℕ) → PutsRow form keeper.old keeper.new row number (change_text form number rule)) }
+pub fn lay<D: Drafts>(table: &mut D, row: Row) -> Result<Option<Refused>, AllocError>
+    requires row { IsRowOf (editions.schema (D.editions table.old)) row }
+    ensures step { IfOk result (λ rule. (form : Form) (number : ℕ) → PutsRow form (D.editions table.old) (D.editions table.new) row number (change_text form number rule)) }
 {
-    match keeper.put(row) {
+    match table.put(row) {
         Ok(()) => Ok(None),
         Err(Refused::TooManyRows) => Ok(Some(Refused::TooManyRows)),
         Err(_) => Err(AllocError),
@@ -171,15 +170,11 @@ pub fn lay<H: KeyHash<Cell>>(
 }
 
 /// Takes the row of the key out of the draft.
-pub fn delete<H: KeyHash<Cell>>(
-    alloc: Global,
-    keeper: &mut Keeper<H>,
-    key: Cell,
-) -> Result<Vec<u8>, AllocError>
-    ensures draft { OnOk result (ChangesDraft keeper.old keeper.new (remove (editions.draft keeper.old) key)) }
+pub fn delete<D: Drafts>(alloc: Global, table: &mut D, key: Cell) -> Result<Vec<u8>, AllocError>
+    ensures draft { OnOk result (ChangesDraft (D.editions table.old) (D.editions table.new) (remove (editions.draft (D.editions table.old)) key)) }
     ensures nothing { IfOk result (λ block. block.items ≡ []) }
 {
-    if keeper.delete(&key).is_err() {
+    if table.delete(&key).is_err() {
         return Err(AllocError);
     }
     Ok(Vec::new(alloc))

@@ -1,9 +1,11 @@
-//! Plain runs of a script, by a hash that is chosen.
+//! Plain runs of a script, by a hash that is chosen, and in the thread that calls.
 
+use cells::Plain;
 use crew::Open;
+use forms::Form;
 use report::Pour;
-use script::{Ended, HashChoice, How, run_by};
-use std::alloc::Global;
+use script::{Ended, HashChoice, How, Manner, output_here, run_by};
+use std::alloc::{AllocError, Global};
 use std::sync::Wait;
 use std::test::Fail;
 use std::thread::Threads;
@@ -61,5 +63,20 @@ fn writes_by<R: Threads + Wait + Sync>(
 fn a_script_is_run_by_either_hash(rt: HostRuntime) -> Result<(), Fail> {
     assert!(rt; writes_by(&rt, rt.alloc(), HashChoice::Plain, BY_PLAIN)?);
     assert!(rt; writes_by(&rt, rt.alloc(), HashChoice::Fnv, BY_FNV)?);
+    Ok(())
+}
+
+/// Whether the script's output is this where no other thread is there. Want of memory is an error.
+fn writes_here(alloc: Global, wanted: &str) -> Result<bool, AllocError> {
+    let parts = [Vec::from_slice(alloc, PART)?];
+    let how = How::default();
+    let manner = Manner::of(alloc, Form::Classic);
+    let text = output_here::<Plain>(alloc, LINES, &parts, &how, &manner)?;
+    Ok(text.as_slice() == wanted.as_bytes())
+}
+
+#[test]
+fn a_script_is_run_in_the_thread_that_calls(rt: HostRuntime) -> Result<(), Fail> {
+    assert!(rt; writes_here(rt.alloc(), BY_PLAIN)?);
     Ok(())
 }

@@ -18,13 +18,13 @@ pub returns-in-Ok-Put : goal.returns-in-Ok-Put
 returns-in-Ok-Put g c =
     let given = givens_in c.args.setup.now.manner.now c.args.setup.now.how.now.rows c.args.setup.now.parts.now in
     let does = ap (λ t. deed (Some t) c.args.line.now) (sym c.schema.ensures) ∙ c.in-Ok-Put.ensures.exact ∙ ap (λ s. Ok (deed_of_statement c.schema.result.now s)) c.in-Ok-Put.field-0-is in
-    IfOk-weaker c.lay.result _ _ (λ rule puts number. executes_put g.H.KeyHash.hash_of given c.args.line.now number c.args.keeper.now c.lay.new.keeper c.in-Ok-Put.row _ does (puts given.manner.form number)) c.lay.ensures.step
+    IfOk-weaker c.lay.result _ _ (λ rule puts number. executes_put g.H.KeyHash.hash_of given c.args.line.now number c.args.keeper.now c.lay.new.table c.in-Ok-Put.row _ does (puts given.manner.form number)) c.lay.ensures.step
 
 pub returns-in_ok-delete-in-Ok-Delete : goal.returns-in_ok-delete-in-Ok-Delete
 returns-in_ok-delete-in-Ok-Delete g c = λ number.
     let given = givens_in c.args.setup.now.manner.now c.args.setup.now.how.now.rows c.args.setup.now.parts.now in
     let does = ap (λ t. deed (Some t) c.args.line.now) (sym c.schema.ensures) ∙ c.in-Ok-Delete.ensures.exact ∙ ap (λ s. Ok (deed_of_statement c.schema.result.now s)) c.in-Ok-Delete.field-0-is in
-    executes_delete g.H.KeyHash.hash_of given c.args.line.now number c.args.keeper.now c.in-Ok-Delete.key does c.delete.new.keeper _ c.in_ok-delete-in-Ok-Delete.ensures.draft refl
+    executes_delete g.H.KeyHash.hash_of given c.args.line.now number c.args.keeper.now c.in-Ok-Delete.key does c.delete.new.table _ c.in_ok-delete-in-Ok-Delete.ensures.draft refl
 
 pub returns-in_ok-publish-in-Ok-Publish : goal.returns-in_ok-publish-in-Ok-Publish
 returns-in_ok-publish-in-Ok-Publish g c = λ number.

@@ -1,5 +1,5 @@
 use Rattle.std.proofs.Common.{◌≡◌, ◌∙◌, ◌++◌, ap, refl, sym}
-use Rattle.board.specs.Editions as editions
+use Rattle.board.specs.Editions.{Edition}
 use Rattle.report.specs.Reports.{answer_to}
 use Rattle.report.specs.declared.question.Question.{Question}
 use Rattle.script.specs.Says.{answer_of, spelt}
@@ -10,9 +10,9 @@ pub returns : goal.returns
 returns g c = record {
   is = λ rs left same.
       let begins = rw c.in_ok-question-2.ensures.0 at c.report_opening-opening.ensures in
-      let named : c.in_ok-question-2.opening.items ≡ opening c.args.manner.now c.args.number (editions.edition c.args.keeper.now) =
+      let named : c.in_ok-question-2.opening.items ≡ opening c.args.manner.now c.args.number c.args.last.now.number =
       begins ∙ ap (opening c.args.manner.now c.args.number) c.edition.ensures in
-      let rows = rw c.in_ok-question-3.ensures.0 at c.published.ensures in
+      let rows = ap (λ (e : Edition). e.rows) (rw c.in_ok-question-3.ensures.0 at c.share.ensures) in
       record {
         answer = spelt c.args.manner.now (answer_of c.args.plan rs);
         has = λ answer answers.

@@ -42,9 +42,9 @@ returns-in-Ok-Put-clause-step g c =
     let does =
     ap (λ t. deed (Some t) c.args.line.bytes.now) (sym c.schema.ensures) ∙ c.in-Ok-Put.ensures.exact
     ∙ ap (λ s. Ok (deed_of_statement c.schema.result.now s)) c.in-Ok-Put.field-0-is in
-    steps_as_quiet g.H.KeyHash.hash_of given c.args.line.bytes.now c.args.line.number (Some c.args.keeper.now) (Some c.put.new.keeper) c.put.result c.quiet_block.result _ c.quiet_block.ensures.found c.quiet_block.ensures.memory (λ found. subst IsPlain (sym does) tt)
+    steps_as_quiet g.H.KeyHash.hash_of given c.args.line.bytes.now c.args.line.number (Some c.args.keeper.now) (Some c.put.new.table) c.put.result c.quiet_block.result _ c.quiet_block.ensures.found c.quiet_block.ensures.memory (λ found. subst IsPlain (sym does) tt)
     (IfOk-weaker c.put.result _ _ (λ bytes puts. quiet_laid _ _ _ c.args.line.number bytes.items puts) c.put.ensures.step)
-    (IfOk-weaker c.put.result _ _ (λ bytes puts. executes_put g.H.KeyHash.hash_of given c.args.line.bytes.now c.args.line.number c.args.keeper.now c.put.new.keeper c.in-Ok-Put.row bytes.items does puts) c.put.ensures.step)
+    (IfOk-weaker c.put.result _ _ (λ bytes puts. executes_put g.H.KeyHash.hash_of given c.args.line.bytes.now c.args.line.number c.args.keeper.now c.put.new.table c.in-Ok-Put.row bytes.items does puts) c.put.ensures.step)
 
 pub put-requires : goal.put-requires
 put-requires g c =
@@ -57,9 +57,9 @@ returns-in-Ok-Delete-clause-step g c =
     let does =
     ap (λ t. deed (Some t) c.args.line.bytes.now) (sym c.schema.ensures) ∙ c.in-Ok-Delete.ensures.exact
     ∙ ap (λ s. Ok (deed_of_statement c.schema.result.now s)) c.in-Ok-Delete.field-0-is in
-    steps_as_quiet g.H.KeyHash.hash_of given c.args.line.bytes.now c.args.line.number (Some c.args.keeper.now) (Some c.delete.new.keeper) c.delete.result c.quiet_block-in-Ok-Delete.result _ c.quiet_block-in-Ok-Delete.ensures.found c.quiet_block-in-Ok-Delete.ensures.memory (λ found. subst IsPlain (sym does) tt)
+    steps_as_quiet g.H.KeyHash.hash_of given c.args.line.bytes.now c.args.line.number (Some c.args.keeper.now) (Some c.delete.new.table) c.delete.result c.quiet_block-in-Ok-Delete.result _ c.quiet_block-in-Ok-Delete.ensures.found c.quiet_block-in-Ok-Delete.ensures.memory (λ found. subst IsPlain (sym does) tt)
     (IfOk-weaker c.delete.result _ _ (λ bytes none. inl none) c.delete.ensures.nothing)
-    (both_ok c.delete.result _ _ _ (λ bytes changes none. executes_delete g.H.KeyHash.hash_of given c.args.line.bytes.now c.args.line.number c.args.keeper.now c.in-Ok-Delete.key does c.delete.new.keeper bytes.items changes none) c.delete.ensures.draft c.delete.ensures.nothing)
+    (both_ok c.delete.result _ _ _ (λ bytes changes none. executes_delete g.H.KeyHash.hash_of given c.args.line.bytes.now c.args.line.number c.args.keeper.now c.in-Ok-Delete.key does c.delete.new.table bytes.items changes none) c.delete.ensures.draft c.delete.ensures.nothing)
 
 pub returns-in-Ok-Publish-clause-step : goal.returns-in-Ok-Publish-clause-step
 returns-in-Ok-Publish-clause-step g c =
@@ -77,7 +77,7 @@ returns-in_ok-execute_report-in-Ok-Report-clause-step g c =
     let does =
     ap (λ t. deed (Some t) c.args.line.bytes.now) (sym c.schema.ensures) ∙ c.in-Ok-Report.ensures.exact
     ∙ ap (λ s. Ok (deed_of_statement c.schema.result.now s)) c.in-Ok-Report.field-0-is ∙ ap (λ t. Ok (Reports t c.in-Ok-Report.query.now)) c.schema.ensures in
-    steps_report g.H.KeyHash.hash_of given c.args.line.bytes.now c.args.line.number c.args.keeper.now c.in-Ok-Report.query.now _ does c.in_ok-execute_report-in-Ok-Report.ensures
+    steps_report g.H.KeyHash.hash_of given c.args.line.bytes.now c.args.line.number c.args.keeper.now c.in-Ok-Report.query.now _ does (rw c.last.ensures at c.in_ok-execute_report-in-Ok-Report.ensures)
 
 pub returns-in-Ok-Shape-clause-step : goal.returns-in-Ok-Shape-clause-step
 returns-in-Ok-Shape-clause-step g c =
@@ -86,7 +86,7 @@ returns-in-Ok-Shape-clause-step g c =
     ap (λ t. deed (Some t) c.args.line.bytes.now) (sym c.schema.ensures) ∙ c.in-Ok-Shape.ensures.exact
     ∙ ap (λ s. Ok (deed_of_statement c.schema.result.now s)) c.in-Ok-Shape.field-0-is in
     steps_shape g.H.KeyHash.hash_of given c.args.line.bytes.now c.args.line.number (Some c.args.keeper.now) c.shape_block.result c.text_block.result _ c.text_block.ensures.found c.text_block.ensures.memory does
-    (IfOk-weaker c.shape_block.result _ _ (λ bytes text. executes_shape g.H.KeyHash.hash_of given c.args.line.bytes.now c.args.line.number c.args.keeper.now bytes.items does c.rows_have_the_shape_of_their_keys.ensures text) c.shape_block.ensures)
+    (IfOk-weaker c.shape_block.result _ _ (λ bytes text. executes_shape g.H.KeyHash.hash_of given c.args.line.bytes.now c.args.line.number c.args.keeper.now bytes.items does c.rows_have_the_shape_of_their_keys.ensures (rw c.last-in-Ok-Shape.ensures at text)) c.shape_block.ensures)
 
 pub returns-in-Err-clause-step : goal.returns-in-Err-clause-step
 returns-in-Err-clause-step g c =
