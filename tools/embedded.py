@@ -11,8 +11,8 @@ import tempfile
 import runs
 import tree
 
-CRATE = runs.TOP / "crates/olap_core"
-LIBRARY = CRATE / "out/libolap_core.a"
+CRATE = "crates/olap_core"
+LIBRARY = "out/libolap_core.a"
 EXAMPLES = runs.TOP / "examples"
 SOURCES = EXAMPLES / "embed"
 RELEASED = runs.TOP / "release/libolap_core.a.gz"
@@ -59,21 +59,22 @@ def kit():
     return pathlib.Path(said.strip().splitlines()[-1]).parent
 
 
-def build():
+def build(top=runs.TOP):
     """Proves and builds the library where that is not done, and keeps what the checker said; what was said where it failed, or None."""
-    ran = subprocess.run(["rt", "lib"], cwd=CRATE, stdin=subprocess.DEVNULL, capture_output=True, text=True)
-    if ran.returncode == 0 and LIBRARY.is_file():
-        log = LIBRARY.parent / tree.LOG
+    crate = top / CRATE
+    ran = subprocess.run(["rt", "lib"], cwd=crate, stdin=subprocess.DEVNULL, capture_output=True, text=True)
+    if ran.returncode == 0 and (crate / LIBRARY).is_file():
+        log = crate / "out" / tree.LOG
         log.unlink(missing_ok=True)
         log.write_text(ran.stdout)
         return None
     return f"rt lib: status {ran.returncode}\n{ran.stdout[-2000:]}{ran.stderr[-2000:]}"
 
 
-def whole():
+def whole(top=runs.TOP):
     """The library that was built, as one archive with the kit's calls of malloc, so that it needs nothing but the C library."""
     with tempfile.TemporaryDirectory() as room:
-        for archive in (LIBRARY, kit() / "c/liblibc_c.a"):
+        for archive in (top / CRATE / LIBRARY, kit() / "c/liblibc_c.a"):
             subprocess.run(["ar", "x", archive], cwd=room, check=True)
         members = sorted(it for it in os.listdir(room) if it.endswith(".o"))
         subprocess.run(["ar", "rcsD", "libolap_core.a", *members], cwd=room, check=True)
@@ -120,20 +121,18 @@ def over(library, of):
             yield f"embed: {language}, {of}", lambda it=language, by=build, run=words: tried(library, it, by, run)
 
 
-def cases(is_current):
-    """Each language over the library of the release, and, where there is a toolchain, over the one that is built here; whether they
-    are the same where the release is of these sources."""
-    released = gzip.decompress(RELEASED.read_bytes()) if RELEASED.is_file() else None
+def cases(is_current, is_asked):
+    """Each language over the library of the release, where that is of these sources, and else over the one that is built here. Who
+    asks for these cases has the library built, too, and compared with that of the release."""
+    released = gzip.decompress(RELEASED.read_bytes()) if is_current else None
     if released:
         yield from over(released, "by the release")
-    if not shutil.which("rt"):
+    if not shutil.which("rt") or (released and not is_asked):
         return
-    fault = build()
-    if fault:
+    if fault := build():
         yield "embed: the library", lambda: [fault]
-        return
-    here = whole()
-    if is_current and released:
-        yield "embed: the library", lambda: [] if here == released else ["that of the release is another one"]
+    elif released:
+        same = whole() == released
+        yield "embed: the library", lambda: [] if same else ["that of the release is another one than is built here"]
     else:
-        yield from over(here, "as it is built")
+        yield from over(whole(), "as it is built")
