@@ -28,7 +28,8 @@ enum olap_status {
    rows. Where the answer is not OLAP_WRITTEN, `out` stays as it is, and `length` too but for OLAP_NO_ROOM.
 
    No pointer is NULL, also where there are no bytes; `out` and `length` overlap nothing else. Memory comes from malloc, and all of
-   it is given back before this returns. Several threads may call at once. */
+   it is given back before this returns. Several threads may call at once, but no signal handler, and no child that was forked from
+   a process with threads. */
 uint32_t olap_output(uint32_t form, uint64_t rows,
                      const uint8_t *script, size_t script_length,
                      const uint8_t *parts, size_t parts_length,
