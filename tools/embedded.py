@@ -114,10 +114,14 @@ def tried(library, language, build, words):
         return [*wrong_in(room, words), *(wrong_calls(room) if language == "Python" else [])]
 
 
+def is_there(compiler):
+    return shutil.which(compiler) and subprocess.run([compiler, "--version"], capture_output=True).returncode == 0
+
+
 def over(library, of):
     """The cases of each language that can be tried here, over the bytes of a library."""
     for language, (needed, build, words) in LANGUAGES.items():
-        if shutil.which(needed):
+        if is_there(needed):
             yield f"embed: {language}, {of}", lambda it=language, by=build, run=words: tried(library, it, by, run)
 
 
