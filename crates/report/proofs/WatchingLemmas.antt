@@ -12,6 +12,7 @@ use Rattle.board.specs.Editions.{Edition, Editions, History, IsLastOf, Known, Kn
 use Rattle.board.specs.Editions as keeper
 use Rattle.cells.specs.Tables.{Rows}
 use Rattle.report.specs.declared.question.Question.{Question}
+use Rattle.report.specs.Onlooking.{IsUpToNow}
 use Rattle.report.specs.Waiting.{IsReportText}
 use Rattle.report.specs.Watching.{AreShots, GoUpTo, HasWatched, IsLastEdition, IsLastShot, IsShot, Sight, Watching, at_last, before_last, no_shot, shot_first, up_to}
 use Rattle.report.specs.declared.want.Want.{Want}
@@ -141,6 +142,24 @@ looked_last (Ok shot) k question seen mine is_last same text =
       is = shot_on_last (keeper.history k) question shot (keeper.edition k) (keeper.published k) mine at (subst (λ (rs : Rows). IsReportText rs question shot.text) is_last.rows text);
     }
 looked_last (Err e) k question seen mine is_last same text = tt
+
+-- it stands for a report on an edition above the last one
+pub shown_last : (r : Result Sight Want) (k : Editions) (question : Question) (shot : Sight) (seen : Edition) → IsLastOf (keeper.history k) (keeper.edition k) (keeper.published k) → IsLastEdition k seen →
+    IfOk r (λ shown. shown.edition ≡ seen.number) → IfOk r (λ shown. IsReportText seen.rows question shown.text) → IfOk r (IsUpToNow k question shot)
+shown_last (Ok shown) k question shot seen mine is_last same text =
+    let made : Result Sight Want = Ok shown in
+    let last = looked_last made k question seen mine is_last same text in
+    record { is = last.is; within = omega (arith, last.number); late = λ least low within. omega (arith, within, last.number) }
+shown_last (Err e) k question shot seen mine is_last same text = tt
+
+-- any other stands for itself
+pub shown_itself : (k : Editions) (question : Question) (shot : Sight) (seen : Edition) (before after : History) → IsLastOf (keeper.history k) (keeper.edition k) (keeper.published k) → IsLastEdition k seen → shot.edition ≤ seen.number →
+    IsPrefix before after → IsPrefix (keeper.history k) after → IsShot before question shot → IsUpToNow k question shot shot
+shown_itself k question shot seen before after mine is_last low grows learnt is = record {
+  is = shot_shorter (keeper.history k) after question shot learnt (omega (arith, low, is_last.number, mine.long)) (shot_longer before after question shot grows is);
+  within = omega (arith, low, is_last.number);
+  late = λ least here within. here;
+}
 
 -- the reports of a viewer, and that one
 pub finished : (k : Editions) (before : Watching) (more : History) (last : Sight) (all : List Sight) → IsPrefix before.viewer.history more → IsPrefix (keeper.history k) more → IsLastShot k before.question last →

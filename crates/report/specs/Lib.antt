@@ -2,6 +2,8 @@ pub mod Arranging
 pub mod Audiences
 pub mod Laws
 pub mod Limits
+pub mod Onlookers
+pub mod Onlooking
 pub mod Pieces
 pub mod Reports
 pub mod Standing

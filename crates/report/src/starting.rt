@@ -134,7 +134,7 @@ impl<'a, R: Threads + Wait + Sync, G: Gate> Answering<'a, R, G> {
 }
 
 /// The value, and a flag that is not set, for two owners. It stands over any value, so that letting go of it is one call.
-fn with_flag<T: Drop>(
+pub(crate) fn with_flag<T: Drop>(
     alloc: Global,
     value: T,
 ) -> Result<(T, Arc<AtomicBool>, Arc<AtomicBool>), AllocError>

@@ -58,7 +58,7 @@ impl<H: KeyHash<Cell>> Model for Watcher<H> {
 
 impl<'a, R: Threads + Wait + Sync, G: Gate> Answering<'a, R, G> {
     /// The report of the question on the snapshot.
-    fn shot<H: KeyHash<Cell> + KeyHash<Tuple> + Send + Sync>(
+    pub(crate) fn shot<H: KeyHash<Cell> + KeyHash<Tuple> + Send + Sync>(
         &self,
         snapshot: &Snapshot<H>,
         question: &Question,
@@ -157,7 +157,11 @@ impl<H: KeyHash<Cell> + KeyHash<Tuple> + Send + Sync> Watcher<H> {
 }
 
 /// The report on the last edition of the keeper, once the viewer has learnt what the keeper tells.
-fn last_look<H: KeyHash<Cell> + KeyHash<Tuple> + Send + Sync, R: Threads + Wait + Sync, G: Gate>(
+pub(crate) fn last_look<
+    H: KeyHash<Cell> + KeyHash<Tuple> + Send + Sync,
+    R: Threads + Wait + Sync,
+    G: Gate,
+>(
     answering: &Answering<'_, R, G>,
     viewer: &mut Viewer<H>,
     question: &Question,
@@ -173,7 +177,11 @@ fn last_look<H: KeyHash<Cell> + KeyHash<Tuple> + Send + Sync, R: Threads + Wait 
 }
 
 /// A report on a snapshot that the viewer takes now. The gate is told of the snapshot before it is answered.
-fn look<H: KeyHash<Cell> + KeyHash<Tuple> + Send + Sync, R: Threads + Wait + Sync, G: Gate>(
+pub(crate) fn look<
+    H: KeyHash<Cell> + KeyHash<Tuple> + Send + Sync,
+    R: Threads + Wait + Sync,
+    G: Gate,
+>(
     answering: &Answering<'_, R, G>,
     viewer: &mut Viewer<H>,
     question: &Question,
@@ -189,13 +197,14 @@ fn look<H: KeyHash<Cell> + KeyHash<Tuple> + Send + Sync, R: Threads + Wait + Syn
 
 /// The last edition of the keeper, as the viewer sees it once it has learnt what the keeper tells; should it see one above
 /// that, then the keeper's own.
-fn last_edition<H: KeyHash<Cell>>(
+pub(crate) fn last_edition<H: KeyHash<Cell>>(
     viewer: &mut Viewer<H>,
     keeper: &mut Keeper<H>,
 ) -> Result<Snapshot<H>, Want>
     requires own { IsOf keeper.old viewer.old }
     ensures same { keeper.new ≡ keeper.old }
     ensures seen { IsPrefix viewer.old.history viewer.new.history }
+    ensures own { IsOf keeper.old viewer.new }
     ensures learnt { IsPrefix (history keeper.old) viewer.new.history }
     ensures last { IfOk result (IsLastEdition keeper.old) }
     ensures ended { IsLastOf (history keeper.old) (edition keeper.old) (published keeper.old) }
