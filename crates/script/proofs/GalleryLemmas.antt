@@ -1,14 +1,16 @@
 -- How viewers are started, and how the blocks of each are written.
-use Rattle.std.proofs.Common.{◌≡◌, ◌∙◌, ℕ, suc, ◌+◌, Option, Some, None, Result, Ok, Err, List, [], length, inl, inr, sym, ap, subst, arith}
+use Rattle.std.proofs.Common.{◌≡◌, ◌∙◌, ℕ, suc, ◌+◌, Option, Some, None, Result, Ok, Err, List, [], length, inl, inr, sym, ap, subst, arith, refl}
 use Rattle.std.proofs.lemmas.Result.{IfOk-weaker}
 use Rattle.std.specs.List.{AllByRecursion, flat_map}
-use Rattle.std.specs.Prelude.{IfErr, IfOk, OnOk}
+use Rattle.std.specs.Prelude.{IfErr, IfOk, OnOk, Vec}
+use Rattle.std.specs.declared.alloc.Global.{Global}
 use Rattle.board.specs.Editions.{Editions}
 use Rattle.board.specs.Editions as keeper
 use Rattle.cells.specs.declared.refused.Refused.{Refused}
 use Rattle.cells.specs.declared.refused.Refused.TheVariants as refused
 use Rattle.report.specs.Laws.{takes_nothing}
 use Rattle.report.specs.declared.want.Want.{Want}
+use Rattle.report.specs.Onlooking.{OnlookersValue}
 use Rattle.report.specs.Watching.{ComesBack, GoUpTo, IsOf, Sight, Watch, Watching}
 use Rattle.report.specs.declared.question.Question.{Question}
 use Rattle.script.specs.Desks.{Keeps}
@@ -17,47 +19,130 @@ use Rattle.script.specs.Givens.{Givens}
 use Rattle.script.specs.Output.{edition, editions}
 use Rattle.script.specs.Says.{IsRefused}
 use Rattle.script.specs.Tails.{AreViewers, AreViews, Viewing}
-use Rattle.script.specs.Viewers.{Attend, HasAttended, HasViewers, IsAskedSo, IsStarted, begun, turned, view_block}
+use Rattle.script.specs.Turns.{Turn, first_turns, turns_from}
+use Rattle.script.specs.Viewers.{AreOnlooking, Attend, HasAttended, HasViewers, IsAskedSo, IsStarted, MayShow, MayShowIn, ShowAll, begun, nobody, none_came, sent, turned, turns_by, turns_in, turns_of, view_block, expected}
+use Rattle.script.specs.declared.viewing.Showing.{Showing}
+use Rattle.script.specs.declared.viewing.Showing.TheVariants.{AsTheyCome, Last}
 use Rattle.script.specs.declared.ended.Ended.{Ended}
 use Rattle.script.specs.declared.ended.Ended.TheVariants.{WriteFailed}
 use Rattle.script.specs.declared.manner.Manner.{Manner}
 use Rattle.script.specs.declared.stage.Stage.{Stage}
 use Rattle.script.specs.declared.stage.Stage.TheVariants.{Begun, Expected, Turned}
-use Rattle.script.proofs.TailsLemmas.{SoFar, begins_more, some_view, some_viewers, views_of}
+use Rattle.script.proofs.TailsLemmas.{SoFar, begins_more}
+use Rattle.script.proofs.ViewsLemmas.{some_view, some_viewers, views_of}
 
 abbrev Lines : Type 0
 Lines = List (List ℕ)
 
 -- ---- how they are started
 
--- all viewers were started
-pub begun_all : {manner : Manner} (viewing : Viewing) (k : Editions) (watches : List Watch) (questions : List Question) → length watches ≡ length questions → length questions ≡ viewing.viewers → AllByRecursion (IsStarted manner viewing k) watches →
-    Attend manner viewing (Some k) Begun watches
-begun_all viewing k watches questions many all started = begun (many ∙ all) started
+module _ {T E : Type 0} (manner : Manner) (viewing : Viewing) (k : Editions) (watches : List Watch) (onlookers : OnlookersValue) where
+  -- all viewers were started
+  pub attend_started : (questions : List Question) (result : Result T E) → viewing.showing ≡ Last → onlookers ≡ nobody → OnOk result (length watches ≡ length questions) → length questions ≡ viewing.viewers →
+      OnOk result (AllByRecursion (IsStarted manner viewing k) watches) → OnOk result (Attend manner viewing (Some k) Begun watches onlookers)
+  attend_started questions (Ok x) last none many all started = subst (Attend manner viewing (Some k) Begun watches) (sym none) (begun last (many ∙ all) started)
+  attend_started questions (Err e) last none many all started = tt
+
+  -- or sent
+  pub attend_sent : (result : Result T E) → viewing.showing ≡ AsTheyCome → watches ≡ [] → OnOk result (AreOnlooking manner viewing k onlookers) → OnOk result (Attend manner viewing (Some k) Begun watches onlookers)
+  attend_sent (Ok x) coming none are = subst (λ ws. Attend manner viewing (Some k) Begun ws onlookers) (sym none) (sent coming are)
+  attend_sent (Err e) coming none are = tt
+
+turns_last : (showing : Showing) (viewing : Viewing) (stage : Stage) (onlookers : OnlookersValue) → showing ≡ Last → turns_by showing viewing stage onlookers ≡ first_turns viewing
+turns_last Last viewing stage onlookers last = refl
+turns_last AsTheyCome viewing stage onlookers last = absurd cc
+
+turns_coming : (showing : Showing) (viewing : Viewing) (onlookers : OnlookersValue) (questions : List Question) → showing ≡ AsTheyCome → turns_in onlookers ≡ turns_from 1 viewing.shots (length questions) → length questions ≡ viewing.viewers →
+    turns_by showing viewing Begun onlookers ≡ first_turns viewing
+turns_coming Last viewing onlookers questions coming are many = absurd cc
+turns_coming AsTheyCome viewing onlookers questions coming are many = are ∙ ap (turns_from 1 viewing.shots) many
+
+-- those whose blocks come last have all still to come
+pub last_turns : {T E : Type 0} (result : Result T E) (showing : Showing) (viewing : Viewing) (onlookers : OnlookersValue) → showing ≡ Last → OnOk result (turns_by showing viewing Begun onlookers ≡ first_turns viewing)
+last_turns (Ok x) showing viewing onlookers last = turns_last showing viewing Begun onlookers last
+last_turns (Err e) showing viewing onlookers last = tt
+
+-- so have those who were sent
+pub coming_turns : {T E : Type 0} (result : Result T E) (showing : Showing) (viewing : Viewing) (onlookers : OnlookersValue) (questions : List Question) → showing ≡ AsTheyCome → length questions ≡ viewing.viewers →
+    OnOk result (turns_in onlookers ≡ turns_from 1 viewing.shots (length questions)) → OnOk result (turns_by showing viewing Begun onlookers ≡ first_turns viewing)
+coming_turns (Ok x) showing viewing onlookers questions coming many are = turns_coming showing viewing onlookers questions coming are many
+coming_turns (Err e) showing viewing onlookers questions coming many are = tt
+
+-- and those who were turned away
+pub turns_turned : (showing : Showing) (viewing : Viewing) (fault : Refused) (onlookers : OnlookersValue) → turns_by showing viewing (Turned fault) onlookers ≡ first_turns viewing
+turns_turned Last viewing fault onlookers = refl
+turns_turned AsTheyCome viewing fault onlookers = refl
+
+-- it is the same of a run's viewers
+pub turns_kept : {T E : Type 0} (asked : Option Viewing) (viewing : Viewing) (old new : Stage) (was is : OnlookersValue) (result : Result T E) → asked ≡ Some viewing → old ≡ Expected → OnOk result (turns_by viewing.showing viewing new is ≡ first_turns viewing) →
+    OnOk result (turns_of asked new is ≡ turns_of asked old was)
+turns_kept None viewing old new was is result same first turns = absurd cc
+turns_kept (Some other) viewing old new was is (Err e) same first turns = tt
+turns_kept (Some other) viewing old new was is (Ok x) same first turns =
+    let one : viewing ≡ other = cc in
+    (subst (λ v. turns_by v.showing v new is ≡ first_turns v) one turns) ∙ sym (ap (λ st. turns_by other.showing other st was) first ∙ at_first other.showing) where
+      at_first : (showing : Showing) → turns_by showing other Expected was ≡ first_turns other
+      at_first Last = refl
+      at_first AsTheyCome = refl
 
 -- their query is refused
-pub turned_all : {manner : Manner} (viewing : Viewing) (k : Editions) (fault : Refused) (watches : List Watch) → watches ≡ [] → (fault ≡ refused.OutOfMemory → ⊥) → IsRefused (keeper.schema k) viewing.query fault →
-    Attend manner viewing (Some k) (Turned fault) watches
-turned_all viewing k fault watches none memory (inl late) = absurd (memory late)
-turned_all {manner = manner} viewing k fault watches none memory (inr says) = subst (Attend manner viewing (Some k) (Turned fault)) (sym none) (turned (says []))
+pub turned_all : {manner : Manner} (viewing : Viewing) (k : Editions) (fault : Refused) (watches : List Watch) (onlookers : OnlookersValue) → (watches ≡ []) × (onlookers ≡ nobody) → (fault ≡ refused.OutOfMemory → ⊥) → IsRefused (keeper.schema k) viewing.query fault →
+    Attend manner viewing (Some k) (Turned fault) watches onlookers
+turned_all viewing k fault watches onlookers none memory (inl late) = absurd (memory late)
+turned_all {manner = manner} viewing k fault watches onlookers none memory (inr says) = rw (none.0, none.1) (turned (says []))
 
 -- they attend once they were started or turned away
-pub attended_begun : {T E : Type 0} (manner : Manner) (asked : Option Viewing) (viewing : Viewing) (desk : Option Editions) (k : Editions) (stage : Stage) (watches : List Watch) (result : Result T E) →
-    asked ≡ Some viewing → desk ≡ Some k → OnOk result (Attend manner viewing (Some k) stage watches) → OnOk result (stage ≡ Expected → ⊥) → OnOk result (HasAttended manner asked desk stage watches)
-attended_begun manner None viewing desk k stage watches result same there attend late = absurd cc
-attended_begun manner (Some other) viewing None k stage watches result same there attend late = absurd cc
-attended_begun manner (Some other) viewing (Some l) k stage watches (Err e) same there attend late = tt
-attended_begun manner (Some other) viewing (Some l) k stage watches (Ok x) same there attend late =
+pub attended_begun : {T E : Type 0} (manner : Manner) (asked : Option Viewing) (viewing : Viewing) (desk : Option Editions) (k : Editions) (stage : Stage) (watches : List Watch) (onlookers : OnlookersValue) (result : Result T E) →
+    asked ≡ Some viewing → desk ≡ Some k → OnOk result (Attend manner viewing (Some k) stage watches onlookers) → OnOk result (stage ≡ Expected → ⊥) → OnOk result (HasAttended manner asked desk stage watches onlookers)
+attended_begun manner None viewing desk k stage watches onlookers result same there attend late = absurd cc
+attended_begun manner (Some other) viewing None k stage watches onlookers result same there attend late = absurd cc
+attended_begun manner (Some other) viewing (Some l) k stage watches onlookers (Err e) same there attend late = tt
+attended_begun manner (Some other) viewing (Some l) k stage watches onlookers (Ok x) same there attend late =
     let one : viewing ≡ other = cc in
     let kept : k ≡ l = cc in
     record {
-      attend = subst (λ v. Attend manner v (Some l) stage watches) one (subst (λ n. Attend manner viewing (Some n) stage watches) kept attend);
+      attend = subst (λ v. Attend manner v (Some l) stage watches onlookers) one (subst (λ n. Attend manner viewing (Some n) stage watches onlookers) kept attend);
       declared = λ has is. absurd (late is);
     }
 
 pub has_viewers : (asked : Option Viewing) (viewing : Viewing) → asked ≡ Some viewing → HasViewers asked
 has_viewers None viewing same = absurd cc
 has_viewers (Some other) viewing same = tt
+
+-- ---- how their blocks come
+
+-- where nobody came, all blocks are still to come that were
+pub shows_nothing : (givens : Givens) (asked : Option Viewing) (before : Lines) (turns : List Turn) (text : List ℕ) → text ≡ [] → MayShow givens asked before turns turns text
+shows_nothing givens None before turns text none = (refl, none)
+shows_nothing givens (Some viewing) before turns text none = by viewing.showing where
+  by : (showing : Showing) → MayShowIn showing givens viewing before turns turns text
+  by Last = (refl, none)
+  by AsTheyCome = subst (ShowAll givens viewing before turns turns) (sym none) none_came
+
+-- those who came and went on look on still
+pub attended_still : {T E : Type 0} (manner : Manner) (asked : Option Viewing) (viewing : Viewing) (desk new_desk : Option Editions) (k : Editions) (stage : Stage) (watches : List Watch) (old new : OnlookersValue) (result : Result T E) →
+    asked ≡ Some viewing → stage ≡ Begun → viewing.showing ≡ AsTheyCome → desk ≡ Some k → new_desk ≡ desk → HasAttended manner asked desk stage watches old → OnOk result (AreOnlooking manner viewing k new) →
+    OnOk result (HasAttended manner asked new_desk stage watches new)
+attended_still manner asked viewing desk new_desk k stage watches old new (Err e) same is coming there kept has are = tt
+attended_still manner asked viewing desk new_desk k stage watches old new (Ok x) same is coming there kept has are =
+    rw (kept, there, same, is) (record {
+      attend = go (rw (there, same) at has.attend) is;
+      declared = λ has_viewers late. absurd cc;
+    }) where
+      go : {desk : Option Editions} {st : Stage} {ws : List Watch} {o : OnlookersValue} → Attend manner viewing desk st ws o → st ≡ Begun → Attend manner viewing (Some k) Begun ws new
+      go expected is = absurd cc
+      go (turned says) is = absurd cc
+      go (begun shown many all) is = absurd (let late = sym shown ∙ coming in cc)
+      go (sent shown was) is = sent coming are
+
+pub shows_those : {E : Type 0} (givens : Givens) (asked : Option Viewing) (viewing : Viewing) (before : Lines) (stage : Stage) (old new : OnlookersValue) (result : Result (Vec ℕ Global) E) →
+    asked ≡ Some viewing → stage ≡ Begun → viewing.showing ≡ AsTheyCome → IfOk result (λ text. ShowAll givens viewing before (turns_in old) (turns_in new) text.items) →
+    IfOk result (λ text. MayShow givens asked before (turns_of asked stage old) (turns_of asked stage new) text.items)
+shows_those givens asked viewing before stage old new (Err e) same is coming shown = tt
+shows_those givens asked viewing before stage old new (Ok text) same is coming shown = rw (same, is) (by viewing.showing coming) where
+  by : (showing : Showing) → showing ≡ AsTheyCome → MayShowIn showing givens viewing before (turns_by showing viewing Begun old) (turns_by showing viewing Begun new) text.items
+  by Last late = absurd cc
+  by AsTheyCome here = shown
 
 -- ---- how one is written
 

@@ -1,6 +1,7 @@
 pub mod LoadsLemmas
 pub mod BlocksLemmas
 pub mod ChangesLemmas
+pub mod ComingLemmas
 pub mod CommandsLemmas
 pub mod EndingsLemmas
 pub mod GalleryLemmas
@@ -16,5 +17,7 @@ pub mod StatementsLemmas
 pub mod StepsLemmas
 pub mod StopsLemmas
 pub mod TailsLemmas
+pub mod TurnsLemmas
+pub mod ViewsLemmas
 pub mod WorkedLemmas
 pub mod WorkedQueriesLemmas

@@ -15,9 +15,9 @@ use Rattle.script.specs.declared.finish.Finish.{Finish}
 use Rattle.script.specs.declared.finish.Finish.TheVariants.{Stopped, Through}
 use Rattle.script.specs.declared.on_refusal.OnRefusal.{OnRefusal}
 use Rattle.script.specs.declared.on_refusal.OnRefusal.TheVariants.{GoesOn, Stops}
-use Rattle.script.proofs.BlocksLemmas.{reversed_onto, some_answer}
+use Rattle.script.proofs.BlocksLemmas.{reversed_onto}
 use Rattle.script.proofs.RefusalsLemmas.{refusal_told}
-use Rattle.script.proofs.SaysLemmas.{EachAnswered, OneAnswer, never_wrong}
+use Rattle.script.proofs.SaysLemmas.{OneAnswer, never_wrong}
 
 abbrev Lines : Type 0
 Lines = List (List ℕ)
@@ -25,9 +25,9 @@ Lines = List (List ℕ)
 -- ---- which lines are
 
 -- it is told of some line
-record Told (Refused : Type 0) : Type 0 where
-  refused : Bool
-  tells : Tells refused Refused
+pub record Told (Refused : Type 0) : Type 0 where
+  pub refused : Bool
+  pub tells : Tells refused Refused
 
 told_never : Told ⊥
 told_never = record { refused = false; tells = λ never. never }
@@ -40,7 +40,7 @@ told_report : OneAnswer → (t : Table) (rs : List RowValue) (query : List ℕ) 
 told_report law t rs query (Ok told) says = record { refused = false; tells = never_wrong law says }
 told_report law t rs query (Err fault) says = record { refused = true; tells = record { fault = fault; says = says } }
 
-told_line : OneAnswer → (hash : Cell → ℕ) (givens : Givens) (before : Lines) (r : Result Deed Fault) (bytes : List ℕ) → IsAnswer hash givens before r bytes → Told (IsRefusedDeed givens before r)
+pub told_line : OneAnswer → (hash : Cell → ℕ) (givens : Givens) (before : Lines) (r : Result Deed Fault) (bytes : List ℕ) → IsAnswer hash givens before r bytes → Told (IsRefusedDeed givens before r)
 told_line law hash givens before (Ok Nothing) bytes is = told_never
 told_line law hash givens before (Ok (Declares t)) bytes is = told_never
 told_line law hash givens before (Ok (Loads t listing)) bytes is = told_by (is_refused_load givens.limit (updates givens before) (rows_loaded t givens.parts listing))
@@ -66,26 +66,6 @@ pub stops_or_goes : (on : OnRefusal) (refused : Bool) (Refused : Type 0) → Tel
 stops_or_goes GoesOn refused Refused tells = inr (λ stop. stop)
 stops_or_goes Stops true Refused tells = inl tells
 stops_or_goes Stops false Refused tells = inr tells
-
--- ---- any lines have blocks up to there
-
-pub record SomeBlocks (hash : Cell → ℕ) (givens : Givens) (on : OnRefusal) (before later : Lines) : Type 0 where
-  pub finish : Finish
-  pub bytes : List ℕ
-  pub are : AreBlocksUpTo hash givens on before later finish bytes
-
-module _ (each : EachAnswered) (law : OneAnswer) (hash : Cell → ℕ) (givens : Givens) (on : OnRefusal) where
-  one_more : (before later : Lines) (line bytes : List ℕ) → IsAnswer hash givens before (deed_behind givens before line) bytes →
-      StopsAfter on (IsRefusedLine givens before line) ⊎ (StopsAfter on (IsRefusedLine givens before line) → ⊥) → SomeBlocks hash givens on (line ∷ before) later → SomeBlocks hash givens on before (line ∷ later)
-  one_more before later line bytes is (inl stop) some = record { finish = Stopped; bytes = bytes; are = last_line is stop }
-  one_more before later line bytes is (inr goes) some = record { finish = some.finish; bytes = bytes ++ some.bytes; are = line_first bytes some.bytes is goes some.are }
-
-  pub some_blocks_up_to : (later before : Lines) → SomeBlocks hash givens on before later
-  some_blocks_up_to [] before = record { finish = Through; bytes = []; are = no_line }
-  some_blocks_up_to (line ∷ later) before =
-      let (bytes, is) = some_answer each hash givens before (deed_behind givens before line) in
-      let told = told_line law hash givens before (deed_behind givens before line) bytes is in
-      one_more before later line bytes is (stops_or_goes on told.refused (IsRefusedLine givens before line) told.tells) (some_blocks_up_to later (line ∷ before))
 
 -- ---- a run that goes on
 

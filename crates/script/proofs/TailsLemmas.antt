@@ -1,42 +1,35 @@
 -- What comes behind the blocks of all lines.
-use Rattle.std.proofs.Common.{◌≡◌, ◌∙◌, ℕ, zero, suc, ◌+◌, ◌<◌, ◌≤◌, Bool, true, false, cond, Option, Some, None, Result, Ok, Err, List, [], ◌∷◌, ◌++◌, length, map, get_or, inl, inr, reverse, refl, sym, ap, subst, arith, append_assoc, length-append}
+use Rattle.std.proofs.Common.{◌≡◌, ◌∙◌, ℕ, suc, ◌+◌, ◌<◌, ◌≤◌, Option, Some, None, Result, Ok, Err, List, [], ◌∷◌, ◌++◌, length, inl, inr, reverse, refl, sym, ap, subst, arith, append_assoc}
 use Rattle.std.proofs.KnownBytes.{Appends-nil, Appends-trans}
 use Rattle.std.proofs.lemmas.List.{append-nil, length-map}
-use Rattle.std.proofs.lemmas.Option.{slice_get-get_or, slice_get-map, slice_get_within}
 use Rattle.std.specs.Io.KnownBytes.{Appends}
-use Rattle.std.specs.List.{AllByRecursion, flat_map, slice_get}
-use Rattle.std.specs.Prelude.{◌⊎◌, IfErr, IfOk, IsErrOf, OnOk, Vec, option_map}
+use Rattle.std.specs.List.{AllByRecursion}
+use Rattle.std.specs.Prelude.{◌⊎◌, IfErr, IfOk, IsErrOf, OnOk, Vec, ⊤}
 use Rattle.std.specs.Str.Lines.{lines}
 use Rattle.std.specs.declared.alloc.Global.{Global}
 use Rattle.board.specs.Editions.{Editions, Known}
 use Rattle.board.specs.Editions as keeper
-use Rattle.cells.specs.Tables.{Rows, table}
-use Rattle.cells.specs.Updates.{AreLeft, rows}
 use Rattle.cells.specs.Values.{RowValue, Table}
 use Rattle.cells.specs.declared.cell.Cell.{Cell}
 use Rattle.cells.specs.declared.refused.Refused.{Refused}
 use Rattle.cells.specs.declared.refused.Refused.TheVariants.{Limit, NoTable}
-use Rattle.query.specs.Checks.{fault_of}
-use Rattle.query.specs.Plans.{PlanTree, plan_of}
-use Rattle.query.specs.Queries.{IsAnswered, IsQuery, a_fault, a_query}
-use Rattle.query.specs.Values.{QueryTree}
-use Rattle.report.specs.Laws.{takes_beginning, takes_last, takes_more, takes_start}
-use Rattle.report.specs.Reports.{answer_to}
-use Rattle.report.specs.Taken.{TakesBeginning}
-use Rattle.report.specs.Watching.{GoUpTo, IsShot, Sight, Watch, at_last, before_last, watch_from}
+use Rattle.query.specs.Plans.{PlanTree}
+use Rattle.report.specs.Laws.{takes_beginning, takes_last}
+use Rattle.report.specs.Taken.{TakesBeginning, TakesUpTo}
+use Rattle.report.specs.Watching.{Watch, watch_from}
 use Rattle.report.specs.declared.question.Question.{Question}
 use Rattle.script.specs.Endings.{AsksForWorkers, BeginsToWrite, Delivers, Ends, Writes}
 use Rattle.script.specs.Givens.{Givens, givens_in}
 use Rattle.script.specs.Limits.{part_limit, script_limit}
-use Rattle.script.specs.Output.{InTwo, IsOutput, IsTooMuch, deed_behind, declared, edition, editions, is_publish, updates}
+use Rattle.script.specs.Output.{IsOutput, IsTooMuch, declared, edition, editions}
 use Rattle.script.specs.Output.{of_lines as output_of_lines, too_much as output_too_much}
 use Rattle.script.specs.Tails.{of_lines as tail_of_lines, too_much as tail_too_much}
-use Rattle.script.specs.Says.{MeansPlan, Says, answer, answer_of, no_plan, no_query, spelt}
-use Rattle.script.specs.Spelling.{refusal, view_heading, viewers_refused}
-use Rattle.script.specs.Tails.{AreViewers, AreViews, IsTailBehind, IsView, Viewing, last_view, no_viewer, turned_away, undeclared, view_first, viewed, viewer_first}
+use Rattle.script.specs.Says.{MeansPlan, Says}
+use Rattle.script.specs.Spelling.{refusal, viewers_refused}
+use Rattle.script.specs.Tails.{AreViewers, AreViews, Viewing, no_viewer, turned_away, undeclared, viewed, viewer_first, IsTailBehind}
 use Rattle.script.specs.Desks.{IsBehind, Keeps, Stays}
-use Rattle.script.specs.Stops.{AreBlocksUpTo, HoweverFinished, finish_of_refused}
-use Rattle.script.specs.Viewers.{AreWritten, Attend, EndsBy, EndsLines, EndsRun, EndsSo, HasAttended, HasViewers, IsAskedSo, IsRunBy, IsStarted, IsStrict, IsTailAfter, IsTailOf, IsWritten, MayAttend, MayWant, begun, expected, too_much_by, too_much_text, turned, view_block}
+use Rattle.script.specs.Stops.{HoweverFinished, finish_of_refused, no_line}
+use Rattle.script.specs.Viewers.{AreWritten, Attend, EndsBy, EndsLines, EndsRun, EndsSo, HasAttended, HasViewers, IsAskedSo, IsRunBy, IsStarted, IsStrict, IsWritten, MayAttend, MayWant, begun, expected, too_much_by, too_much_text, turned, AreOnlooking, GoesOver, IsOnlooking, IsRest, IsRestIn, IsShown, nobody, sent, turns_at, turns_by, turns_in, turns_of, AreLate}
 use Rattle.script.specs.Viewers.{of_lines as strict_of_lines, too_much as strict_too_much}
 use Rattle.script.specs.declared.ended.Ended.{Ended}
 use Rattle.script.specs.declared.ended.Ended.TheVariants.{NoWorker, NotShown, WriteFailed}
@@ -48,163 +41,25 @@ use Rattle.script.specs.declared.on_refusal.OnRefusal.TheVariants.{GoesOn, Stops
 use Rattle.script.specs.declared.fault.Fault.TheVariants.{Line}
 use Rattle.script.specs.declared.stage.Stage.{Stage}
 use Rattle.script.specs.declared.stage.Stage.TheVariants.{Begun, Expected, Turned}
-use Rattle.script.proofs.ProgressLemmas.{delivers_as}
-use Rattle.script.proofs.SaysLemmas.{EachAnswered}
+use Rattle.script.proofs.ProgressLemmas.{delivers_as, waited_written}
 use Rattle.script.proofs.StopsLemmas.{all_blocks}
+use Rattle.report.specs.Onlooking.{Onlooking, OnlookersValue}
+use Rattle.report.specs.Waiting.{Waits}
+use Rattle.script.specs.Turns.{AreBlocksBeside, IsLiveBeside, Turn, first_turns, view_at_last, line_next, lines_end, no_table, refused_query, stopped_at, view_next}
+use Rattle.script.specs.Turns.{of_lines as beside_of_lines, too_much as beside_too_much}
+use Rattle.script.specs.declared.viewing.Showing.{Showing}
+use Rattle.script.specs.declared.viewing.Showing.TheVariants.{AsTheyCome, Last}
+use Rattle.script.proofs.ComingLemmas.{onlookers_late}
+use Rattle.script.proofs.TurnsLemmas.{edition_grows, first_late}
+use Rattle.script.proofs.ViewsLemmas.{all_more, some_view, some_views}
 
 abbrev Lines : Type 0
 Lines = List (List ℕ)
-
--- ---- the editions behind some lines
-
-all_more : {X : Type 0} (P : X → Type 0) (xs : List X) (x : X) → AllByRecursion P xs → P x → AllByRecursion P (xs ++ x ∷ [])
-all_more P [] x all p = (p, tt)
-all_more P (y ∷ xs) x all p = (all.0, all_more P xs x all.1 p)
-
-all_at : {X : Type 0} (P : X → Type 0) (xs : List X) (k : ℕ) (d : X) → AllByRecursion P xs → k < length xs → P (get_or xs k d)
-all_at P [] k d all low = absurd (omega arith)
-all_at P (x ∷ xs) zero d all low = all.0
-all_at P (x ∷ xs) (suc k) d all low = all_at P xs k d all.1 (omega arith)
-
--- updates left the rows of each
-all_left : (givens : Givens) (before : Lines) → AllByRecursion AreLeft (editions givens before)
-all_left givens [] = (record { updates = []; is = refl }, tt)
-all_left givens (line ∷ before) = either (is_publish (deed_behind givens before line)) (all_left givens before) where
-  either : (b : Bool) → AllByRecursion AreLeft (editions givens before) → AllByRecursion AreLeft (cond b (editions givens before ++ rows (updates givens before) ∷ []) (editions givens before))
-  either true earlier = all_more AreLeft (editions givens before) (rows (updates givens before)) earlier (record { updates = updates givens before; is = refl })
-  either false earlier = earlier
-
--- there are as many as the number of the last one tells
-many_editions : (givens : Givens) (before : Lines) → length (editions givens before) ≡ edition givens before + 1
-many_editions givens [] = refl
-many_editions givens (line ∷ before) = either (is_publish (deed_behind givens before line)) (many_editions givens before) where
-  either : (b : Bool) → length (editions givens before) ≡ edition givens before + 1 → length (cond b (editions givens before ++ rows (updates givens before) ∷ []) (editions givens before)) ≡ cond b (edition givens before + 1) (edition givens before) + 1
-  either true earlier = omega (arith, length-append (editions givens before) (rows (updates givens before) ∷ []), earlier)
-  either false earlier = earlier
-
--- the list of rows that stands for the rows at a place
-record Lists (all : List (List RowValue)) (number : ℕ) (rows : Rows) : Type 0 where
-  list : List RowValue
-  at : slice_get all number ≡ Some list
-  same : rows ≡ table list
-
-lists_at : (all : List (List RowValue)) (number : ℕ) (rows : Rows) → slice_get (map table all) number ≡ Some rows → Lists all number rows
-lists_at all number rows e =
-    let within : number < length all = omega (arith, slice_get_within (map table all) number rows e, length-map all table) in
-    let at : slice_get all number ≡ Some (get_or all number []) = slice_get-get_or all number [] within in
-    let both : Some rows ≡ Some (table (get_or all number [])) = sym e ∙ slice_get-map table all number ∙ ap (option_map table) at in
-    record { list = get_or all number []; at = at; same = cc }
-
-left_at : (givens : Givens) (before : Lines) (number : ℕ) (list : List RowValue) → slice_get (editions givens before) number ≡ Some list → AreLeft list
-left_at givens before number list e =
-    let all = editions givens before in
-    let within = slice_get_within all number list e in
-    let both : Some (get_or all number []) ≡ Some list = sym (slice_get-get_or all number [] within) ∙ e in
-    let same : get_or all number [] ≡ list = cc in
-    subst AreLeft same (all_at AreLeft all number [] (all_left givens before) within)
-
--- ---- the blocks of viewers
-
-module _ (manner : Manner) (givens : Givens) (before : Lines) (k : Editions) (query : List ℕ) (question : Question) (asked : IsAskedSo manner (keeper.schema k) query question)
-    (history : keeper.history k ≡ map table (editions givens before)) (viewer : ℕ) where
-  view_of : (shot : Sight) → IsShot (keeper.history k) question shot → IsView manner (keeper.schema k) (editions givens before) query viewer shot.edition (view_block manner.form viewer shot)
-  view_of shot is =
-      let lists = lists_at (editions givens before) shot.edition is.rows (subst (λ h. slice_get h shot.edition ≡ Some is.rows) history is.at) in
-      let text = is.is.is lists.list (left_at givens before shot.edition lists.list lists.at) lists.same ∙ ap (λ (q : Question). answer_to q lists.list) asked.is in
-      record {
-        rows = lists.list;
-        answer = answer_of asked.plan lists.list;
-        at = lists.at;
-        says = asked.means lists.list;
-        is = ap (λ t. view_heading manner.form viewer shot.edition ++ t) text;
-      }
-
-  pub views_of : {last least count : ℕ} {shots : List Sight} → GoUpTo (keeper.history k) question last least count shots →
-      AreViews manner (keeper.schema k) (editions givens before) query last viewer least count (flat_map (view_block manner.form viewer) shots)
-  views_of (at_last {shot = shot} low same is) = rw append-nil (last_view low (subst (λ n. IsView manner (keeper.schema k) (editions givens before) query viewer n (view_block manner.form viewer shot)) same (view_of shot is)))
-  views_of (before_last {shot = shot} {more = more} low is up) = view_first (view_block manner.form viewer shot) (flat_map (view_block manner.form viewer) more) low (view_of shot is) (views_of up)
-
--- ---- some tail
-
-module _ (manner : Manner) (t : Table) (all : List (List RowValue)) (last : ℕ) (viewing : Viewing) (some : (viewer : ℕ) → (bytes : List ℕ) × IsView manner t all viewing.query viewer last bytes) where
-  some_views : (viewer least count : ℕ) → least ≤ last → (bytes : List ℕ) × AreViews manner t all viewing.query last viewer least count bytes
-  some_views viewer least zero low = let (bytes, is) = some viewer in (bytes, last_view low is)
-  some_views viewer least (suc count) low =
-      let (bytes, is) = some viewer in
-      let (rest, are) = some_views viewer last count (omega arith) in
-      (bytes ++ rest, view_first bytes rest low is are)
-
-  pub some_viewers : (viewer count : ℕ) → (bytes : List ℕ) × AreViewers manner t all last viewing viewer count bytes
-  some_viewers viewer zero = ([], no_viewer)
-  some_viewers viewer (suc count) =
-      let (bytes, are) = some_views viewer 0 viewing.shots (omega arith) in
-      let (rest, more) = some_viewers (viewer + 1) count in
-      (bytes ++ rest, viewer_first bytes rest are more)
-
--- what a plan of the query answers on the last edition
-pub some_view : (manner : Manner) (givens : Givens) (before : Lines) (t : Table) (viewing : Viewing) (plan : PlanTree) → MeansPlan t viewing.query plan → (viewer : ℕ) →
-    (bytes : List ℕ) × IsView manner t (editions givens before) viewing.query viewer (edition givens before) bytes
-some_view manner givens before t viewing plan means viewer =
-    let all = editions givens before in
-    let list = get_or all (edition givens before) [] in (
-      view_heading manner.form viewer (edition givens before) ++ spelt manner (answer_of plan list),
-      record {
-        rows = list;
-        answer = answer_of plan list;
-        at = slice_get-get_or all (edition givens before) [] (omega (arith, many_editions givens before));
-        says = means list;
-        is = refl;
-      },
-    )
-
-pub some_tail : EachAnswered → (givens : Givens) (before : Lines) (asked : Option Viewing) → (bytes : List ℕ) × IsTailOf givens asked before bytes
-some_tail each givens before None = ([], refl)
-some_tail each givens before (Some viewing) = by_table (declared givens before) refl where
-  by_fault : (t : Table) → declared givens before ≡ Some t → (q : QueryTree) → IsQuery viewing.query q → (o : Option Refused) → fault_of t q ≡ o → (bytes : List ℕ) × IsTailBehind givens viewing before bytes
-  by_fault t is q spelt (Some fault) e = (viewers_refused givens.manner.form fault, turned_away is (no_plan spelt e))
-  by_fault t is q spelt None e =
-      let (bytes, are) = some_viewers givens.manner t (editions givens before) (edition givens before) viewing (some_view givens.manner givens before t viewing (plan_of t q) (λ rs. answer spelt e)) 1 viewing.viewers in
-      (bytes, viewed is are)
-
-  by_text : (t : Table) → declared givens before ≡ Some t → IsAnswered viewing.query → (bytes : List ℕ) × IsTailBehind givens viewing before bytes
-  by_text t is (a_query q spelt) = by_fault t is q spelt (fault_of t q) refl
-  by_text t is (a_fault fault first) = (viewers_refused givens.manner.form fault, turned_away is (no_query first))
-
-  by_table : (o : Option Table) → declared givens before ≡ o → (bytes : List ℕ) × IsTailBehind givens viewing before bytes
-  by_table None is = (viewers_refused givens.manner.form NoTable, undeclared is)
-  by_table (Some t) is = by_text t is (each viewing.query)
 
 -- ---- errors of results of two types
 
 same_error : {S T : Type 0} (e f : Ended) → IsErrOf {T = S} (Err e) f → IsErrOf {T = T} (Err e) f
 same_error e f late = let same : e ≡ f = cc in ap Err same
-
--- ---- two parts, one after the other
-
-module _ (First Second : List ℕ → Type 0) (a b c : Option (List ℕ)) where
-  -- a beginning of the first
-  pub begins_two : BeginsToWrite First a b → (bytes : List ℕ) → Second bytes → BeginsToWrite (InTwo First Second) a b
-  begins_two p bytes is = record {
-    whole = p.whole ++ bytes;
-    is_whole = record { first = p.whole; second = bytes; is_first = p.is_whole; is_second = is; joined = refl };
-    beginning = takes_beginning a a b (p.whole ++ bytes) p.whole bytes (takes_start a (p.whole ++ bytes)) p.beginning;
-  }
-
-  -- the first, and a beginning of the second
-  begins_later : Writes First a b → BeginsToWrite Second b c → BeginsToWrite (InTwo First Second) a c
-  begins_later p q = record {
-    whole = p.whole ++ q.whole;
-    is_whole = record { first = p.whole; second = q.whole; is_first = p.is_whole; is_second = q.is_whole; joined = refl };
-    beginning = takes_last a b c (p.whole ++ q.whole) q.whole (takes_more a a b (p.whole ++ q.whole) p.whole q.whole (takes_start a (p.whole ++ q.whole)) p.taken) q.beginning;
-  }
-
-  -- both
-  writes_two : Writes First a b → Writes Second b c → Writes (InTwo First Second) a c
-  writes_two p q = record {
-    whole = p.whole ++ q.whole;
-    is_whole = record { first = p.whole; second = q.whole; is_first = p.is_whole; is_second = q.is_whole; joined = refl };
-    taken = Appends-trans a b c p.whole q.whole p.taken q.taken;
-  }
 
 -- ---- how far viewers are
 
@@ -222,37 +77,90 @@ started_stays manner viewing k new (watch ∷ more) stays (is, all) = (
   started_stays manner viewing k new more stays all,
 )
 
-attend_stays : {manner : Manner} (viewing : Viewing) (old new : Option Editions) (stage : Stage) (watches : List Watch) → Stays old new → Attend manner viewing old stage watches → Attend manner viewing new stage watches
-attend_stays viewing old new stage watches stays expected = expected
-attend_stays viewing (Some k) None stage watches stays (turned says) = absurd stays
-attend_stays viewing (Some k) (Some l) stage watches stays (turned {fault = fault} says) = turned (subst (λ t. Says t [] viewing.query (Err fault)) (sym stays.schema) says)
-attend_stays viewing (Some k) None stage watches stays (begun many all) = absurd stays
-attend_stays {manner = manner} viewing (Some k) (Some l) stage watches stays (begun many all) = begun many (started_stays manner viewing k l watches stays all)
+-- those who look on do, too, since no edition is taken back
+onlooking_stays : (manner : Manner) (viewing : Viewing) (k new : Editions) (onlooker : Onlooking) → Stays (Some k) (Some new) → keeper.edition k ≤ keeper.edition new → IsOnlooking manner viewing k onlooker → IsOnlooking manner viewing new onlooker
+onlooking_stays manner viewing k new onlooker stays grows is = record {
+  board = is.board ∙ sym stays.board;
+  schema = is.schema ∙ sym stays.schema;
+  asked = subst (λ t. IsAskedSo manner t viewing.query onlooker.question) (sym stays.schema) is.asked;
+  late = omega (arith, is.late, grows);
+  knows = is.knows;
+}
 
-pub may_attend : {manner : Manner} (asked : Option Viewing) (old new : Option Editions) (stage : Stage) (watches : List Watch) → Stays old new → HasAttended manner asked old stage watches → MayAttend manner asked new stage watches
-may_attend None old new stage watches stays has = tt
-may_attend (Some viewing) old new stage watches stays has = attend_stays viewing old new stage watches stays has.attend
+all_stay : (manner : Manner) (viewing : Viewing) (k new : Editions) (P : Onlooking → Type 0) (all : List Onlooking) → Stays (Some k) (Some new) → keeper.edition k ≤ keeper.edition new →
+    AllByRecursion (λ o. IsOnlooking manner viewing k o × P o) all → AllByRecursion (λ o. IsOnlooking manner viewing new o × P o) all
+all_stay manner viewing k new P [] stays grows are = tt
+all_stay manner viewing k new P (o ∷ more) stays grows (is, are) = ((onlooking_stays manner viewing k new o stays grows is.0, is.1), all_stay manner viewing k new P more stays grows are)
+
+-- a keeper that stays takes no edition back
+abbrev Grows : Option Editions → Option Editions → Type 0
+Grows None new = ⊤
+Grows (Some k) None = ⊤
+Grows (Some k) (Some new) = keeper.edition k ≤ keeper.edition new
+
+pub desk_grows : (givens : Givens) (before : Lines) (line : List ℕ) (old new : Option Editions) → IsBehind givens before old → IsBehind givens (line ∷ before) new → Grows old new
+desk_grows givens before line None new stood stands = tt
+desk_grows givens before line (Some k) None stood stands = tt
+desk_grows givens before line (Some k) (Some new) stood stands = let grown = edition_grows givens before line in omega (arith, stood.edition, stands.edition, grown)
+
+attend_stays : {manner : Manner} (viewing : Viewing) (old new : Option Editions) (stage : Stage) (watches : List Watch) (onlookers : OnlookersValue) → Stays old new → Grows old new → Attend manner viewing old stage watches onlookers → Attend manner viewing new stage watches onlookers
+attend_stays viewing old new stage watches onlookers stays grows expected = expected
+attend_stays viewing (Some k) None stage watches onlookers stays grows (turned says) = absurd stays
+attend_stays viewing (Some k) (Some l) stage watches onlookers stays grows (turned {fault = fault} says) = turned (subst (λ t. Says t [] viewing.query (Err fault)) (sym stays.schema) says)
+attend_stays viewing (Some k) None stage watches onlookers stays grows (begun last many all) = absurd stays
+attend_stays {manner = manner} viewing (Some k) (Some l) stage watches onlookers stays grows (begun last many all) = begun last many (started_stays manner viewing k l watches stays all)
+attend_stays viewing (Some k) None stage watches onlookers stays grows (sent coming are) = absurd stays
+attend_stays {manner = manner} viewing (Some k) (Some l) stage watches onlookers stays grows (sent coming are) = sent coming (record {
+  going = all_stay manner viewing k l (λ o. 0 < o.left) onlookers.going stays grows are.going;
+  waiting = all_stay manner viewing k l (λ o. o.left ≡ 0) onlookers.waiting stays grows are.waiting;
+})
+
+pub may_attend : {manner : Manner} (asked : Option Viewing) (old new : Option Editions) (stage : Stage) (watches : List Watch) (onlookers : OnlookersValue) → Stays old new → Grows old new → HasAttended manner asked old stage watches onlookers → MayAttend manner asked new stage watches onlookers
+may_attend None old new stage watches onlookers stays grows has = tt
+may_attend (Some viewing) old new stage watches onlookers stays grows has = attend_stays viewing old new stage watches onlookers stays grows has.attend
 
 -- nobody was started yet
-pub first_attended : {manner : Manner} (asked : Option Viewing) (desk : Option Editions) (stage : Stage) (watches : List Watch) → desk ≡ None → stage ≡ Expected → watches ≡ [] → HasAttended manner asked desk stage watches
-first_attended None desk stage watches fresh is none = record { attend = tt; declared = λ has late. absurd has }
-first_attended (Some viewing) desk stage watches fresh is none = record { attend = rw (is, none) expected; declared = λ has late. fresh }
+pub first_attended : {manner : Manner} (asked : Option Viewing) (desk : Option Editions) (stage : Stage) (watches : List Watch) (onlookers : OnlookersValue) → desk ≡ None → stage ≡ Expected → watches ≡ [] → onlookers ≡ nobody →
+    HasAttended manner asked desk stage watches onlookers
+first_attended None desk stage watches onlookers fresh is none no_onlooker = record { attend = tt; declared = λ has late. absurd has }
+first_attended (Some viewing) desk stage watches onlookers fresh is none no_onlooker = record { attend = rw (is, none, no_onlooker) expected; declared = λ has late. fresh }
 
 -- a run has no viewers, they were started or turned away, or there is no table
-pub attended_none : {manner : Manner} (asked : Option Viewing) (desk : Option Editions) (stage : Stage) (watches : List Watch) → asked ≡ None → HasAttended manner asked desk stage watches
-attended_none None desk stage watches is = record { attend = tt; declared = λ has late. absurd has }
-attended_none (Some viewing) desk stage watches is = absurd cc
+pub attended_none : {manner : Manner} (asked : Option Viewing) (desk : Option Editions) (stage : Stage) (watches : List Watch) (onlookers : OnlookersValue) → asked ≡ None → HasAttended manner asked desk stage watches onlookers
+attended_none None desk stage watches onlookers is = record { attend = tt; declared = λ has late. absurd has }
+attended_none (Some viewing) desk stage watches onlookers is = absurd cc
 
-pub attended_late : {manner : Manner} (asked : Option Viewing) (desk : Option Editions) (stage : Stage) (watches : List Watch) → MayAttend manner asked desk stage watches → (stage ≡ Expected → desk ≡ None) → HasAttended manner asked desk stage watches
-attended_late asked desk stage watches attend late = record { attend = attend; declared = λ has is. late is }
+pub attended_late : {manner : Manner} (asked : Option Viewing) (desk : Option Editions) (stage : Stage) (watches : List Watch) (onlookers : OnlookersValue) → MayAttend manner asked desk stage watches onlookers → (stage ≡ Expected → desk ≡ None) →
+    HasAttended manner asked desk stage watches onlookers
+attended_late asked desk stage watches onlookers attend late = record { attend = attend; declared = λ has is. late is }
 
-pub expected_nobody : (manner : Manner) (asked : Option Viewing) (viewing : Viewing) (desk : Option Editions) (stage : Stage) (watches : List Watch) → asked ≡ Some viewing → stage ≡ Expected → MayAttend manner asked desk stage watches → watches ≡ []
-expected_nobody manner None viewing desk stage watches same is attend = absurd cc
-expected_nobody manner (Some other) viewing desk stage watches same is attend = go attend is where
-  go : {desk : Option Editions} {stage : Stage} {watches : List Watch} → Attend manner other desk stage watches → stage ≡ Expected → watches ≡ []
-  go expected is = refl
+-- no viewer has shown an edition that the lines did not publish
+pub attended_turns : {manner : Manner} (givens : Givens) (lines : Lines) (asked : Option Viewing) (desk : Option Editions) (stage : Stage) (watches : List Watch) (onlookers : OnlookersValue) → HasAttended manner asked desk stage watches onlookers →
+    IsBehind givens lines desk → AreLate (edition givens lines) (turns_of asked stage onlookers)
+attended_turns givens lines None desk stage watches onlookers has stands = tt
+attended_turns {manner = manner} givens lines (Some viewing) desk stage watches onlookers has stands = by viewing.showing refl where
+  first : AreLate (edition givens lines) (first_turns viewing)
+  first = first_late (edition givens lines) 1 viewing.shots viewing.viewers
+
+  go : {desk : Option Editions} {stage : Stage} {watches : List Watch} {onlookers : OnlookersValue} → Attend manner viewing desk stage watches onlookers → IsBehind givens lines desk → AreLate (edition givens lines) (turns_at viewing stage onlookers)
+  go expected stands = first
+  go (turned says) stands = first
+  go (begun shown many all) stands = tt
+  go (sent {k = k} {onlookers = onlookers} shown are) stands = subst (λ n. AreLate n (turns_in onlookers)) stands.edition (onlookers_late manner viewing k onlookers are)
+
+  by : (showing : Showing) → viewing.showing ≡ showing → AreLate (edition givens lines) (turns_by showing viewing stage onlookers)
+  by Last is = first
+  by AsTheyCome is = go has.attend stands
+
+pub expected_nobody : (manner : Manner) (asked : Option Viewing) (viewing : Viewing) (desk : Option Editions) (stage : Stage) (watches : List Watch) (onlookers : OnlookersValue) → asked ≡ Some viewing → stage ≡ Expected →
+    MayAttend manner asked desk stage watches onlookers → (watches ≡ []) × (onlookers ≡ nobody)
+expected_nobody manner None viewing desk stage watches onlookers same is attend = absurd cc
+expected_nobody manner (Some other) viewing desk stage watches onlookers same is attend = go attend is where
+  go : {desk : Option Editions} {stage : Stage} {watches : List Watch} {onlookers : OnlookersValue} → Attend manner other desk stage watches onlookers → stage ≡ Expected → (watches ≡ []) × (onlookers ≡ nobody)
+  go expected is = (refl, refl)
   go (turned says) is = absurd cc
-  go (begun many all) is = absurd cc
+  go (begun last many all) is = absurd cc
+  go (sent coming are) is = absurd cc
 
 pub may_want : (givens : Givens) (asked : Option Viewing) (script : Lines) → AsksForWorkers givens script → MayWant givens asked script
 may_want givens None script asks = asks
@@ -261,21 +169,6 @@ may_want givens (Some viewing) script asks = tt
 pub has_want : (givens : Givens) (asked : Option Viewing) (script : Lines) → HasViewers asked → MayWant givens asked script
 has_want givens None script has = absurd has
 has_want givens (Some viewing) script has = tt
-
--- some tail comes behind a run that is so finished
-some_tail_after : EachAnswered → (finish : Finish) (givens : Givens) (before : Lines) (asked : Option Viewing) → (bytes : List ℕ) × IsTailAfter finish givens asked before bytes
-some_tail_after each Through givens before asked = some_tail each givens before asked
-some_tail_after each Stopped givens before asked = ([], refl)
-
--- what was written, and some tail behind it
-pub begins_tailed : EachAnswered → (hash : Cell → ℕ) (givens : Givens) (on : OnRefusal) (asked : Option Viewing) (script : Lines) (a b : Option (List ℕ)) →
-    BeginsToWrite (HoweverFinished (AreBlocksUpTo hash givens on [] script)) a b → BeginsToWrite (HoweverFinished (AreWritten hash givens on asked script)) a b
-begins_tailed each hash givens on asked script a b p =
-    let finish = p.is_whole.finish in
-    let (bytes, is) = some_tail_after each finish givens (reverse script) asked in
-    let two = begins_two (AreBlocksUpTo hash givens on [] script finish) (IsTailAfter finish givens asked (reverse script)) a b b
-    (record { whole = p.whole; is_whole = p.is_whole.is; beginning = p.beginning }) bytes is in
-    record { whole = two.whole; is_whole = record { finish = finish; is = two.is_whole }; beginning = two.beginning }
 
 -- ---- how a run ends by how it is finished
 
@@ -321,42 +214,65 @@ ends_so_as taken faults old new Asks Views result Is IsWhole so e = record {
 }
 
 -- a run that went through writes its tail
-pub so_tailed : {W T : Type 0} (taken : W → Option (List ℕ)) (faults : W → ℕ) (old middle new : W) (hash : Cell → ℕ) (givens : Givens) (on : OnRefusal) (asked : Option Viewing) (script : Lines) (tail : Result T Ended) (result : Result Finish Ended) →
-    Writes (AreBlocksUpTo hash givens on [] script Through) (taken old) (taken middle) → faults middle ≡ faults old →
-    Delivers taken faults middle new (IsTailOf givens asked (reverse script)) tail → IfErr tail (λ _. HasViewers asked) →
-    IfOk tail (λ _. result ≡ Ok Through) → IfErr tail (λ e. result ≡ Err e) →
-    EndsSo taken faults old new (AreWritten hash givens on asked script) (MayWant givens asked script) (HasViewers asked) result
-so_tailed taken faults old middle new hash givens on asked script (Ok x) result first sound second has ok early =
-    so_finished taken faults old new (MayWant givens asked script) (HasViewers asked) result (AreWritten hash givens on asked script) Through ok
-    (writes_two (AreBlocksUpTo hash givens on [] script Through) (IsTailOf givens asked (reverse script)) (taken old) (taken middle) (taken new) first second.output)
-    (second.sound ∙ sound)
-so_tailed taken faults old middle new hash givens on asked script (Err e) result first sound second has ok early =
-    let late = begins_later (AreBlocksUpTo hash givens on [] script Through) (IsTailOf givens asked (reverse script)) (taken old) (taken middle) (taken new) first second.beginning in
-    so_early taken faults old new (MayWant givens asked script) (HasViewers asked) result (AreWritten hash givens on asked script) e early (record {
-      delivered = record {
-        output = tt;
-        beginning = record { whole = late.whole; is_whole = record { finish = Through; is = late.is_whole }; beginning = late.beginning };
-        fault = λ writer. let failed = second.fault (same_error e WriteFailed writer) in omega (arith, failed, sound);
-        sound = tt;
-      };
-      worker = λ wanted. has_want givens asked script has;
-      place = λ wanted. has;
-    })
+module _ {W T : Type 0} (taken : W → Option (List ℕ)) (faults : W → ℕ) (old gone middle new : W) (hash : Cell → ℕ) (givens : Givens) (on : OnRefusal) (asked : Option Viewing) (script : Lines) (turns : List Turn) (desk : Option Editions) (waits : Waits) (tail : Result T Ended) (result : Result Finish Ended)
+    (over : GoesOver (taken old) (taken gone) hash givens on asked script turns desk waits Through) (last : Appends (taken gone) (taken middle) over.waiting) (sound : faults middle ≡ faults old)
+    (second : Delivers taken faults middle new (IsRest hash givens on asked (reverse script) [] turns Through) tail) (has : IfErr tail (λ _. HasViewers asked)) where
+  pub so_tailed : IfOk tail (λ _. result ≡ Ok Through) → IfErr tail (λ e. result ≡ Err e) → EndsSo taken faults old new (AreWritten hash givens on asked script) (MayWant givens asked script) (HasViewers asked) result
+  so_tailed ok early = by tail second has ok early where
+    upto : (bytes : List ℕ) → TakesUpTo (taken old) (taken middle) (over.front ++ (over.waiting ++ bytes)) bytes
+    upto bytes = waited_written (taken middle) over last bytes
+
+    by : (tail : Result T Ended) → Delivers taken faults middle new (IsRest hash givens on asked (reverse script) [] turns Through) tail → IfErr tail (λ _. HasViewers asked) → IfOk tail (λ _. result ≡ Ok Through) → IfErr tail (λ e. result ≡ Err e) →
+        EndsSo taken faults old new (AreWritten hash givens on asked script) (MayWant givens asked script) (HasViewers asked) result
+    by (Ok x) second has ok early =
+        let wrote = second.output in
+        so_finished taken faults old new (MayWant givens asked script) (HasViewers asked) result (AreWritten hash givens on asked script) Through ok
+        (record {
+          whole = over.front ++ (over.waiting ++ wrote.whole);
+          is_whole = over.blocks wrote.whole wrote.is_whole;
+          taken = subst (Appends (taken old) (taken new)) (sym (upto wrote.whole).whole_is) (Appends-trans (taken old) (taken middle) (taken new) (upto wrote.whole).front wrote.whole (upto wrote.whole).taken wrote.taken);
+        })
+        (second.sound ∙ sound)
+    by (Err e) second has ok early =
+        let late = second.beginning in
+        so_early taken faults old new (MayWant givens asked script) (HasViewers asked) result (AreWritten hash givens on asked script) e early (record {
+          delivered = record {
+            output = tt;
+            beginning = record {
+              whole = over.front ++ (over.waiting ++ late.whole);
+              is_whole = record { finish = Through; is = over.blocks late.whole late.is_whole };
+              beginning = takes_last (taken old) (taken middle) (taken new) (over.front ++ (over.waiting ++ late.whole)) late.whole (upto late.whole) late.beginning;
+            };
+            fault = λ writer. let failed = second.fault (same_error e WriteFailed writer) in omega (arith, failed, sound);
+            sound = tt;
+          };
+          worker = λ wanted. has_want givens asked script has;
+          place = λ wanted. has;
+        })
 
 -- one that stopped writes none
-pub so_stopped : {W : Type 0} (taken : W → Option (List ℕ)) (faults : W → ℕ) (old new : W) (hash : Cell → ℕ) (givens : Givens) (on : OnRefusal) (asked : Option Viewing) (script : Lines) (result : Result Finish Ended) →
-    Writes (AreBlocksUpTo hash givens on [] script Stopped) (taken old) (taken new) → faults new ≡ faults old → result ≡ Ok Stopped →
+pub so_stopped : {W : Type 0} (taken : W → Option (List ℕ)) (faults : W → ℕ) (old gone new : W) (hash : Cell → ℕ) (givens : Givens) (on : OnRefusal) (asked : Option Viewing) (script : Lines) (turns : List Turn) (desk : Option Editions) (waits : Waits) (result : Result Finish Ended) →
+    (over : GoesOver (taken old) (taken gone) hash givens on asked script turns desk waits Stopped) → Appends (taken gone) (taken new) over.waiting → faults new ≡ faults old → result ≡ Ok Stopped →
     EndsSo taken faults old new (AreWritten hash givens on asked script) (MayWant givens asked script) (HasViewers asked) result
-so_stopped taken faults old new hash givens on asked script result wrote sound met =
+so_stopped taken faults old gone new hash givens on asked script turns desk waits result over last sound met =
+    let upto = waited_written (taken new) over last [] in
     so_finished taken faults old new (MayWant givens asked script) (HasViewers asked) result (AreWritten hash givens on asked script) Stopped met
     (record {
-      whole = wrote.whole;
-      is_whole = record { first = wrote.whole; second = []; is_first = wrote.is_whole; is_second = refl; joined = sym (append-nil wrote.whole) };
-      taken = wrote.taken;
+      whole = over.front ++ (over.waiting ++ []);
+      is_whole = over.blocks [] refl;
+      taken = subst (Appends (taken old) (taken new)) (sym (upto.whole_is ∙ append-nil upto.front)) upto.taken;
     })
     sound
 
 -- ---- what a run writes as a whole
+
+-- a run that goes on does not stop
+never_stops : {hash : Cell → ℕ} {givens : Givens} {viewing : Viewing} {before later : Lines} {turns : List Turn} {finish : Finish} {bytes : List ℕ} → AreBlocksBeside hash givens GoesOn viewing before later turns finish bytes → finish ≡ Stopped → ⊥
+never_stops (lines_end is) bad = absurd cc
+never_stops (stopped_at is stop) bad = stop
+never_stops (line_next bytes rest is goes are) bad = never_stops are bad
+never_stops (view_next bytes rest shows are) bad = never_stops are bad
+never_stops (view_at_last bytes rest shows are) bad = absurd cc
 
 module _ (hash : Cell → ℕ) (manner : Manner) (rows : ℕ) (parts : List (Vec ℕ Global)) (script : List ℕ) (asked : Option Viewing) where
   counted : length (givens_in manner rows parts).parts ≡ length parts
@@ -369,13 +285,16 @@ module _ (hash : Cell → ℕ) (manner : Manner) (rows : ℕ) (parts : List (Vec
   -- a script beyond a limit
   too_much_written : IsTooMuch (givens_in manner rows parts) script → (asked : Option Viewing) (bytes : List ℕ) → bytes ≡ too_much_text manner.form asked → IsWritten hash (givens_in manner rows parts) asked script bytes
   too_much_written much None bytes is = subst (IsOutput hash (givens_in manner rows parts) script) (sym is) (output_too_much much)
-  too_much_written much (Some viewing) bytes is = record {
-    first = refusal manner.form 0 (Line Limit);
-    second = viewers_refused manner.form NoTable;
-    is_first = output_too_much much;
-    is_second = tail_too_much much;
-    joined = is;
-  }
+  too_much_written much (Some viewing) bytes is = by viewing.showing where
+    by : (showing : Showing) → IsShown showing hash (givens_in manner rows parts) viewing script bytes
+    by Last = record {
+      first = refusal manner.form 0 (Line Limit);
+      second = viewers_refused manner.form NoTable;
+      is_first = output_too_much much;
+      is_second = tail_too_much much;
+      joined = is;
+    }
+    by AsTheyCome = subst (IsLiveBeside hash (givens_in manner rows parts) viewing script) (sym is) (beside_too_much much)
 
   pub too_much_by_run : (on : OnRefusal) → (script_limit < length script) ⊎ (part_limit < length parts) → (bytes : List ℕ) → bytes ≡ too_much_by manner.form on asked →
       IsRunBy on hash (givens_in manner rows parts) asked script (finish_of_refused on) bytes
@@ -387,14 +306,21 @@ module _ (hash : Cell → ℕ) (manner : Manner) (rows : ℕ) (parts : List (Vec
       AreWritten hash (givens_in manner rows parts) GoesOn asked (lines script) finish bytes → IsRunBy GoesOn hash (givens_in manner rows parts) asked script finish bytes
   all_written short few None Through bytes two = subst (IsOutput hash (givens_in manner rows parts) script) (sym (two.joined ∙ ap (λ t. two.first ++ t) two.is_second ∙ append-nil two.first))
       (output_of_lines short few (all_blocks two.is_first).1)
-  all_written short few (Some viewing) Through bytes two = record {
-    first = two.first;
-    second = two.second;
-    is_first = output_of_lines short few (all_blocks two.is_first).1;
-    is_second = tail_of_lines short few two.is_second;
-    joined = two.joined;
-  }
-  all_written short few asked Stopped bytes two = let bad : Stopped ≡ Through = (all_blocks two.is_first).0 in absurd cc
+  all_written short few (Some viewing) Through bytes are = by viewing.showing are where
+    by : (showing : Showing) → IsRestIn showing hash (givens_in manner rows parts) GoesOn viewing [] (lines script) (first_turns viewing) Through bytes → IsShown showing hash (givens_in manner rows parts) viewing script bytes
+    by Last two = record {
+      first = two.first;
+      second = two.second;
+      is_first = output_of_lines short few (all_blocks two.is_first).1;
+      is_second = tail_of_lines short few (rw append-nil at two.is_second);
+      joined = two.joined;
+    }
+    by AsTheyCome are = beside_of_lines short few are
+  all_written short few None Stopped bytes two = let bad : Stopped ≡ Through = (all_blocks two.is_first).0 in absurd cc
+  all_written short few (Some viewing) Stopped bytes are = by viewing.showing are where
+    by : (showing : Showing) → IsRestIn showing hash (givens_in manner rows parts) GoesOn viewing [] (lines script) (first_turns viewing) Stopped bytes → ⊥
+    by Last two = let bad : Stopped ≡ Through = (all_blocks two.is_first).0 in absurd cc
+    by AsTheyCome are = never_stops are refl
 
   pub written_by_run : (on : OnRefusal) → length script ≤ script_limit → length parts ≤ part_limit → (finish : Finish) (bytes : List ℕ) →
       AreWritten hash (givens_in manner rows parts) on asked (lines script) finish bytes → IsRunBy on hash (givens_in manner rows parts) asked script finish bytes
@@ -474,50 +400,129 @@ module _ {W T : Type 0} (taken : W → Option (List ℕ)) (faults : W → ℕ) (
     sound = sound;
   }
 
--- where all viewers were started, each answers the query on the keeper's board
-pub all_begun : {manner : Manner} (asked : Option Viewing) (viewing : Viewing) (k : Editions) (stage : Stage) (watches : List Watch) → asked ≡ Some viewing → stage ≡ Begun → HasAttended manner asked (Some k) stage watches →
-    AllByRecursion (IsStarted manner viewing k) watches × (length watches ≡ viewing.viewers)
-all_begun None viewing k stage watches same is has = absurd cc
-all_begun {manner = manner} (Some other) viewing k stage watches same is has = go has.attend is where
+-- where all viewers were started whose blocks come last, each answers the query on the keeper's board
+pub all_begun : {manner : Manner} (asked : Option Viewing) (viewing : Viewing) (k : Editions) (stage : Stage) (watches : List Watch) (onlookers : OnlookersValue) → asked ≡ Some viewing → stage ≡ Begun → viewing.showing ≡ Last →
+    HasAttended manner asked (Some k) stage watches onlookers → AllByRecursion (IsStarted manner viewing k) watches × (length watches ≡ viewing.viewers)
+all_begun None viewing k stage watches onlookers same is last has = absurd cc
+all_begun {manner = manner} (Some other) viewing k stage watches onlookers same is last has = go has.attend is where
   one : other ≡ viewing
   one = cc
 
-  go : {stage : Stage} {watches : List Watch} → Attend manner other (Some k) stage watches → stage ≡ Begun → AllByRecursion (IsStarted manner viewing k) watches × (length watches ≡ viewing.viewers)
+  go : {stage : Stage} {watches : List Watch} {onlookers : OnlookersValue} → Attend manner other (Some k) stage watches onlookers → stage ≡ Begun → AllByRecursion (IsStarted manner viewing k) watches × (length watches ≡ viewing.viewers)
   go expected is = absurd cc
   go (turned says) is = absurd cc
-  go (begun {watches = watches} many all) is = (subst (λ v. AllByRecursion (IsStarted manner v k) watches) one all, many ∙ ap (λ v. v.viewers) one)
+  go (begun {watches = watches} shown many all) is = (subst (λ v. AllByRecursion (IsStarted manner v k) watches) one all, many ∙ ap (λ v. v.viewers) one)
+  go (sent shown are) is = absurd (let late = shown in let same_showing : other.showing ≡ Last = ap (λ v. v.showing) one ∙ last in cc)
+
+-- the same of those who show theirs as they come
+pub all_sent : {manner : Manner} (asked : Option Viewing) (viewing : Viewing) (k : Editions) (stage : Stage) (watches : List Watch) (onlookers : OnlookersValue) → asked ≡ Some viewing → stage ≡ Begun → viewing.showing ≡ AsTheyCome →
+    HasAttended manner asked (Some k) stage watches onlookers → AreOnlooking manner viewing k onlookers
+all_sent None viewing k stage watches onlookers same is coming has = absurd cc
+all_sent {manner = manner} (Some other) viewing k stage watches onlookers same is coming has = go has.attend is where
+  one : other ≡ viewing
+  one = cc
+
+  go : {stage : Stage} {watches : List Watch} {onlookers : OnlookersValue} → Attend manner other (Some k) stage watches onlookers → stage ≡ Begun → AreOnlooking manner viewing k onlookers
+  go expected is = absurd cc
+  go (turned says) is = absurd cc
+  go (begun shown many all) is = absurd (let late = shown in let same_showing : other.showing ≡ AsTheyCome = ap (λ v. v.showing) one ∙ coming in cc)
+  go (sent {onlookers = onlookers} shown are) is = subst (λ v. AreOnlooking manner v k onlookers) one are
+
+-- what they have still to show
+pub turns_sent : (asked : Option Viewing) (viewing : Viewing) (stage : Stage) (onlookers : OnlookersValue) → asked ≡ Some viewing → stage ≡ Begun → viewing.showing ≡ AsTheyCome → turns_of asked stage onlookers ≡ turns_in onlookers
+turns_sent None viewing stage onlookers same is coming = absurd cc
+turns_sent (Some other) viewing stage onlookers same is coming =
+    let one : other ≡ viewing = cc in
+    rw is (by other.showing (ap (λ v. v.showing) one ∙ coming)) where
+      by : (showing : Showing) → showing ≡ AsTheyCome → turns_by showing other Begun onlookers ≡ turns_in onlookers
+      by Last coming = absurd cc
+      by AsTheyCome coming = refl
 
 -- the tails of a run that asks for viewers
-module _ {W T : Type 0} (taken : W → Option (List ℕ)) (faults : W → ℕ) (old new : W) (givens : Givens) (before : Lines) (result : Result T Ended) (viewing : Viewing) where
-  pub delivers_undeclared : (asked : Option Viewing) (desk : Option Editions) → asked ≡ Some viewing → desk ≡ None → IsBehind givens before desk →
-      Delivers taken faults old new (λ bytes. bytes ≡ viewers_refused givens.manner.form NoTable) result → Delivers taken faults old new (IsTailOf givens asked before) result
-  delivers_undeclared None desk same none stands d = absurd cc
-  delivers_undeclared (Some other) None same none stands d =
-      delivers_as taken faults old new _ _ result (λ bytes is. subst (IsTailBehind givens other before) (sym is) (undeclared stands)) d
-  delivers_undeclared (Some other) (Some k) same none stands d = absurd cc
+module _ (hash : Cell → ℕ) (givens : Givens) (on : OnRefusal) (before : Lines) (turns : List Turn) where
+  rest_undeclared : (showing : Showing) (viewing : Viewing) → declared givens before ≡ None → IsRestIn showing hash givens on viewing before [] turns Through (viewers_refused givens.manner.form NoTable)
+  rest_undeclared Last viewing none = record { first = []; second = viewers_refused givens.manner.form NoTable; is_first = no_line; is_second = undeclared none; joined = refl }
+  rest_undeclared AsTheyCome viewing none = lines_end (no_table none)
 
-  pub delivers_turned : (asked : Option Viewing) (k : Editions) (stage : Stage) (watches : List Watch) (fault : Refused) → asked ≡ Some viewing → stage ≡ Turned fault → HasAttended givens.manner asked (Some k) stage watches →
-      IsBehind givens before (Some k) → Delivers taken faults old new (λ bytes. bytes ≡ viewers_refused givens.manner.form fault) result → Delivers taken faults old new (IsTailOf givens asked before) result
-  delivers_turned None k stage watches fault same is has stands d = absurd cc
-  delivers_turned (Some other) k stage watches fault same is has stands d = go has.attend is where
-    go : {stage : Stage} {watches : List Watch} → Attend givens.manner other (Some k) stage watches → stage ≡ Turned fault → Delivers taken faults old new (IsTailBehind givens other before) result
-    go expected is = absurd cc
-    go (turned {fault = first} says) is =
-        let one : first ≡ fault = cc in
-        delivers_as taken faults old new _ _ result (λ bytes text. subst (IsTailBehind givens other before) (sym text) (turned_away stands.schema (subst (λ f. Says (keeper.schema k) [] other.query (Err f)) one says))) d
-    go (begun many all) is = absurd cc
+  -- what comes last, or as it comes
+  rest_of_last : (showing : Showing) (viewing : Viewing) (bytes : List ℕ) → showing ≡ Last → IsTailBehind givens viewing before bytes → IsRestIn showing hash givens on viewing before [] turns Through bytes
+  rest_of_last Last viewing bytes last is = record { first = []; second = bytes; is_first = no_line; is_second = is; joined = refl }
+  rest_of_last AsTheyCome viewing bytes last is = absurd cc
 
-  pub delivers_viewed : (asked : Option Viewing) (k : Editions) (stage : Stage) (watches : List Watch) → asked ≡ Some viewing → stage ≡ Begun → HasAttended givens.manner asked (Some k) stage watches →
-      Keeps givens before k → Delivers taken faults old new (AreViewers givens.manner (keeper.schema k) (editions givens before) (keeper.edition k) viewing 1 (length watches)) result →
-      Delivers taken faults old new (IsTailOf givens asked before) result
-  delivers_viewed None k stage watches same is has stands d = absurd cc
-  delivers_viewed (Some other) k stage watches same is has stands d =
-      let one : other ≡ viewing = cc in
-      let many = (all_begun (Some other) viewing k stage watches same is has).1 in
-      rw one (delivers_as taken faults old new _ _ result
-      (λ bytes are. viewed stands.schema (subst (λ n. AreViewers givens.manner (keeper.schema k) (editions givens before) n viewing 1 viewing.viewers bytes) stands.edition
-      (subst (λ n. AreViewers givens.manner (keeper.schema k) (editions givens before) (keeper.edition k) viewing 1 n bytes) many are)))
-      d)
+  rest_of_coming : (showing : Showing) (viewing : Viewing) (bytes : List ℕ) → showing ≡ AsTheyCome → AreBlocksBeside hash givens on viewing before [] turns Through bytes → IsRestIn showing hash givens on viewing before [] turns Through bytes
+  rest_of_coming Last viewing bytes coming are = absurd cc
+  rest_of_coming AsTheyCome viewing bytes coming are = are
+
+  rest_turned : (showing : Showing) (viewing : Viewing) (t : Table) (fault : Refused) → declared givens before ≡ Some t → Says t [] viewing.query (Err fault) → IsRestIn showing hash givens on viewing before [] turns Through (viewers_refused givens.manner.form fault)
+  rest_turned Last viewing t fault is says = record { first = []; second = viewers_refused givens.manner.form fault; is_first = no_line; is_second = turned_away is says; joined = refl }
+  rest_turned AsTheyCome viewing t fault is says = lines_end (refused_query is says)
+
+  module _ {W T : Type 0} (taken : W → Option (List ℕ)) (faults : W → ℕ) (old new : W) (result : Result T Ended) (viewing : Viewing) where
+    pub delivers_undeclared : (asked : Option Viewing) (desk : Option Editions) → asked ≡ Some viewing → desk ≡ None → IsBehind givens before desk →
+        Delivers taken faults old new (λ bytes. bytes ≡ viewers_refused givens.manner.form NoTable) result → Delivers taken faults old new (IsRest hash givens on asked before [] turns Through) result
+    delivers_undeclared None desk same none stands d = absurd cc
+    delivers_undeclared (Some other) None same none stands d =
+        delivers_as taken faults old new _ _ result (λ bytes is. subst (IsRestIn other.showing hash givens on other before [] turns Through) (sym is) (rest_undeclared other.showing other stands)) d
+    delivers_undeclared (Some other) (Some k) same none stands d = absurd cc
+
+    pub delivers_turned : (asked : Option Viewing) (k : Editions) (stage : Stage) (watches : List Watch) (onlookers : OnlookersValue) (fault : Refused) → asked ≡ Some viewing → stage ≡ Turned fault → HasAttended givens.manner asked (Some k) stage watches onlookers →
+        IsBehind givens before (Some k) → Delivers taken faults old new (λ bytes. bytes ≡ viewers_refused givens.manner.form fault) result → Delivers taken faults old new (IsRest hash givens on asked before [] turns Through) result
+    delivers_turned None k stage watches onlookers fault same is has stands d = absurd cc
+    delivers_turned (Some other) k stage watches onlookers fault same is has stands d = go has.attend is where
+      go : {stage : Stage} {watches : List Watch} {onlookers : OnlookersValue} → Attend givens.manner other (Some k) stage watches onlookers → stage ≡ Turned fault → Delivers taken faults old new (IsRestIn other.showing hash givens on other before [] turns Through) result
+      go expected is = absurd cc
+      go (turned {fault = first} says) is =
+          let one : first ≡ fault = cc in
+          delivers_as taken faults old new _ _ result
+          (λ bytes text. subst (IsRestIn other.showing hash givens on other before [] turns Through) (sym text) (rest_turned other.showing other (keeper.schema k) fault stands.schema (subst (λ f. Says (keeper.schema k) [] other.query (Err f)) one says))) d
+      go (begun shown many all) is = absurd cc
+      go (sent shown are) is = absurd cc
+
+    pub delivers_viewed : (asked : Option Viewing) (k : Editions) (stage : Stage) (watches : List Watch) (onlookers : OnlookersValue) → asked ≡ Some viewing → stage ≡ Begun → viewing.showing ≡ Last → HasAttended givens.manner asked (Some k) stage watches onlookers →
+        Keeps givens before k → Delivers taken faults old new (AreViewers givens.manner (keeper.schema k) (editions givens before) (keeper.edition k) viewing 1 (length watches)) result →
+        Delivers taken faults old new (IsRest hash givens on asked before [] turns Through) result
+    delivers_viewed None k stage watches onlookers same is last has stands d = absurd cc
+    delivers_viewed (Some other) k stage watches onlookers same is last has stands d =
+        let one : other ≡ viewing = cc in
+        let many = (all_begun (Some other) viewing k stage watches onlookers same is last has).1 in
+        rw one (delivers_as taken faults old new _ _ result
+        (λ bytes are. rest_of_last viewing.showing viewing bytes last
+        (viewed stands.schema (subst (λ n. AreViewers givens.manner (keeper.schema k) (editions givens before) n viewing 1 viewing.viewers bytes) stands.edition
+        (subst (λ n. AreViewers givens.manner (keeper.schema k) (editions givens before) (keeper.edition k) viewing 1 n bytes) many are))))
+        d)
+
+    -- those who show their blocks as they come
+    pub delivers_coming : (asked : Option Viewing) (stage : Stage) (onlookers : OnlookersValue) → asked ≡ Some viewing → stage ≡ Begun → viewing.showing ≡ AsTheyCome → turns ≡ turns_of asked stage onlookers →
+        Delivers taken faults old new (AreBlocksBeside hash givens on viewing before [] (turns_in onlookers) Through) result → Delivers taken faults old new (IsRest hash givens on asked before [] turns Through) result
+    delivers_coming None stage onlookers same is coming are d = absurd cc
+    delivers_coming (Some other) stage onlookers same is coming are d =
+        let one : other ≡ viewing = cc in
+        let listed : turns ≡ turns_in onlookers = are ∙ turns_sent (Some other) viewing stage onlookers same is coming in
+        rw one (delivers_as taken faults old new _ _ result
+        (λ bytes are. rest_of_coming viewing.showing viewing bytes coming (subst (λ ts. AreBlocksBeside hash givens on viewing before [] ts Through bytes) (sym listed) are)) d)
+
+-- a run that asks for viewers, which all were started
+pub attended_at : {manner : Manner} (asked : Option Viewing) (viewing : Viewing) (k : Editions) (stage : Stage) (watches : List Watch) (onlookers : OnlookersValue) → asked ≡ Some viewing → stage ≡ Begun →
+    HasAttended manner asked (Some k) stage watches onlookers → HasAttended manner (Some viewing) (Some k) Begun watches onlookers
+attended_at {manner = manner} asked viewing k stage watches onlookers same is has =
+    subst (λ st. HasAttended manner (Some viewing) (Some k) st watches onlookers) is (subst (λ a. HasAttended manner a (Some k) stage watches onlookers) same has)
+
+module _ {W T : Type 0} (hash : Cell → ℕ) (givens : Givens) (on : OnRefusal) (before : Lines) (taken : W → Option (List ℕ)) (faults : W → ℕ) (old new : W) (result : Result T Ended) (viewing : Viewing) where
+  pub delivers_at : (asked : Option Viewing) (stage : Stage) (onlookers : OnlookersValue) → asked ≡ Some viewing → stage ≡ Begun →
+      Delivers taken faults old new (IsRest hash givens on (Some viewing) before [] (turns_of (Some viewing) Begun onlookers) Through) result →
+      Delivers taken faults old new (IsRest hash givens on asked before [] (turns_of asked stage onlookers) Through) result
+  delivers_at asked stage onlookers same is d = rw (same, is) d
+
+-- one that asks for none
+pub delivers_none : {W T : Type 0} (hash : Cell → ℕ) (givens : Givens) (on : OnRefusal) (before : Lines) (turns : List Turn) (taken : W → Option (List ℕ)) (faults : W → ℕ) (writer : W) (x : T) (asked : Option Viewing) → asked ≡ None →
+    Delivers taken faults writer writer (IsRest hash givens on asked before [] turns Through) (Ok x)
+delivers_none hash givens on before turns taken faults writer x None none = record {
+  output = record { whole = []; is_whole = record { first = []; second = []; is_first = no_line; is_second = refl; joined = refl }; taken = Appends-nil (taken writer) };
+  beginning = tt;
+  fault = λ late. absurd cc;
+  sound = refl;
+}
+delivers_none hash givens on before turns taken faults writer x (Some viewing) none = absurd cc
 
 -- one viewer more was started
 pub started_more : (manner : Manner) (viewing : Viewing) (k : Editions) (watches : List Watch) (number : ℕ) (viewer : Known) (question : Question) → AllByRecursion (IsStarted manner viewing k) watches →

@@ -1,6 +1,7 @@
 pub mod Blocks
 pub mod Changes
 pub mod ClassicSpelling
+pub mod Coming
 pub mod CsvSpelling
 pub mod Deeds
 pub mod Desks
@@ -22,5 +23,6 @@ pub mod Spelling
 pub mod Statements
 pub mod Stops
 pub mod Tails
+pub mod Turns
 pub mod ValueLines
 pub mod Viewers

@@ -1,16 +1,11 @@
 -- A run that may stop after a refused line. The lines before a line stand with the last one first.
-use Rattle.std.specs.Prelude.{◌≡◌, ◌⊎◌, ◌<◌, ◌+◌, ℕ, Bool, true, false, List, [], ◌∷◌, ◌++◌, length, reverse, Option, Result, Ok, Err, ⊤}
-use Rattle.std.specs.Io.KnownBytes.{Appends}
-use Rattle.board.specs.Editions.{Editions}
+use Rattle.std.specs.Prelude.{◌≡◌, ◌⊎◌, ◌+◌, ℕ, Bool, true, false, List, [], ◌∷◌, ◌++◌, length, reverse, Result, Ok, Err, ⊤}
 use Rattle.cells.specs.Updates.{Update, puts}
 use Rattle.cells.specs.Values.{RowValue, Table}
 use Rattle.cells.specs.declared.cell.Cell.{Cell}
 use Rattle.cells.specs.declared.refused.Refused.{Refused}
 use Rattle.forms.specs.declared.form.Form.{Form}
-use Rattle.report.specs.Waiting.{Awaits, Waits}
 use Rattle.script.specs.Deeds.{Declares, Deed, Loads, Nothing, Publishes, Reports, Shapes, Updates}
-use Rattle.script.specs.Desks.{IsBehind}
-use Rattle.script.specs.Endings.{AsksForWorkers}
 use Rattle.script.specs.Givens.{Givens}
 use Rattle.script.specs.Listings.{rows_loaded}
 use Rattle.script.specs.Output.{IsBlock, deed_behind, is_overfull, published, updates}
@@ -101,17 +96,6 @@ pub record StoppedAt (hash : Cell → ℕ) (givens : Givens) (before lines : Lis
   pub is_refused : IsRefusedLine givens (reverse earlier ++ before) line
   pub refused : IsRefusal (length (reverse earlier ++ before) + 1) block
   pub joined : bytes ≡ first ++ block
-
--- the lines of a script were gone over: what was taken and what waits are their blocks; a report waits only where a line
--- asked for one, and a run that went through stands behind all lines
-pub record GoesOver (old new : Option (List ℕ)) (hash : Cell → ℕ) (givens : Givens) (on : OnRefusal) (script : List (List ℕ)) (desk : Option Editions) (waits : Waits) (finish : Finish) : Type 0 where
-  pub front : List ℕ
-  pub taken : Appends old new front
-  pub waiting : List ℕ
-  pub awaits : Awaits waits waiting
-  pub blocks : AreBlocksUpTo hash givens on [] script finish (front ++ waiting)
-  pub asked : 0 < length waits.reports → AsksForWorkers givens script
-  pub stands : finish ≡ Through → IsBehind givens (reverse script) desk
 
 -- the bytes are so, however the run is finished
 pub record HoweverFinished (Is : Finish → List ℕ → Type 0) (bytes : List ℕ) : Type 0 where

@@ -164,6 +164,20 @@ pub fn view_text(
     Ok(text)
 }
 
+/// The block of a viewer with one of its reports: its heading, and then the text.
+pub fn view_text_of(
+    alloc: Global,
+    form: Form,
+    viewer: u64,
+    shot: &Shot,
+) -> Result<Vec<u8>, AllocError>
+    ensures { IfOk result (λ text. text.items ≡ view_block form viewer shot.now) }
+{
+    let mut text = Vec::new(alloc);
+    push_view(alloc, form, &mut text, viewer, shot)?;
+    Ok(text)
+}
+
 /// The text with a report of the viewer behind it, under its heading.
 fn push_view(
     alloc: Global,

@@ -1,7 +1,9 @@
-//! The viewers beside a run: they are started once a table is declared, and their blocks come behind those of all lines.
+//! The viewers beside a run: they are started once a table is declared, and their blocks come after those of all lines, or as
+//! they are made.
 ghost use Rattle.std.specs.Prelude.{◌≡◌, ◌+◌, ◌<◌, ◌^◌, ℕ, [], List, length, IfErr, IfOk, OnOk};
 ghost use Rattle.std.specs.List.{AllByRecursion};
 ghost use Rattle.board.specs.Editions.{IsNewViewer, edition, schema as schema_of};
+ghost use Rattle.cells.specs.declared.cell.Cell.{Cell as CellValue};
 ghost use Rattle.report.specs.Watching.{IsOf};
 ghost use Rattle.script.specs.Desks.{IsBehind, Keeps};
 ghost use Rattle.script.specs.Endings.{Delivers, Ends};
@@ -11,9 +13,13 @@ ghost use Rattle.script.specs.Says.{IsRefused};
 ghost use Rattle.script.specs.Spelling.{viewers_refused};
 ghost use Rattle.script.specs.Tails.{AreViewers, AreViews};
 ghost use Rattle.script.specs.declared.manner.Manner.{Manner as MannerValue};
-ghost use Rattle.script.specs.Viewers.{AreAsked, Attend, HasAttended, HasViewers, IsAskedSo, IsStarted, IsTailOf, MayAttend, asked_of, viewing_of};
+ghost use Rattle.script.specs.Turns.{first_turns};
+ghost use Rattle.script.specs.Viewers.{AreAsked, Attend, HasAttended, HasViewers, IsAskedSo, IsRest, IsStarted, MayAttend, MayShow, asked_of, nobody, turns_by, turns_of, viewing_of};
+ghost use Rattle.script.specs.declared.finish.Finish.TheVariants.{Through};
+ghost use Rattle.script.specs.declared.on_refusal.OnRefusal.{OnRefusal};
 
 use crate::block::{view_text, viewers_refused_block};
+use crate::coming::{come, send_all, write_turns};
 use crate::ended::Ended;
 use crate::manner::Manner;
 use crate::owned::beside;
@@ -21,39 +27,52 @@ use crate::reporting::read_plan;
 use crate::setup::SpeltSetup;
 use crate::stage::Stage;
 use crate::unstarted::Unstarted;
-use crate::viewing::Viewing;
+use crate::viewing::{Showing, Viewing};
 use board::{Keeper, Viewer};
 use cells::{Cell, KeyHash, Refused, Schema, Tuple};
 use crew::Gate;
 use forms::Form;
-use report::{Answering, Audience, Out, Question, Starter, Want, Watcher, write_whole};
+use report::{Answering, Audience, Onlookers, Out, Question, Starter, Want, Watcher, write_whole};
 use std::alloc::Global;
 use std::sync::Wait;
 use std::thread::Threads;
 
-/// The viewers beside a run, and how far they are. A run that asks for none has nobody here.
+/// The viewers beside a run, and how far they are: those whose blocks come last, and those who show theirs as they come. A run
+/// that asks for none has nobody here.
 #[derive(Drop)]
 pub struct Gallery<H: KeyHash<Cell>> {
     pub stage: Stage,
     pub audience: Audience<H>,
+    pub onlookers: Onlookers<H>,
 }
 
 impl<H: KeyHash<Cell>> Gallery<H> {
     /// Nobody was started. It takes no memory.
     pub fn new(alloc: Global) -> Gallery<H>
         ensures stage { result.stage ≡ Stage.Expected }
-        ensures nobody { result.audience.watches ≡ [] }
+        ensures nobody { (result.audience.watches ≡ []) × (result.onlookers ≡ nobody) }
     {
         Gallery {
             stage: Stage::Expected,
             audience: Audience::new(alloc),
+            onlookers: Onlookers::new(alloc),
         }
+    }
+
+    /// Whether a viewer whose blocks come as they are made has come back, as far as it is known. It does not wait.
+    pub fn has_come(&self) -> bool {
+        self.onlookers.has_ended_one()
     }
 
     /// Waits for all viewers that were started, and forgets what they reported.
     pub fn join<R: Threads>(self, rt: &R) {
-        let Gallery { stage: _, audience } = self;
+        let Gallery {
+            stage: _,
+            audience,
+            onlookers,
+        } = self;
         audience.join(rt);
+        onlookers.join(rt);
     }
 }
 
@@ -67,9 +86,10 @@ impl<H: KeyHash<Cell> + KeyHash<Tuple> + Send + Sync> Gallery<H> {
     ) -> Result<(), Unstarted>
     where
         H: 's,
-        requires attend { MayAttend setup.now.manner.now (asked_of setup.now.viewing) desk.old self.old.stage self.old.audience.watches }
+        requires attend { MayAttend setup.now.manner.now (asked_of setup.now.viewing) desk.old self.old.stage self.old.audience.watches self.old.onlookers }
         ensures same { desk.new ≡ desk.old }
-        ensures attended { OnOk result (HasAttended setup.now.manner.now (asked_of setup.now.viewing) desk.new self.new.stage self.new.audience.watches) }
+        ensures attended { OnOk result (HasAttended setup.now.manner.now (asked_of setup.now.viewing) desk.new self.new.stage self.new.audience.watches self.new.onlookers) }
+        ensures turns { OnOk result (turns_of (asked_of setup.now.viewing) self.new.stage self.new.onlookers ≡ turns_of (asked_of setup.now.viewing) self.old.stage self.old.onlookers) }
         ensures asked { IfErr result (λ _. HasViewers (asked_of setup.now.viewing)) }
     {
         let Some(viewing) = setup.viewing else {
@@ -95,14 +115,15 @@ impl<H: KeyHash<Cell> + KeyHash<Tuple> + Send + Sync> Gallery<H> {
     ) -> Result<(), Unstarted>
     where
         H: 's,
-        requires nobody { self.old.audience.watches ≡ [] }
+        requires nobody { (self.old.audience.watches ≡ []) × (self.old.onlookers ≡ nobody) }
         ensures same { keeper.new ≡ keeper.old }
-        ensures attend { OnOk result (Attend manner.now (viewing_of viewing.entry) (Some keeper.old) self.new.stage self.new.audience.watches) }
+        ensures attend { OnOk result (Attend manner.now (viewing_of viewing.entry) (Some keeper.old) self.new.stage self.new.audience.watches self.new.onlookers) }
         ensures stage { OnOk result (self.new.stage ≡ Stage.Expected → ⊥) }
+        ensures turns { OnOk result (turns_by viewing.entry.showing (viewing_of viewing.entry) self.new.stage self.new.onlookers ≡ first_turns (viewing_of viewing.entry)) }
     {
         match questions_of(alloc, manner, viewing, keeper.schema()) {
             Ok(questions) => {
-                self.start_all(starter, viewing, keeper, questions)?;
+                self.seat(starter, viewing, keeper, questions)?;
                 self.stage = Stage::Begun;
                 Ok(())
             }
@@ -110,6 +131,31 @@ impl<H: KeyHash<Cell> + KeyHash<Tuple> + Send + Sync> Gallery<H> {
             Err(fault) => {
                 self.stage = Stage::Turned(fault);
                 Ok(())
+            }
+        }
+    }
+
+    /// Starts a viewer for each question, by when their blocks are written.
+    fn seat<'s, 'e: 's, G: Gate, R: Threads + Wait + Sync>(
+        &mut self,
+        starter: &Starter<'_, 's, 'e, R, G>,
+        viewing: Viewing<&str>,
+        keeper: &mut Keeper<H>,
+        questions: Vec<Question>,
+    ) -> Result<(), Unstarted>
+    where
+        H: 's,
+        requires nobody { (self.old.audience.watches ≡ []) × (self.old.onlookers ≡ nobody) }
+        requires many { length questions.items ≡ viewing.viewers }
+        ensures same { keeper.new ≡ keeper.old }
+        ensures attend { (manner : MannerValue) → AreAsked manner (schema_of keeper.old) viewing.entry.query.now questions.items →
+            OnOk result (Attend manner (viewing_of viewing.entry) (Some keeper.old) Stage.Begun self.new.audience.watches self.new.onlookers) }
+        ensures turns { OnOk result (turns_by viewing.entry.showing (viewing_of viewing.entry) Stage.Begun self.new.onlookers ≡ first_turns (viewing_of viewing.entry)) }
+    {
+        match viewing.showing {
+            Showing::Last => self.start_all(starter, viewing, keeper, questions),
+            Showing::AsTheyCome => {
+                send_all(starter, viewing, keeper, questions, &mut self.onlookers)
             }
         }
     }
@@ -126,6 +172,7 @@ impl<H: KeyHash<Cell> + KeyHash<Tuple> + Send + Sync> Gallery<H> {
         H: 's,
         requires nobody { self.old.audience.watches ≡ [] }
         ensures same { keeper.new ≡ keeper.old }
+        ensures others { self.new.onlookers ≡ self.old.onlookers }
         ensures many { OnOk result (length self.new.audience.watches ≡ length questions.items) }
         ensures started { (manner : MannerValue) → AreAsked manner (schema_of keeper.old) viewing.entry.query.now questions.items →
             OnOk result (AllByRecursion (IsStarted manner (viewing_of viewing.entry) keeper.old) self.new.audience.watches) }
@@ -138,17 +185,55 @@ impl<H: KeyHash<Cell> + KeyHash<Tuple> + Send + Sync> Gallery<H> {
         Ok(())
     }
 
-    /// Writes what comes behind the blocks of all lines: nothing, where a run asks for no viewers; else the live tail.
-    pub fn write_tail<O: Out, G: Gate, R: Threads + Wait + Sync>(
+    /// The blocks of viewers that came meanwhile, where they are shown as they come; else nothing. It waits for no report that goes
+    /// on.
+    pub fn come<'s, 'e: 's, G: Gate, R: Threads + Wait + Sync>(
         &mut self,
         setup: &SpeltSetup<'_, R, G>,
+        starter: &Starter<'_, 's, 'e, R, G>,
+        desk: &mut Option<Keeper<H>>,
+    ) -> Result<Vec<u8>, Want>
+    where
+        H: 's,
+        requires attended { HasAttended setup.now.manner.now (asked_of setup.now.viewing) desk.old self.old.stage self.old.audience.watches self.old.onlookers }
+        ensures same { desk.new ≡ desk.old }
+        ensures attended { OnOk result (HasAttended setup.now.manner.now (asked_of setup.now.viewing) desk.new self.new.stage self.new.audience.watches self.new.onlookers) }
+        ensures came { (before : List (List ℕ)) → IsBehind (givens_in setup.now.manner.now setup.now.how.now.rows setup.now.parts.now) before desk.old →
+            IfOk result (λ text. MayShow (givens_in setup.now.manner.now setup.now.how.now.rows setup.now.parts.now) (asked_of setup.now.viewing) before
+            (turns_of (asked_of setup.now.viewing) self.old.stage self.old.onlookers) (turns_of (asked_of setup.now.viewing) self.new.stage self.new.onlookers) text.items) }
+        ensures asked { IfErr result (λ _. HasViewers (asked_of setup.now.viewing)) }
+    {
+        let Some(viewing) = setup.viewing else {
+            return Ok(Vec::new(setup.alloc));
+        };
+        let Showing::AsTheyCome = viewing.showing else {
+            return Ok(Vec::new(setup.alloc));
+        };
+        let Stage::Begun = self.stage else {
+            return Ok(Vec::new(setup.alloc));
+        };
+        let Some(keeper) = desk else {
+            return Ok(Vec::new(setup.alloc));
+        };
+        come(setup, starter, viewing, keeper, &mut self.onlookers)
+    }
+
+    /// Writes what comes after the blocks of all lines: nothing, where a run asks for no viewers; else their blocks that are still
+    /// to come, or what stands in place of all.
+    pub fn write_tail<'s, 'e: 's, O: Out, G: Gate, R: Threads + Wait + Sync>(
+        &mut self,
+        setup: &SpeltSetup<'_, R, G>,
+        starter: &Starter<'_, 's, 'e, R, G>,
         desk: &mut Option<Keeper<H>>,
         out: &mut O,
     ) -> Result<(), Ended>
-        requires attended { HasAttended setup.now.manner.now (asked_of setup.now.viewing) desk.old self.old.stage self.old.audience.watches }
+    where
+        H: 's,
+        requires attended { HasAttended setup.now.manner.now (asked_of setup.now.viewing) desk.old self.old.stage self.old.audience.watches self.old.onlookers }
         requires faults { O.faults out.old + 1 < 2 ^ 64 }
-        ensures tail { (before : List (List ℕ)) → IsBehind (givens_in setup.now.manner.now setup.now.how.now.rows setup.now.parts.now) before desk.old →
-            Delivers O.taken O.faults out.old out.new (IsTailOf (givens_in setup.now.manner.now setup.now.how.now.rows setup.now.parts.now) (asked_of setup.now.viewing) before) result }
+        ensures tail { (hash : CellValue → ℕ) (on : OnRefusal) (before : List (List ℕ)) → IsBehind (givens_in setup.now.manner.now setup.now.how.now.rows setup.now.parts.now) before desk.old →
+            Delivers O.taken O.faults out.old out.new (IsRest hash (givens_in setup.now.manner.now setup.now.how.now.rows setup.now.parts.now) on (asked_of setup.now.viewing) before []
+            (turns_of (asked_of setup.now.viewing) self.old.stage self.old.onlookers) Through) result }
         ensures asked { IfErr result (λ _. HasViewers (asked_of setup.now.viewing)) }
     {
         let Some(viewing) = setup.viewing else {
@@ -158,9 +243,34 @@ impl<H: KeyHash<Cell> + KeyHash<Tuple> + Send + Sync> Gallery<H> {
             return write_refused(setup, out, Refused::NoTable);
         };
         match self.stage {
-            Stage::Begun => self.write_viewers(setup, viewing, keeper, out),
+            Stage::Begun => self.write_begun(setup, starter, viewing, keeper, out),
             Stage::Turned(fault) => write_refused(setup, out, fault),
             Stage::Expected => unreachable!(),
+        }
+    }
+
+    /// Waits for the viewers that were started, and writes their blocks that are still to come.
+    fn write_begun<'s, 'e: 's, O: Out, G: Gate, R: Threads + Wait + Sync>(
+        &mut self,
+        setup: &SpeltSetup<'_, R, G>,
+        starter: &Starter<'_, 's, 'e, R, G>,
+        viewing: Viewing<&str>,
+        keeper: &mut Keeper<H>,
+        out: &mut O,
+    ) -> Result<(), Ended>
+    where
+        H: 's,
+        requires attended { HasAttended setup.now.manner.now (Some (viewing_of viewing)) (Some keeper.old) Stage.Begun self.old.audience.watches self.old.onlookers }
+        requires faults { O.faults out.old + 1 < 2 ^ 64 }
+        ensures tail { (hash : CellValue → ℕ) (on : OnRefusal) (before : List (List ℕ)) → Keeps (givens_in setup.now.manner.now setup.now.how.now.rows setup.now.parts.now) before keeper.old →
+            Delivers O.taken O.faults out.old out.new (IsRest hash (givens_in setup.now.manner.now setup.now.how.now.rows setup.now.parts.now) on (Some (viewing_of viewing.entry)) before []
+            (turns_of (Some (viewing_of viewing.entry)) Stage.Begun self.old.onlookers) Through) result }
+    {
+        match viewing.showing {
+            Showing::Last => self.write_viewers(setup, viewing, keeper, out),
+            Showing::AsTheyCome => {
+                write_turns(setup, starter, viewing, keeper, &mut self.onlookers, out)
+            }
         }
     }
 
@@ -198,7 +308,7 @@ impl<H: KeyHash<Cell> + KeyHash<Tuple> + Send + Sync> Gallery<H> {
 }
 
 /// A viewer of the keeper's table.
-fn viewer_of<H: KeyHash<Cell>>(keeper: &mut Keeper<H>) -> Result<Viewer<H>, Unstarted>
+pub(crate) fn viewer_of<H: KeyHash<Cell>>(keeper: &mut Keeper<H>) -> Result<Viewer<H>, Unstarted>
     ensures same { keeper.new ≡ keeper.old }
     ensures viewer { IfOk result (IsNewViewer keeper.old) }
 {

@@ -12,7 +12,7 @@ ghost use Rattle.script.specs.Limits.{script_limit};
 ghost use Rattle.script.specs.Output.{IsOutput};
 ghost use Rattle.script.specs.Desks.{IsFresh};
 ghost use Rattle.script.specs.Tails.{IsLive};
-ghost use Rattle.script.specs.Viewers.{EndsBy, EndsEarly, EndsLines, EndsRun, GoesOverBeside, asked_of};
+ghost use Rattle.script.specs.Viewers.{EndsBy, EndsEarly, EndsLines, EndsRun, GoesOverBeside, asked_of, nobody};
 ghost use Rattle.script.specs.declared.stage.Stage.TheVariants as Stage;
 
 use crate::block::{Asked, Block};
@@ -30,7 +30,7 @@ use crate::owned::beside;
 use crate::setup::{Setup, SpeltSetup};
 use crate::step::{Line, execute};
 use crate::too_much::refuse_whole;
-use crate::viewing::Viewing;
+use crate::viewing::{Showing, Viewing};
 use board::Keeper;
 use cells::{Cell, Fnv, KeyHash, Plain, Tuple};
 use crew::Gate;
@@ -123,12 +123,13 @@ pub fn live<
     out: &mut O,
 ) -> Result<(), Ended>
     requires { O.faults out.old + 1 < 2 ^ 64 }
-    ensures delivered { Delivers O.taken O.faults out.old out.new (IsLive H.KeyHash-1.hash_of (givens how.now.rows parts.now) (record { query = query.now; viewers = viewers; shots = shots }) script.now) result }
+    ensures delivered { Delivers O.taken O.faults out.old out.new (IsLive H.KeyHash-1.hash_of (givens how.now.rows parts.now) (record { query = query.now; viewers = viewers; shots = shots; showing = Showing.Last }) script.now) result }
 {
     let viewing = Viewing {
         query,
         viewers,
         shots,
+        showing: Showing::Last,
     };
     let setup = Setup {
         rt,
@@ -315,7 +316,7 @@ fn run_beside<
     requires faults { O.faults out.old + 1 < 2 ^ 64 }
     requires short { length script.now ≤ script_limit }
     requires fresh { IsFresh desk.old × (backlog.old ≡ record { reports = []; after = [] }) }
-    requires nobody { (gallery.old.stage ≡ Stage.Expected) × (gallery.old.audience.watches ≡ []) }
+    requires nobody { (gallery.old.stage ≡ Stage.Expected) × (gallery.old.audience.watches ≡ []) × (gallery.old.onlookers ≡ nobody) }
     ensures { EndsLines setup.now.on_refusal H.KeyHash-1.hash_of O.taken O.faults out.old out.new (givens_in setup.now.manner.now setup.now.how.now.rows setup.now.parts.now) (asked_of setup.now.viewing) (lines script.now) result }
 {
     // The law by which what was written is a beginning of an output, where a report ends the run; it does
@@ -324,7 +325,7 @@ fn run_beside<
     let gone = go_over(setup, starter, script, desk, backlog, gallery, out)?;
     backlog.finish(setup.rt, out)?;
     match gone {
-        Finish::Through => through(gallery.write_tail(setup, desk, out)),
+        Finish::Through => through(gallery.write_tail(setup, starter, desk, out)),
         Finish::Stopped => Ok(Finish::Stopped),
     }
 }
@@ -350,9 +351,9 @@ fn go_over<
     requires faults { O.faults out.old + 1 < 2 ^ 64 }
     requires short { length script.now ≤ script_limit }
     requires fresh { IsFresh desk.old × (backlog.old ≡ record { reports = []; after = [] }) }
-    requires nobody { (gallery.old.stage ≡ Stage.Expected) × (gallery.old.audience.watches ≡ []) }
+    requires nobody { (gallery.old.stage ≡ Stage.Expected) × (gallery.old.audience.watches ≡ []) × (gallery.old.onlookers ≡ nobody) }
     ensures { MatchResult result
-        (GoesOverBeside O.taken O.faults out.old out.new H.KeyHash-1.hash_of (givens_in setup.now.manner.now setup.now.how.now.rows setup.now.parts.now) setup.now.on_refusal (asked_of setup.now.viewing) (lines script.now) desk.new backlog.new gallery.new.stage gallery.new.audience.watches)
+        (GoesOverBeside O.taken O.faults out.old out.new H.KeyHash-1.hash_of (givens_in setup.now.manner.now setup.now.how.now.rows setup.now.parts.now) setup.now.on_refusal (asked_of setup.now.viewing) (lines script.now) desk.new backlog.new gallery.new.stage gallery.new.audience.watches gallery.new.onlookers)
         (EndsEarly setup.now.on_refusal H.KeyHash-1.hash_of O.taken O.faults out.old out.new (givens_in setup.now.manner.now setup.now.how.now.rows setup.now.parts.now) (asked_of setup.now.viewing) (lines script.now)) }
 {
     // The laws by which what was written is a beginning of an output, where a line ends the run; they do
@@ -368,6 +369,10 @@ fn go_over<
         add(starter, backlog, out, number, given)?;
         if stops {
             return Ok(Finish::Stopped);
+        }
+        if gallery.has_come() {
+            let came = gallery.come(setup, starter, desk)?;
+            backlog.say(out, came.as_slice())?;
         }
     }
     Ok(Finish::Through)

@@ -8,6 +8,7 @@ use Rattle.script.proofs.gallery.Gallery.start_all.Goals as goal
 pub loop-question-init : goal.loop-question-init
 loop-question-init g c = record {
   same = refl;
+  others = refl;
   many = rw (c.requires.nobody, c.into_iter-question-iterator.ensures.into_iter_gives.0) (omega arith);
   started = λ manner asked. (subst (AreAsked manner (schema c.args.keeper.now) c.args.viewing.query.now) (sym c.into_iter-question-iterator.ensures.into_iter_gives.0) asked, rw c.requires.nobody tt);
 }
@@ -21,6 +22,7 @@ loop-question-preserved g c =
     let viewer = rw c.in_ok-question.ensures.0 at c.viewer_of.ensures.viewer in
     record {
       same = c.viewer_of.ensures.same ∙ inv.same;
+      others = inv.others;
       many = omega (arith, inv.many, fewer, more, length-append c.loop-question.self.audience.watches (watch_from (c.loop-question.self.audience.begun + 1) c.in_ok-question.viewer c.in_ok-question.question c.args.viewing.shots ∷ []));
       started = λ manner asked.
           let so = inv.started manner asked in
