@@ -32,7 +32,7 @@ _olap() {
             mapfile -t COMPREPLY < <(compgen -W "run live session query schema check language $(echo {1..15})" -- "$word")
             return
             ;;
-        live) options+=" --query --viewers --shots" ;;
+        live) options+=" --query --viewers --shots --as-they-come" ;;
         session) options="--workers --depth --small --hash --rows --format --strict --help" ;;
         query) options="--columns --delimiter --number --null --trim --order --limit --workers --rows --format --progress --help" ;;
         schema) options="--columns --delimiter --number --null --trim --help" ;;

@@ -1,8 +1,8 @@
-"""Runs with viewers beside them: what `olap live` writes behind the output of `olap run`."""
+"""Runs with viewers beside them: what `olap live` writes after the output of `olap run`, or between its blocks."""
 
 import pathlib
 
-from cases.table import Case, OneOf, SCRIPT, as_bytes, of_lines
+from cases.table import Case, OneOf, SCRIPT, Viewed, as_bytes, of_lines
 
 SALES = ["ID,REGION,ITEM,UNITS", "1,north,pen,10", "2,north,ink,", "3,,pen,5", "4,south,pen,-2"]
 PART = "".join(f"{line}\n" for line in SALES)
@@ -84,6 +84,59 @@ ROWS = [
     ),
 ]
 
+def coming(title, rows, viewers, shots, *reports, status=0, errors="", options=(), between=False):
+    """A script of these lines, and viewers who count its rows as they come; the counts are those of its editions, in order.
+    Where it is asked for, a viewer comes before the last report of the script."""
+    text, output = of_lines(rows)
+    words = ["live", "--as-they-come", "--query", COUNT, "--viewers", str(viewers), "--shots", str(shots), *options, SCRIPT]
+    editions = {number: ["COUNT(*)", str(count)] for number, count in enumerate(reports)}
+    wanted = Viewed(output=output, viewers=viewers, shots=shots, editions=editions, as_they_come=True, between=between)
+    return Case(title, words, {SCRIPT: text}, output=wanted, errors=errors, status=status)
+
+
+def put_and_publish(count):
+    return [line for number in range(1, count + 1) for line in (f"put {number}", "publish")]
+
+
+REPORT = f"report {COUNT}"
+COMING = [
+    coming("a viewer as it comes, of a table without rows", [TABLE], 1, 1, 0),
+    coming("16 viewers as they come, 40 shots each", [TABLE, *put_and_publish(20)], 16, 40, *range(21)),
+    coming(
+        "viewers as they come between reports of the script",
+        [TABLE, *put_and_publish(30), (REPORT, "edition 30\nCOUNT(*)\n30"), ("put x", 7), "put 31", "publish", (REPORT, "edition 31\nCOUNT(*)\n31")],
+        3,
+        100,
+        *range(32),
+    ),
+    coming(
+        "viewers as they come before a long script ends",
+        [TABLE, *[line for number in range(600) for line in (*[f"put {100 * number + key}" for key in range(100)], "publish")], (REPORT, "edition 600\nCOUNT(*)\n60000")],
+        2,
+        10,
+        *range(0, 60_001, 100),
+        between=True,
+    ),
+    coming("more shots than lines, as they come", [TABLE, "put 1", "publish"], 2, 1_000, 0, 1),
+    live("viewers as they come whose query is refused", [TABLE, ("put x", 7)], "SELECT COUNT(X) FROM T", "viewers refused 11\n", options=("--as-they-come",)),
+    live("viewers as they come of no table", [("publish", 1)], COUNT, "viewers refused 1\n", options=("--as-they-come",)),
+    Case(
+        "viewers as they come of a script of one byte too many",
+        ["live", "--as-they-come", "--query", COUNT, SCRIPT],
+        {SCRIPT: b"#" * 1_048_577},
+        output="line 0 refused 15\nviewers refused 1\n",
+    ),
+    Case(
+        "viewers as they come, strict, and the first line is refused",
+        ["live", "--as-they-come", "--strict", "--query", COUNT, SCRIPT],
+        {SCRIPT: as_bytes(f"publish\n{TABLE}\n")},
+        output="line 1 refused 1\n",
+        errors="olap: stopped after a refused line\n",
+        status=1,
+    ),
+    coming("viewers as they come, strict, and no line is refused", [TABLE, *put_and_publish(5)], 2, 3, *range(6), options=("--strict",)),
+]
+
 LIMITS = [
     Case(
         "viewers of a script of one byte too many",
@@ -113,4 +166,4 @@ EXAMPLE = [
     for options in [("--workers", "1"), ("--workers", "7", "--hash", "plain")]
 ]
 
-CASES = ROWS + LIMITS + EXAMPLE
+CASES = ROWS + COMING + LIMITS + EXAMPLE

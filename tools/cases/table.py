@@ -68,24 +68,28 @@ class Like(Text):
 
 @dataclass
 class Viewed(Text):
-    """What a script writes, and behind it a lawful tail of so many viewers and shots; `editions` has the lines of the report
-    on each edition, by its number."""
+    """What a script writes, and a lawful tail of so many viewers and shots after it, or their blocks as they come;
+    `editions` has the lines of the report on each edition, by its number."""
 
     output: str = ""
     viewers: int = 0
     shots: int = 0
     editions: dict = field(default_factory=dict)
+    as_they_come: bool = False
+    between: bool = False
 
     def is_met_by(self, got):
         return self.fault_in(got.decode(errors="backslashreplace")) is None
 
     def fault_in(self, text):
+        if self.as_they_come:
+            return tails.fault_together(text, self.output, self.viewers, self.shots, self.editions, self.between)
         if not text.startswith(self.output):
             return "another output"
         return tails.fault_of(text[len(self.output) :], self.viewers, self.shots, self.editions)
 
     def __str__(self):
-        return f"({self.output!r} and a lawful tail of {self.viewers} viewers)"
+        return f"({self.output!r} and lawful blocks of {self.viewers} viewers)"
 
 
 @dataclass

@@ -13,6 +13,8 @@ TABLE = "table T (K INT KEY, A TEXT, B INT, C TEXT, D INT)"
 ITEMS = ["A", "COUNT(*)", "COUNT(DISTINCT C)", "SUM(B)", "MAX(D)"]
 QUERY = f"SELECT {', '.join(ITEMS)} FROM T WHERE NOT B = 7 GROUP BY ROLLUP(A)"
 
+COMING = "--as-they-come"
+
 # Viewers, the shots of each, and the options of the run.
 WAYS = [
     (2, 1, ()),
@@ -20,6 +22,9 @@ WAYS = [
     (2, 300, ("--workers", "4", "--depth", "2")),
     (16, 40, ("--workers", "2")),
     (16, 40, ("--hash", "plain", "--depth", "13")),
+    (2, 1, (COMING,)),
+    (2, 300, (COMING, "--workers", "4")),
+    (16, 40, (COMING, "--workers", "2")),
 ]
 
 
@@ -82,7 +87,7 @@ class Sample:
         names = [f"part{number}.csv" for number in range(1, len(self.parts) + 1)]
         words = ["live", "--query", QUERY, "--viewers", str(viewers), "--shots", str(shots), *options, SCRIPT, *names]
         files = {SCRIPT: text, **dict(zip(names, self.parts))}
-        return Case(title, words, files, output=Viewed(output=output, viewers=viewers, shots=shots, editions=self.editions))
+        return Case(title, words, files, output=Viewed(output=output, viewers=viewers, shots=shots, editions=self.editions, as_they_come=COMING in options))
 
 
 def cases():

@@ -83,6 +83,7 @@ OPTIONS = [
     viewed("live S --query="),
     viewed("live S --query Q --viewers 1 --shots 1"),
     viewed("live --workers 7 --query=Q S --viewers 16 --shots 1000 P"),
+    viewed("live --as-they-come S --query Q"),
     beyond("live S --query Q --viewers 0", "viewers"),
     beyond("live S --query Q --viewers 17", "viewers"),
     beyond("live S --query Q --shots 0", "shots"),
@@ -108,6 +109,9 @@ REFUSED = [
     refused("run S --explain=true"),
     refused("--explain run S"),
     refused("run S --progress --progress"),
+    refused("run S --as-they-come"),
+    refused("live S --query Q --as-they-come --as-they-come"),
+    refused("live S --query Q --as-they-come=true"),
     refused("run S --progress=true"),
     refused("--progress run S"),
     refused("run S --strict=true"),
@@ -132,8 +136,8 @@ RUN = "\nUsage: olap run [OPTIONS] <SCRIPT> [PART]...\n"
 LIVE = "\nUsage: olap live [OPTIONS] --query <QUERY> <SCRIPT> [PART]...\n"
 
 HELP = [
-    case("--version", output="olap 1.10.0 (rattle-kit-13f logic dac8208d650f15bf)\n"),
-    case("-V", output="olap 1.10.0 (rattle-kit-13f logic dac8208d650f15bf)\n"),
+    case("--version", output="olap 1.11.0 (rattle-kit-13f logic dac8208d650f15bf)\n"),
+    case("-V", output="olap 1.11.0 (rattle-kit-13f logic dac8208d650f15bf)\n"),
     help("--help", TOP),
     help("-h", TOP),
     help("help", TOP),
@@ -153,6 +157,7 @@ HELP = [
     help("live --help", "--explain "),
     help("run --help", "--progress "),
     help("live --help", "--progress "),
+    help("live --help", "--as-they-come "),
     help("live --help", LIVE),
     help("help live", LIVE),
     help("live --help", "\nExample:\n"),
