@@ -100,7 +100,7 @@ def put_and_publish(count):
 
 REPORT = f"report {COUNT}"
 COMING = [
-    coming("a viewer as it comes, of a table without rows", [TABLE], 1, 1, 0),
+    live("a viewer as it comes", [TABLE], COUNT, counts(1, *[(0, 0)] * 4), options=("--as-they-come", "--viewers", "1", "--shots", "3")),
     coming("16 viewers as they come, 40 shots each", [TABLE, *put_and_publish(20)], 16, 40, *range(21)),
     coming(
         "viewers as they come between reports of the script",
