@@ -97,16 +97,16 @@ all_put (p ∷ pairs) m q =
     ∙ ap (λ b. list_any (cell_eq q) (keys_of pairs) || b) (ap is_some (map.get-insert cell_cmp-total m p.0 p.1 q) ∙ some_or (cell_eq q p.0) (map.get m q))
     ∙ has_swapped (list_any (cell_eq q) (keys_of pairs)) (cell_eq q p.0) (is_some (map.get m q))
 
-pub all_held : (pairs new : Entries) (xs : List Cell) → keys_of pairs ≡ present xs →
-    map_of cell_cmp new ≡ fold (λ (m : map.FinMap cell_cmp (Unit {0})) (p : Cell × Unit {0}). map.insert m p.0 p.1) (map_of cell_cmp []) pairs → held new ≡ different xs
-all_held pairs new xs are e = same (held new) (different xs) (λ q.
+pub all_held : (pairs new : Entries) (xs : List Cell) → keys_of pairs ≡ xs →
+    map_of cell_cmp new ≡ fold (λ (m : map.FinMap cell_cmp (Unit {0})) (p : Cell × Unit {0}). map.insert m p.0 p.1) (map_of cell_cmp []) pairs → held new ≡ from_list xs
+all_held pairs new xs are e = same (held new) (from_list xs) (λ q.
     contains_keys new q
     ∙ ap (λ m. is_some (map.get m q)) e
     ∙ all_put pairs (map_of cell_cmp []) q
     ∙ ap (λ b. list_any (cell_eq q) (keys_of pairs) || b) (sym (contains_keys [] q) ∙ contains-empty cell_cmp q)
     ∙ or_false (list_any (cell_eq q) (keys_of pairs))
     ∙ ap (list_any (cell_eq q)) are
-    ∙ sym (contains_different xs q))
+    ∙ sym (contains-from_list cell_cmp-total xs q))
   where
     or_false : (b : Bool) → (b || false) ≡ b
     or_false true = refl

@@ -3,6 +3,7 @@ pub mod Bags
 pub mod Counts
 pub mod Differing
 pub mod Extremes
+pub mod Keeping
 pub mod Picks
 pub mod Reducing
 pub mod Room

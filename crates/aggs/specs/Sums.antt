@@ -9,7 +9,7 @@ use Rattle.aggs.specs.Bags.{decided_by_bag}
 use Rattle.aggs.specs.Reducing.{merged, reduce_more}
 use Rattle.aggs.specs.Room.{cell_limit}
 use Rattle.aggs.specs.Totals.{Summed}
-use Rattle.aggs.specs.Values.{integers, sum, sum_of, total_or_null}
+use Rattle.aggs.specs.Values.{integers, sum, total_or_null}
 use Rattle.cells.specs.declared.cell.Cell.{Cell}
 use Rattle.cells.specs.declared.cell.Cell.TheVariants.{Null, Int, Text}
 use Rattle.cells.specs.declared.total.Total.{Total}

@@ -11,13 +11,13 @@ use std::alloc::{AllocError, Global};
 /// The number of rows: COUNT(*). It is stepped with any cell of each row.
 #[derive(Clone, Copy, Debug, Drop)]
 pub struct CountRows {
-    count: u64,
+    pub(crate) count: u64,
 }
 
 /// The number of cells that are not NULL: COUNT of a column.
 #[derive(Clone, Copy, Debug, Drop)]
 pub struct Count {
-    count: u64,
+    pub(crate) count: u64,
 }
 
 impl Aggregate for CountRows {

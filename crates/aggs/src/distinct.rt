@@ -11,7 +11,7 @@ ghost use Rattle.cells.specs.declared.total.Total.TheVariants as total;
 ghost use Rattle.trie.specs.Maps.{HaveSameKeys, RiseByHash};
 
 use crate::aggregate::Aggregate;
-use cells::{Cell, KeyHash, Total};
+use cells::{Cell, KeyHash, Total, Tuple};
 use std::alloc::{AllocError, Global};
 use std::marker::Model;
 use trie::{Later, Ticks, Trie, entries_are_a_map};
@@ -61,6 +61,28 @@ impl<H: KeyHash<Cell>> CountDistinct<H> {
         Ok(CountDistinct::holding(cells))
     }
 
+    /// Those of all cells of a list, in a trie that is made at once.
+    pub(crate) fn of_all(alloc: Global, cells: &Tuple) -> Result<CountDistinct<H>, AllocError>
+        ensures { IfOk result (λ c. c ≡ from_list cells.now) }
+    {
+        entries_are_a_map::<Cell, (), H>();
+        let pairs = all_pairs(alloc, cells.cells())?;
+        let cells = Trie::from_pairs(alloc, pairs)?;
+        Ok(CountDistinct::holding(cells))
+    }
+
+    /// The cells in a list.
+    pub(crate) fn list(&self, alloc: Global) -> Result<Tuple, AllocError>
+        ensures { IfOk result (λ list. from_list list ≡ self.now) }
+    {
+        let entries = self.cells.entries(alloc)?;
+        let mut cells = Vec::with_capacity(alloc, entries.len())?;
+        for entry in entries {
+            cells.push(entry.0.clone()?)?;
+        }
+        Ok(Tuple::new(cells))
+    }
+
     /// The trie that holds the cells: its keys are the different cells of the list without NULL, each
     /// once. It takes no memory.
     pub fn cells(&self) -> &Trie<Cell, (), H>
@@ -106,13 +128,24 @@ impl<H: KeyHash<Cell>> CountDistinct<H> {
         Ok(CountDistinct::holding(cells))
     }
 
-    /// How many cells there are.
-    fn len(&self) -> u64
+    /// How many cells there are. It takes no memory.
+    pub fn len(&self) -> u64
         ensures { result ≡ len self.now }
     {
         entries_are_a_map::<Cell, (), H>();
         self.cells.len()
     }
+}
+
+/// Copies of the cells as keys.
+fn all_pairs(alloc: Global, cells: &[Cell]) -> Result<Vec<(Cell, ())>, AllocError>
+    ensures { IfOk result (λ v. keys_of v.items ≡ cells.now) }
+{
+    let mut pairs = Vec::with_capacity(alloc, cells.len())?;
+    for cell in cells {
+        pairs.push((cell.clone()?, ()))?;
+    }
+    Ok(pairs)
 }
 
 /// The cells that are not NULL, in their order, as keys.

@@ -14,7 +14,7 @@ use std::alloc::{AllocError, Global};
 /// The greatest of the cells that are not NULL, where there is one: MAX of a column. It owns a copy of it.
 #[derive(Debug, Drop)]
 pub struct Max {
-    greatest: Option<Cell>,
+    pub(crate) greatest: Option<Cell>,
 }
 
 /// The greater of two cells that may be there.

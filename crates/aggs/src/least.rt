@@ -14,7 +14,7 @@ use std::alloc::{AllocError, Global};
 /// The least of the cells that are not NULL, where there is one: MIN of a column. It owns a copy of it.
 #[derive(Debug, Drop)]
 pub struct Min {
-    least: Option<Cell>,
+    pub(crate) least: Option<Cell>,
 }
 
 /// The lesser of two cells that may be there.

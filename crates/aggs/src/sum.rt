@@ -14,8 +14,8 @@ use std::marker::Model;
 /// NULLs. 4,294,967,296 integers of 64 bits need 96 bits, so no sum is out of range.
 #[derive(Clone, Copy, Debug, Drop)]
 pub struct Sum {
-    sum: i128,
-    integers: u64,
+    pub(crate) sum: i128,
+    pub(crate) integers: u64,
 }
 
 impl Model for Sum {
