@@ -1,13 +1,14 @@
 -- Cells that are sorted, each once, and of which those that are not NULL stay: as many as there are different ones.
-use Rattle.std.specs.Prelude.{◌≡◌, not, ◌&&◌, List, [], ◌∷◌, filter, length, refl}
+use Rattle.std.specs.Prelude.{◌≡◌, ◌≤◌, not, ◌&&◌, List, [], ◌∷◌, filter, length, refl}
 use Rattle.std.specs.FinSet.{from_list, len, same_set}
 use Rattle.std.specs.List.{dedup}
 use Rattle.std.specs.List.Sorted.{IsPermutation, IsSorted, IsStrictlySortedBy}
 use Rattle.std.specs.Set.{distinct_count}
-use Rattle.std.proofs.Common.{ap, subst, sym, ◌∙◌}
+use Rattle.std.proofs.Common.{ap, arith, subst, sym, ◌∙◌}
 use Rattle.std.proofs.lemmas.List.Kept.{Contains-dedup, IsStrictlySortedBy-dedup, IsStrictlySortedBy-filter}
 use Rattle.std.proofs.lemmas.Map.Keys.{IsDistinct-from_sorted}
-use Rattle.std.proofs.lemmas.Map.Made.{distinct_count-from_IsDistinct}
+use Rattle.std.proofs.lemmas.Map.Made.{distinct_count-from_IsDistinct, distinct_count-le}
+use Rattle.aggs.specs.Counts.{number_at_most}
 use Rattle.aggs.specs.Differing.{contains_different, different, different_any_order, different_count_is}
 use Rattle.aggs.specs.Values.{is_null, present}
 use Rattle.cells.specs.CellOrder.{cell_cmp, cell_cmp-total, cell_eq, cell_eq-equiv}
@@ -29,6 +30,17 @@ present_twice (Text t ∷ cells) = ap (λ l. Text t ∷ l) (present_twice cells)
 
 different_present : (cells : List Cell) → different (present cells) ≡ different cells
 different_present cells = ap (λ l. from_list l) (present_twice cells)
+
+-- cells that are as many as their different ones, of which none is NULL
+all_present : (cells : List Cell) → length cells ≤ length (present cells) → present cells ≡ cells
+all_present [] many = refl
+all_present (Null ∷ cells) many = absurd (omega (arith, many, number_at_most cells))
+all_present (Int n ∷ cells) many = ap (λ l. Int n ∷ l) (all_present cells (omega (arith, many)))
+all_present (Text t ∷ cells) many = ap (λ l. Text t ∷ l) (all_present cells (omega (arith, many)))
+
+pub listed : (cells : List Cell) → len (different cells) ≡ length cells → from_list {R = cell_cmp} cells ≡ different cells
+listed cells many = ap (λ l. from_list l) (sym (all_present cells
+    (omega (arith, many, different_count_is cells, distinct_count-le cell_eq (present cells)))))
 
 -- cells as they came, sorted, each once, and those that are not NULL
 pub record AreSorted (cells sorted once made : List Cell) : Type 0 where

@@ -1,30 +1,27 @@
 -- The rows of a report, from groups.
-use Rattle.std.specs.Prelude.{◌≡◌, ℕ, zero, suc, ◌+◌, ◌<◌, ◌⊎◌, Bool, true, false, List, [], ◌∷◌, ◌++◌, drop, if◌then◌else◌, is_some, length, map, pos, Option, Some, take, refl}
+use Rattle.std.specs.Prelude.{◌≡◌, ℕ, zero, suc, ◌+◌, ◌<◌, ◌⊎◌, Bool, true, false, List, [], ◌∷◌, ◌++◌, drop, if◌then◌else◌, length, map, pos, Option, Some, take, refl}
 use Rattle.std.specs.Borrow.{Bor}
-use Rattle.std.specs.List.{AllByRecursion, Contains, flat_map}
+use Rattle.std.specs.List.{AllByRecursion, flat_map}
 use Rattle.std.specs.List.Sorted.{IsPermutation, IsSorted}
 use Rattle.std.specs.Map.{keys_of}
 use Rattle.std.proofs.Common.{get_or, ap, ap₂, sym, ◌∙◌, subst, inl, inr}
 use Rattle.std.proofs.lemmas.List.{append_assoc, append-nil, drop_more, get_or_default, length-map}
 use Rattle.std.proofs.lemmas.List.Elements.{recursion_from_All}
 use Rattle.std.proofs.lemmas.List.Sorted.{IsPermutation-map}
-use Rattle.std.proofs.lemmas.Map.Views.{lookup-from_Contains}
-use Rattle.std.proofs.lemmas.Option.{same_Some}
 use Rattle.aggs.specs.Accs.{acc_finishes}
 use Rattle.aggs.specs.declared.acc.Acc.{Acc}
 use Rattle.aggs.specs.declared.acc.Kind.TheVariants as kind
-use Rattle.cells.specs.TupleOrder.{tuple_cmp, tuple_eq-equiv}
+use Rattle.cells.specs.TupleOrder.{tuple_cmp}
 use Rattle.cells.specs.Values.{RowValue}
 use Rattle.cells.specs.declared.cell.Cell.{Cell}
 use Rattle.cells.specs.declared.total.Total.{Total}
 use Rattle.cells.specs.declared.total.Total.TheVariants as total
-use Rattle.groups.specs.Accumulators.{accs_of, aggregations_of, group}
+use Rattle.groups.specs.Accumulators.{accs_of, aggregations_of}
 use Rattle.groups.specs.Finishing.{left_by, left_by_all, row_by, rows_by, value_by}
 use Rattle.groups.specs.Groups.{cell_at, column_of, holds, is_true, item_value, members, rows_over, set_rows, shown}
 use Rattle.groups.specs.Partials.{Stands, StandsAt, StandsEach}
 use Rattle.groups.proofs.TuplesLemmas.{all_in_order}
-use Rattle.groups.proofs.OrderLemmas.{rising_differ, value_by_tuple}
-use Rattle.groups.proofs.SetTuplesLemmas.{all_tuples, group_is, group_is_some, has_group}
+use Rattle.groups.proofs.SetTuplesLemmas.{all_tuples, has_accs}
 use Rattle.query.specs.Plans.{PlanTree}
 use Rattle.query.specs.Trees.{PredicateTree}
 use Rattle.query.specs.Truth.{truth}
@@ -138,17 +135,10 @@ module _ {H : Type 0} where
 
     module _ (es : List (List Cell × List (Acc H))) (rising : IsRising (digit_order hash tuple_cmp) (keys_of es))
         (stands : StandsAt hash (aggregations_of plan.items) set rows es) where
-      has_accs : (g : List Cell × List (Acc H)) → Contains es g → HasAccs g
-      has_accs g there =
-          let got : group (aggregations_of plan.items) set rows g.0 ≡ Some g.1 = sym (stands.gives g.0) ∙ value_by_tuple hash es g.0
-          ∙ lookup-from_Contains tuple_eq-equiv g.0 g.1 es (rising_differ hash (keys_of es) rising) there in
-          let has : has_group set rows g.0 ≡ true = sym (group_is_some H (aggregations_of plan.items) set rows g.0) ∙ ap is_some got in
-          same_Some _ _ (sym got ∙ group_is (aggregations_of plan.items) set rows g.0 has)
-
       -- in whatever order the groups come with their tuples rising
       pub rows_are : (gs : List (List Cell × List (Acc H))) → IsPermutation es gs → IsSorted tuple_cmp (keys_of gs) → rows_by set plan gs ≡ set_rows plan set rows
       rows_are gs all up = each_row gs
-          (all_in_order HasAccs es gs all (recursion_from_All HasAccs es (λ k d h. has_accs (get_or es k d) (k, h, get_or_default es k (get_or es k d) d h))))
+          (all_in_order HasAccs es gs all (recursion_from_All HasAccs es (λ k d h. has_accs hash (aggregations_of plan.items) set rows es rising stands (get_or es k d) (k, h, get_or_default es k (get_or es k d) d h))))
           ∙ ap (flat_map (shown_of set plan rows))
           (all_tuples hash (aggregations_of plan.items) set rows es rising stands (keys_of gs) (IsPermutation-map (λ g. g.0) es gs all) up)
 

@@ -1,11 +1,15 @@
 -- Groups of two lists of rows put together.
-use Rattle.std.specs.Prelude.{◌≡◌, ℕ, ◌+◌, ◌≤◌, ◌⊎◌, Bool, true, false, List, [], ◌∷◌, ◌++◌, length, Option, Some, None, refl}
+use Rattle.std.specs.Prelude.{◌≡◌, ℕ, ◌+◌, ◌≤◌, ◌⊎◌, Bool, true, false, List, [], ◌∷◌, ◌++◌, cond, length, IfSome, Option, Some, None, refl}
+use Rattle.std.specs.List.{AllByRecursion}
 use Rattle.std.specs.List.Sorted.{IsPermutation}
-use Rattle.std.specs.Map.{keys_of}
+use Rattle.std.specs.Map.{keys_of, lookup}
 use Rattle.std.proofs.Common.{ap, sym, ◌∙◌, subst, arith, inl, inr}
 use Rattle.std.proofs.lemmas.List.{append_assoc, append-nil}
+use Rattle.std.proofs.lemmas.Bool.{cases_Bool}
+use Rattle.std.proofs.lemmas.Option.{same_Some}
 use Rattle.aggs.specs.Room.{cell_limit}
 use Rattle.aggs.specs.declared.acc.Acc.{Acc}
+use Rattle.cells.specs.SameKeys.{same_tuples}
 use Rattle.cells.specs.TupleOrder.{tuple_cmp, tuple_eq}
 use Rattle.cells.specs.Values.{RowValue}
 use Rattle.cells.specs.declared.cell.Cell.{Cell}
@@ -16,7 +20,9 @@ use Rattle.groups.specs.Laws.{group_any_order, group_joins, kept_short}
 use Rattle.groups.specs.Partials.{MayMeet, Stands, StandsAt, StandsEach}
 use Rattle.groups.specs.declared.aggregation.Aggregation.{Aggregation}
 use Rattle.groups.proofs.BagLemmas.{all_fit}
+use Rattle.groups.proofs.OrderLemmas.{value_by_tuple}
 use Rattle.groups.proofs.SetTuplesLemmas.{stands_short}
+use Rattle.groups.proofs.TuplesLemmas.{all_push}
 use Rattle.query.specs.Plans.{PlanTree}
 use Rattle.trie.specs.Digits.{digit_order}
 use Rattle.trie.specs.Entries.{IsRising, value_at}
@@ -59,6 +65,41 @@ module _ {H : Type 0} where
           ∙ ap (λ o. both o (value_at (digit_order hash tuple_cmp) b q)) (s.gives q) ∙ ap (both (group aggregations set xs q)) (t.gives q)
           ∙ sym (group_joins aggregations set q xs ys);
     }
+
+    -- what each group of the first fits, if the other has its tuple
+    fits_at : (second es : List (List Cell × List (Acc H))) (q : List Cell) (u v : List (Acc H)) → lookup (tuple_eq q) es ≡ Some u → value_at (digit_order hash tuple_cmp) second q ≡ Some v →
+        AllByRecursion (λ e. IfSome (value_at (digit_order hash tuple_cmp) second e.0) (AllFit e.1)) es → AllFit u v
+    fits_at second [] q u v e f all = absurd (cc)
+    fits_at second (x ∷ es) q u v e f all = elim (cases_Bool (tuple_eq q x.0)) [
+      | inl same ↦
+        let here : q ≡ x.0 = same_tuples q x.0 same in
+        let is : u ≡ x.1 = same_Some _ _ (sym e ∙ ap (λ b. cond b (Some x.1) (lookup (tuple_eq q) es)) same) in
+        let fits : AllFit x.1 v = subst (λ o. IfSome o (AllFit x.1)) (ap (value_at (digit_order hash tuple_cmp) second) (sym here) ∙ f) all.0 in
+        subst (λ w. AllFit w v) (sym is) fits
+      | inr other ↦ fits_at second es q u v (sym (ap (λ b. cond b (Some x.1) (lookup (tuple_eq q) es)) other) ∙ e) f all.1
+    ]
+
+    pub fits_each : (first second : List (List Cell × List (Acc H))) → AllByRecursion (λ e. IfSome (value_at (digit_order hash tuple_cmp) second e.0) (AllFit e.1)) first →
+        CanBlend (digit_order hash tuple_cmp) AllFit first second
+    fits_each first second all = record { can = λ q u v e f. fits_at second first q u v (sym (value_by_tuple hash first q) ∙ e) f all }
+
+    -- the groups that are not left fit
+    pub record FitSoFar (first second left : List (List Cell × List (Acc H))) : Type 0 where
+      pub front : List (List Cell × List (Acc H))
+      pub cut : first ≡ front ++ left
+      pub fit : AllByRecursion (λ e. IfSome (value_at (digit_order hash tuple_cmp) second e.0) (AllFit e.1)) front
+
+    pub fit_more : (first second old left : List (List Cell × List (Acc H))) (e : List Cell × List (Acc H)) → FitSoFar first second old → old ≡ e ∷ left →
+        IfSome (value_at (digit_order hash tuple_cmp) second e.0) (AllFit e.1) → FitSoFar first second left
+    fit_more first second old left e now took fits = record {
+      front = now.front ++ e ∷ [];
+      cut = now.cut ∙ ap (λ l. now.front ++ l) took ∙ sym (append_assoc now.front (e ∷ []) left);
+      fit = all_push _ now.front e now.fit fits;
+    }
+
+    pub fit_all : (first second left : List (List Cell × List (Acc H))) → FitSoFar first second left → left ≡ [] → CanBlend (digit_order hash tuple_cmp) AllFit first second
+    fit_all first second left now none = fits_each first second
+        (subst (AllByRecursion (λ e. IfSome (value_at (digit_order hash tuple_cmp) second e.0) (AllFit e.1))) (sym (now.cut ∙ ap (λ l. now.front ++ l) none ∙ append-nil now.front)) now.fit)
 
     -- ---- set by set
     joined_each : (aggregations : List Aggregation) (xs ys : List RowValue) (sets : List (List ℕ)) (firsts seconds new : List (List (List Cell × List (Acc H)))) →
@@ -108,14 +149,14 @@ module _ {H : Type 0} where
     -- what is joined so far, and what is left of both
     pub record JoiningTries (firsts seconds made xs ys : List (List (List Cell × List (Acc H)))) : Type 0 where
       pub then : (rest : List (List (List Cell × List (Acc H)))) → JoinsEach hash xs ys rest → JoinsEach hash firsts seconds (made ++ rest)
-      pub meets : Meets xs ys
+      pub meets : MayMeet hash firsts seconds → Meets xs ys
 
-    pub joining_first : (firsts seconds made : List (List (List Cell × List (Acc H)))) → made ≡ [] → MayMeet hash firsts seconds →
+    pub joining_first : (firsts seconds made : List (List (List Cell × List (Acc H)))) → made ≡ [] →
         JoiningTries firsts seconds made firsts seconds
-    joining_first firsts seconds made e may =
+    joining_first firsts seconds made e =
         subst (λ m. JoiningTries firsts seconds m firsts seconds) (sym e) (record {
           then = λ rest j. j;
-          meets = record {
+          meets = λ may. record {
             aggregations = aggregations_of may.plan.items;
             sets = may.plan.sets;
             xs = may.xs;
@@ -141,17 +182,17 @@ module _ {H : Type 0} where
         here : JoiningTries firsts seconds made (x ∷ more) (y ∷ later)
         here = subst (λ l. JoiningTries firsts seconds made l (y ∷ later)) p (subst (λ l. JoiningTries firsts seconds made xs l) q now)
 
-        meeting : MeetsAt hash x y × Meets more later
-        meeting = let m = here.meets in meets_each x y more later m m.sets m.of_firsts m.of_seconds
+        meeting : MayMeet hash firsts seconds → MeetsAt hash x y × Meets more later
+        meeting may = let m = here.meets may in meets_each x y more later m m.sets m.of_firsts m.of_seconds
 
-        pub joining_may : MeetsAt hash x y
-        joining_may = meeting.0
+        pub joining_may : MayMeet hash firsts seconds → MeetsAt hash x y
+        joining_may may = (meeting may).0
 
         pub joining_more : (v : List (List Cell × List (Acc H))) (new : List (List (List Cell × List (Acc H)))) → Joins hash x y v → new ≡ made ++ v ∷ [] →
             JoiningTries firsts seconds new more later
         joining_more v new j e = subst (λ n. JoiningTries firsts seconds n more later) (sym e) (record {
           then = λ rest k. subst (JoinsEach hash firsts seconds) (sym (append_assoc made (v ∷ []) rest)) (here.then (v ∷ rest) (j, k));
-          meets = meeting.1;
+          meets = λ may. (meeting may).1;
         })
 
       end_joins : (us vs : List (List (List Cell × List (Acc H)))) → (us ≡ []) ⊎ (vs ≡ []) → JoinsEach hash us vs []

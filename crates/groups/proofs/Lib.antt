@@ -14,6 +14,7 @@ pub mod NumberedLemmas
 pub mod NeededLemmas
 pub mod TakenLemmas
 pub mod TallyingLemmas
+pub mod ToldLemmas
 pub mod DifferingLemmas
 pub mod DifferentCellsLemmas
 pub mod ColumnarLemmas

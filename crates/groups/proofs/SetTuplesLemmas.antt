@@ -2,7 +2,7 @@
 use Rattle.std.specs.Prelude.{◌≡◌, ℕ, suc, ◌+◌, ◌<◌, ◌≤◌, Bool, true, false, not, ◌&&◌, ◌||◌, T, List, [], ◌∷◌, length, map, Option, Some, None, cond, is_some, refl}
 use Rattle.std.specs.Borrow.{Bor}
 use Rattle.std.specs.FinMap.Entries as fin
-use Rattle.std.specs.List.{AllByRecursion, IsDistinct, list_any}
+use Rattle.std.specs.List.{AllByRecursion, Contains, IsDistinct, list_any}
 use Rattle.std.specs.List.Sorted.{IsPermutation, IsSorted, IsSortedByKey}
 use Rattle.std.specs.Map.{keys_of}
 use Rattle.std.specs.Ordering.{is_eq, is_lt, match_ordering, ordering_reverse}
@@ -13,6 +13,8 @@ use Rattle.std.proofs.lemmas.List.{get_or-map, length-map}
 use Rattle.std.proofs.lemmas.List.Sorted.{IsPermutation-sym, list_any-IsPermutation, ranks_by, sorted_far}
 use Rattle.std.proofs.lemmas.Map.Keys.{IsDistinct-IsPermutation}
 use Rattle.std.proofs.lemmas.Map.Made.{is_some-lookup, length-le_from_is_member}
+use Rattle.std.proofs.lemmas.Map.Views.{lookup-from_Contains}
+use Rattle.std.proofs.lemmas.Option.{same_Some}
 use Rattle.aggs.specs.declared.acc.Acc.{Acc}
 use Rattle.cells.specs.SameKeys.{exact_tuples}
 use Rattle.cells.specs.TupleOrder.{tuple_cmp, tuple_cmp-total, tuple_eq, tuple_eq-equiv}
@@ -190,6 +192,14 @@ module _ {H : Type 0} where
         let apart = IsDistinct-IsPermutation tuple_eq tuple_eq-equiv.symm (keys_of es) ts all (rising_differ hash (keys_of es) rising) in
         same_tuples_by ts (tuples set rows) (sorted_marked ts up apart) (tuples_sorted set rows)
         (λ q. list_any-IsPermutation (tuple_eq q) ts (keys_of es) (IsPermutation-sym (keys_of es) ts all) ∙ among_both q)
+
+    -- a group has the accumulators of its tuple's rows
+    pub has_accs : (g : List Cell × List (Acc H)) → Contains es g → g.1 ≡ accs_of aggregations (members set g.0 rows)
+    has_accs g there =
+        let got : group aggregations set rows g.0 ≡ Some g.1 = sym (stands.gives g.0) ∙ value_by_tuple hash es g.0
+        ∙ lookup-from_Contains tuple_eq-equiv g.0 g.1 es (rising_differ hash (keys_of es) rising) there in
+        let has : has_group set rows g.0 ≡ true = sym (group_is_some H aggregations set rows g.0) ∙ ap is_some got in
+        same_Some _ _ (sym got ∙ group_is aggregations set rows g.0 has)
 
 -- the order of the rows does not count, where the same tuples have groups
 pub tuples_by_groups : (set : List ℕ) (xs ys : List RowValue) → ((q : List Cell) → has_group set xs q ≡ has_group set ys q) → tuples set xs ≡ tuples set ys

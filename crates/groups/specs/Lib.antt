@@ -7,6 +7,7 @@ pub mod Parting
 pub mod Numbered
 pub mod Needed
 pub mod Tallying
+pub mod Told
 pub mod Differing
 pub mod Holding
 pub mod Columnar

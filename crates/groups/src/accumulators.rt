@@ -1,10 +1,11 @@
 //! The accumulators of a group.
-ghost use Rattle.std.specs.Prelude.{◌≡◌, [], IfOk};
+ghost use Rattle.std.specs.Prelude.{◌≡◌, [], IfOk, true};
 ghost use Rattle.groups.specs.Accumulators.{AllFit, accs_of, accs_together};
+ghost use Rattle.groups.specs.Told.{Keep, accs_of_kept};
 
 use crate::aggregation::Aggregation;
 use crate::held::Held;
-use aggs::Acc;
+use aggs::{Acc, Kept};
 use cells::{Cell, KeyHash};
 use std::alloc::{AllocError, Global};
 use std::marker::Model;
@@ -64,6 +65,55 @@ impl<H: KeyHash<Cell>> Accumulators<H> {
         ensures { result.now ≡ self.now }
     {
         self.accs.as_slice()
+    }
+
+    /// What they keep of their rows, in the order of the select list. It owns copies.
+    pub fn kept(&self, alloc: Global) -> Result<Vec<Kept>, AllocError>
+        ensures { IfOk result (λ kepts. Keep self.now kepts.items) }
+    {
+        let mut kepts = Vec::with_capacity(alloc, self.accs.len())?;
+        for held in &self.accs {
+            kepts.push(held.kept(alloc)?)?;
+        }
+        Ok(kepts)
+    }
+
+    /// The accumulators that keep this, one for each aggregate. None where there are none.
+    pub fn of_kept(
+        alloc: Global,
+        aggregations: &[Aggregation],
+        kepts: Vec<Kept>,
+    ) -> Result<Option<Accumulators<H>>, AllocError>
+        ensures { IfOk result (λ o. o ≡ accs_of_kept aggregations.now kepts.items) }
+    {
+        let mut accs = Vec::with_capacity(alloc, kepts.len())?;
+        let mut left = aggregations.iter();
+        for kept in kepts {
+            let Some(aggregation) = left.next() else {
+                return Ok(None);
+            };
+            let Some(acc) = Acc::of_kept(alloc, aggregation.kind, kept)? else {
+                return Ok(None);
+            };
+            accs.push(Held::of(acc))?;
+        }
+        if left.next().is_some() {
+            return Ok(None);
+        }
+        Ok(Some(Accumulators { accs }))
+    }
+
+    /// Whether all have room for those of the other, as far as both go. It takes no memory.
+    pub fn fit(&self, other: &Accumulators<H>) -> bool
+        ensures room { result ≡ true → AllFit self.now other.now }
+        ensures only { AllFit self.now other.now → result ≡ true }
+    {
+        for (first, second) in self.accs.iter().zip(&other.accs) {
+            if !first.fits(second) {
+                return false;
+            }
+        }
+        true
     }
 
     /// The accumulators of both lists of rows put together, as far as both go.

@@ -1,12 +1,12 @@
 //! Different cells in a list.
 ghost use Rattle.std.specs.Prelude.{◌≡◌, IfOk, length, not};
-ghost use Rattle.std.specs.FinSet.{len};
+ghost use Rattle.std.specs.FinSet.{from_list, len};
 ghost use Rattle.aggs.specs.Differing.{different};
 ghost use Rattle.aggs.specs.Values.{is_null};
 ghost use Rattle.aggs.specs.declared.acc.Acc.TheVariants as acc;
 
 use aggs::Acc;
-use cells::{Cell, KeyHash};
+use cells::{Cell, KeyHash, Tuple};
 use std::alloc::{AllocError, Global};
 use std::marker::Model;
 use std::sync::Arc;
@@ -60,6 +60,14 @@ impl DifferentCells {
         })
     }
 
+    /// The cells, in a list.
+    pub fn list(&self) -> Result<Tuple, AllocError>
+        ensures { IfOk result (λ list. from_list list ≡ self.now) }
+    {
+        let cells = copies(&self.cells)?;
+        Ok(Tuple::new(cells))
+    }
+
     /// The accumulator of COUNT DISTINCT that has them.
     pub fn accumulator<H: KeyHash<Cell>>(&self, alloc: Global) -> Result<Acc<H>, AllocError>
         ensures { IfOk result (λ a. a ≡ acc.CountDistinct self.now) }
@@ -67,6 +75,13 @@ impl DifferentCells {
         let cells: &Vec<Cell> = &self.cells;
         Acc::of_different(alloc, cells.clone()?)
     }
+}
+
+/// Copies of the cells.
+fn copies(cells: &Vec<Cell>) -> Result<Vec<Cell>, AllocError>
+    ensures { IfOk result (λ v. v.items ≡ cells.now.items) }
+{
+    cells.clone()
 }
 
 /// The cells that are not NULL, each once, rising. It takes no memory.

@@ -30,7 +30,7 @@ use std::vec::IntoIter;
 use trie::Trie;
 
 /// The groups, their tuples rising.
-fn by_tuple<'a, H: KeyHash<Cell> + KeyHash<Tuple>>(
+pub(crate) fn by_tuple<'a, H: KeyHash<Cell> + KeyHash<Tuple>>(
     alloc: Global,
     groups: &'a Trie<Tuple, Accumulators<H>, H>,
 ) -> Result<IntoIter<(&'a Tuple, &'a Accumulators<H>)>, AllocError>

@@ -1,10 +1,12 @@
 //! What is held of a group's cells for one aggregate.
-ghost use Rattle.std.specs.Prelude.{◌≡◌, IfOk};
-ghost use Rattle.aggs.specs.Accs.{AccsFit, acc_of, acc_together, acc_total};
+ghost use Rattle.std.specs.Prelude.{◌≡◌, ◌+◌, ◌<◌, ◌^◌, List, IfOk, true};
+ghost use Rattle.aggs.specs.Accs.{AccsFit, acc_of, acc_together, acc_total, kind_of};
+ghost use Rattle.aggs.specs.Keeping.{IsKept};
 ghost use Rattle.aggs.specs.declared.acc.Kind.TheVariants as kind;
+ghost use Rattle.cells.specs.declared.cell.Cell.{Cell};
 
 use crate::different_cells::DifferentCells;
-use aggs::Acc;
+use aggs::{Acc, Kept};
 use cells::{Cell, KeyHash, Total};
 use std::alloc::{AllocError, Global};
 use std::marker::Model;
@@ -100,6 +102,34 @@ impl<H: KeyHash<Cell>> Held<H> {
         }
     }
 
+    /// What is kept of the list. It owns copies.
+    pub fn kept(&self, alloc: Global) -> Result<Kept, AllocError>
+        ensures { (xs : List Cell) → self.now ≡ acc_of (kind_of self.now) xs → IfOk result (IsKept (kind_of self.now) xs) }
+    {
+        match &self.form {
+            Form::Accumulator(accumulator) => accumulator.kept(alloc),
+            Form::Cells(cells) => Ok(Kept::Different(cells.list()?)),
+        }
+    }
+
+    /// Whether both lists are few enough cells together, as far as both know. It takes no memory.
+    pub fn fits(&self, other: &Held<H>) -> bool
+        ensures room { result ≡ true → AccsFit self.now other.now }
+        ensures only { AccsFit self.now other.now → result ≡ true }
+    {
+        match (&self.form, &other.form) {
+            (Form::Accumulator(first), Form::Accumulator(second)) => first.fits(second),
+            (Form::Cells(cells), Form::Cells(others)) => has_sum(cells.len(), others.len()),
+            (Form::Cells(cells), Form::Accumulator(Acc::CountDistinct(others))) => {
+                has_sum(cells.len(), others.len())
+            }
+            (Form::Accumulator(Acc::CountDistinct(cells)), Form::Cells(others)) => {
+                has_sum(cells.len(), others.len())
+            }
+            _ => true,
+        }
+    }
+
     /// The value of the aggregate over the list.
     pub fn finish(&self) -> Result<Total, AllocError>
         ensures { IfOk result (λ t. t ≡ acc_total self.now) }
@@ -109,4 +139,12 @@ impl<H: KeyHash<Cell>> Held<H> {
             Form::Cells(cells) => Ok(Total::Int(i128::from(cells.len()))),
         }
     }
+}
+
+/// Whether the sum of two counts has 64 bits.
+fn has_sum(first: u64, second: u64) -> bool
+    ensures room { result ≡ true → first + second < 2 ^ 64 }
+    ensures only { first + second < 2 ^ 64 → result ≡ true }
+{
+    first.checked_add(second).is_some()
 }

@@ -1,6 +1,11 @@
 //! How the groups of two partial results are put together.
-ghost use Rattle.std.specs.Prelude.{IfOk};
+ghost use Rattle.std.specs.Prelude.{◌≡◌, IfOk, IfSome, true};
+ghost use Rattle.std.specs.Option.{option_copied};
+ghost use Rattle.cells.specs.TupleOrder.{tuple_cmp};
+ghost use Rattle.groups.specs.Accumulators.{AllFit};
 ghost use Rattle.groups.specs.Joining.{Joins, MeetsAt};
+ghost use Rattle.trie.specs.Digits.{digit_order};
+ghost use Rattle.trie.specs.Merging.{CanBlend};
 
 use crate::accumulators::Accumulators;
 use cells::{Cell, KeyHash, Tuple};
@@ -25,6 +30,51 @@ impl<H: KeyHash<Cell>> Blend<Accumulators<H>> for BothGroups {
         second: &Accumulators<H>,
     ) -> Result<Accumulators<H>, AllocError> {
         first.join(alloc, second)
+    }
+}
+
+/// The groups of two lists of rows together, in one grouping set. None where there is no room for them: some group would stand
+/// for more cells than an accumulator may.
+pub(crate) fn joined_if_room<H: KeyHash<Cell> + KeyHash<Tuple>>(
+    alloc: Global,
+    first: &Trie<Tuple, Accumulators<H>, H>,
+    second: &Trie<Tuple, Accumulators<H>, H>,
+) -> Result<Option<Trie<Tuple, Accumulators<H>, H>>, AllocError>
+    ensures { IfOk result (λ o. IfSome o (Joins H.KeyHash-2.hash_of first.now second.now)) }
+{
+    if first.len().checked_add(second.len()).is_none() {
+        return Ok(None);
+    }
+    if !fit(alloc, first, second)? {
+        return Ok(None);
+    }
+    let both = first.merge(alloc, second, &BothGroups, &mut Ticks::new())?;
+    Ok(Some(both))
+}
+
+/// Whether the groups fit that both have of one tuple.
+fn fit<H: KeyHash<Cell> + KeyHash<Tuple>>(
+    alloc: Global,
+    first: &Trie<Tuple, Accumulators<H>, H>,
+    second: &Trie<Tuple, Accumulators<H>, H>,
+) -> Result<bool, AllocError>
+    ensures { IfOk result (λ b. b ≡ true → CanBlend (digit_order H.KeyHash-2.hash_of tuple_cmp) AllFit first.now second.now) }
+{
+    for group in first.entries(alloc)? {
+        if !fits(group.1, second.get(group.0)) {
+            return Ok(false);
+        }
+    }
+    Ok(true)
+}
+
+/// Whether a group fits the other one of its tuple, if there is one.
+fn fits<H: KeyHash<Cell>>(first: &Accumulators<H>, second: Option<&Accumulators<H>>) -> bool
+    ensures { result ≡ true → IfSome (option_copied second.entry) (AllFit first.now) }
+{
+    match second {
+        None => true,
+        Some(second) => first.fit(second),
     }
 }
 

@@ -34,6 +34,7 @@ mod rising;
 mod set_columns;
 mod sources;
 mod tallying;
+mod told;
 mod tuples;
 
 pub use dealing::{Dealt, deal_out, has_few_groups};
@@ -42,3 +43,4 @@ pub use laws::{any_order, having_by_names, worked_reports, worked_text};
 pub use needed::needed_columns;
 pub use partial::Partial;
 pub use report_row::ReportRow;
+pub use told::{Group, SetGroups};

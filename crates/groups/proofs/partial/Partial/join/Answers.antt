@@ -4,7 +4,7 @@ use Rattle.groups.proofs.JoinLemmas.{joined_stand, joining_all, joining_may, joi
 use Rattle.groups.proofs.partial.Partial.join.Goals as goal
 
 pub join_groups-requires : goal.join_groups-requires
-join_groups-requires g c = let step = c.in-Some.ensures.steps in joining_may g.H.KeyHash-2.hash_of c.loop-first.invariant step.0 step.1
+join_groups-requires g c = let step = c.in-Some.ensures.steps in joining_may g.H.KeyHash-2.hash_of c.loop-first.invariant step.0 step.1 c.requires
 
 pub loop-first-preserved : goal.loop-first-preserved
 loop-first-preserved g c =
