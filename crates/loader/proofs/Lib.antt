@@ -12,6 +12,7 @@ pub mod PlainLemmas
 pub mod PutsLemmas
 pub mod ReaderLemmas
 pub mod RecordsLemmas
+pub mod ShardLemmas
 pub mod SharesLemmas
 pub mod StatesLemmas
 pub mod TriesLemmas

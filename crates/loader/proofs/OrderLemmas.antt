@@ -1,6 +1,6 @@
 -- What workers found, in the order of its places: numbers that rise, and are those below n in some order, are those below
 -- n in order.
-use Rattle.std.proofs.Common.{◌≡◌, ℕ, zero, suc, ◌+◌, ◌-◌, ◌≤◌, ◌<◌, List, [], ◌∷◌, ◌++◌, All, length, get_or, map, refl, ap, ap₂, sym, subst, ◌∙◌, arith}
+use Rattle.std.proofs.Common.{◌≡◌, Bool, ℕ, zero, suc, ◌+◌, ◌-◌, ◌≤◌, ◌<◌, List, [], ◌∷◌, ◌++◌, All, length, get_or, map, refl, ap, ap₂, sym, subst, ◌∙◌, arith}
 use Rattle.std.proofs.lemmas.List.Elements.{All-head, All-tail}
 use Rattle.std.proofs.lemmas.List.Sorted.{All-permutation, IsPermutation-map, IsPermutation-sym, IsPermutation-trans, sum_by-IsPermutation}
 use Rattle.std.proofs.lemmas.List.Sums.{sum_by-cons}
@@ -122,52 +122,52 @@ zip_append R [] us (y ∷ ys) vs first second = absurd first
 zip_append R (x ∷ xs) us [] vs first second = absurd first
 zip_append R (x ∷ xs) us (y ∷ ys) vs first second = (first.0, zip_append R xs us ys vs first.1 second)
 
-module _ (hash_of : Cell → ℕ) (t : Table) (pieces : List Piece) where
+module _ (hash_of : Cell → ℕ) (takes : Cell → Bool) (t : Table) (pieces : List Piece) where
   -- it is what the piece at its own place reads as
   abbrev Right : Found → Type 0
-  Right found = (other : Piece) → IsContent hash_of t (rows_of_piece t (get_or pieces found.place other)) found.content
+  Right found = (other : Piece) → IsContent hash_of takes t (rows_of_piece t (get_or pieces found.place other)) found.content
 
-  places_are : (places : List ℕ) (all : List Found) → AllZip (IsFound hash_of t pieces) places all → map place_of all ≡ places
+  places_are : (places : List ℕ) (all : List Found) → AllZip (IsFound hash_of takes t pieces) places all → map place_of all ≡ places
   places_are [] [] zip = refl
   places_are [] (found ∷ all) zip = absurd zip
   places_are (place ∷ places) [] zip = absurd zip
   places_are (place ∷ places) (found ∷ all) zip = ap₂ (λ (m : ℕ) (ms : List ℕ). m ∷ ms) zip.0.at (places_are places all zip.1)
 
-  right_at : (places : List ℕ) (all : List Found) → AllZip (IsFound hash_of t pieces) places all → All Right all
+  right_at : (places : List ℕ) (all : List Found) → AllZip (IsFound hash_of takes t pieces) places all → All Right all
   right_at [] [] zip k other within = absurd (omega arith)
   right_at [] (found ∷ all) zip k other within = absurd zip
   right_at (place ∷ places) [] zip k other within = absurd zip
   right_at (place ∷ places) (found ∷ all) zip zero other within =
-      subst (λ n. (other : Piece) → IsContent hash_of t (rows_of_piece t (get_or pieces n other)) found.content) (sym zip.0.at) zip.0.reads
+      subst (λ n. (other : Piece) → IsContent hash_of takes t (rows_of_piece t (get_or pieces n other)) found.content) (sym zip.0.at) zip.0.reads
   right_at (place ∷ places) (found ∷ all) zip (suc k) other within = right_at places all zip.1 k other (omega arith)
 
   -- the results of all shares, one behind another
-  of_shares : (shares : List (List ℕ)) (given : List (Vec Found Global)) → AllZip (λ places g. AllZip (IsFound hash_of t pieces) places g.items) shares given →
-      AllZip (IsFound hash_of t pieces) (concat shares) (flat_map (λ g. g.items) given)
+  of_shares : (shares : List (List ℕ)) (given : List (Vec Found Global)) → AllZip (λ places g. AllZip (IsFound hash_of takes t pieces) places g.items) shares given →
+      AllZip (IsFound hash_of takes t pieces) (concat shares) (flat_map (λ g. g.items) given)
   of_shares [] [] zip = tt
   of_shares [] (g ∷ given) zip = absurd zip
   of_shares (places ∷ shares) [] zip = absurd zip
-  of_shares (places ∷ shares) (g ∷ given) zip = zip_append (IsFound hash_of t pieces) places (concat shares) g.items (flat_map (λ h. h.items) given) zip.0 (of_shares shares given zip.1)
+  of_shares (places ∷ shares) (g ∷ given) zip = zip_append (IsFound hash_of takes t pieces) places (concat shares) g.items (flat_map (λ h. h.items) given) zip.0 (of_shares shares given zip.1)
 
   -- what was found at the places of a range is what the pieces there read as
   read_from : (left : List Piece) (all : List Found) (from : ℕ) → map place_of all ≡ range_with_len from (length left) →
-      ((i : ℕ) (other : Piece) → i < length left → get_or pieces (from + i) other ≡ get_or left i other) → All Right all → AreRead hash_of t left all
+      ((i : ℕ) (other : Piece) → i < length left → get_or pieces (from + i) other ≡ get_or left i other) → All Right all → AreRead hash_of takes t left all
   read_from [] [] from places at right = tt
   read_from [] (found ∷ all) from places at right = absurd (cc)
   read_from (piece ∷ left) [] from places at right = absurd (cc)
   read_from (piece ∷ left) (found ∷ all) from places at right =
       let same = cons_same _ _ _ _ places in
       let there : get_or pieces found.place piece ≡ piece = ap (λ n. get_or pieces n piece) (same.0 ∙ omega arith) ∙ at 0 piece (omega arith) in (
-        subst (λ (p : Piece). IsContent hash_of t (rows_of_piece t p) found.content) there (All-head Right found all right piece),
+        subst (λ (p : Piece). IsContent hash_of takes t (rows_of_piece t p) found.content) there (All-head Right found all right piece),
         read_from left all (from + 1) same.1 (λ i other k. ap (λ n. get_or pieces n other) (omega arith) ∙ at (suc i) other (omega arith)) (All-tail Right found all right),
       )
 
   -- the results of all workers, sorted by their places
   pub read_in_order : (count : ℕ) (given : List (Vec Found Global)) (found sorted : List Found) →
-      AreShared (λ places g. AllZip (IsFound hash_of t pieces) places g.items) count given → count ≡ length pieces → found ≡ flat_map (λ g. g.items) given →
-      IsPermutation found sorted → IsNonDecreasingBy place_of sorted → AreRead hash_of t pieces sorted
+      AreShared (λ places g. AllZip (IsFound hash_of takes t pieces) places g.items) count given → count ≡ length pieces → found ≡ flat_map (λ g. g.items) given →
+      IsPermutation found sorted → IsNonDecreasingBy place_of sorted → AreRead hash_of takes t pieces sorted
   read_in_order count given found sorted shared counted is moved rise =
-      let zip = subst (AllZip (IsFound hash_of t pieces) (concat shared.shares)) (sym is) (of_shares shared.shares given shared.given_for) in
+      let zip = subst (AllZip (IsFound hash_of takes t pieces) (concat shared.shares)) (sym is) (of_shares shared.shares given shared.given_for) in
       let whole = subst (λ places. IsPermutation places (range_with_len 0 (length pieces))) (sym (places_are (concat shared.shares) found zip))
       (subst (λ n. IsPermutation (concat shared.shares) (range_with_len 0 n)) counted shared.whole) in
       let places = IsPermutation-trans _ _ _ (IsPermutation-sym _ _ (IsPermutation-map place_of found sorted moved)) whole in

@@ -5,6 +5,7 @@ pub mod Loads
 pub mod Parts
 pub mod Pieces
 pub mod Records
+pub mod Shards
 pub mod Shares
 pub mod States
 pub mod Tries

@@ -7,15 +7,17 @@ ghost use Rattle.crew.specs.Shares.{AreShared};
 ghost use Rattle.trie.specs.Maps.{map_of};
 ghost use Rattle.loader.specs.Limits.{listed_limit};
 ghost use Rattle.loader.specs.Listed.{AreRead, IsFound, Lists};
-ghost use Rattle.loader.specs.Loads.{Loads};
+ghost use Rattle.loader.specs.Loads.{Loads, LoadsTaken};
 ghost use Rattle.loader.specs.Parts.{part_len, part_of, rows_of_parts};
 ghost use Rattle.loader.specs.Pieces.{records_before, rows_of_pieces};
+ghost use Rattle.loader.specs.Shards.{takes};
 ghost use Rattle.loader.specs.declared.pieces.Piece.{Piece};
 ghost use Rattle.cells.specs.Tables.{AreRowsOf};
 
 use crate::fault::PartFault;
 use crate::part::{Content, Counted, read_piece};
 use crate::pieces::{Piece, piece_size, pieces_of};
+use crate::shard::Shard;
 use crate::shares::Shares;
 use crate::tries::{Sources, trie_here, trie_of_shares};
 use cells::{Cell, KeyHash, Schema};
@@ -63,12 +65,14 @@ pub fn load<H: KeyHash<Cell> + Send + Sync, G: Gate, R: Threads + Wait>(
 {
     gate.loading(parts.len() as u64);
     let pieces = pieces_of(alloc, parts, piece_size(parts, workers))?;
+    let shard = Shard::whole();
     load_pieces(
         rt,
         alloc,
         parts.len(),
         pieces.as_slice(),
         schema,
+        &shard,
         workers,
         gate,
     )
@@ -88,8 +92,28 @@ pub fn load_here<H: KeyHash<Cell>>(
     ensures fits { IfOk result (λ trie. AreRowsOf schema.now (map_of cell_cmp trie)) }
     ensures alone { IsErrOf result PartFault.NoWorker → ⊥ }
 {
+    let shard = Shard::whole();
+    load_shard_here(alloc, parts, schema, &shard)
+}
+
+/// [`load_here`] of those rows alone whose keys belong to the shard. Any other row is let go as soon as its record is read. All
+/// records are judged, so a faulty one is found and told as ever, whatever shard its row would be in.
+///
+/// [`PartFault::OutOfMemory`] where there was no memory; otherwise [`PartFault::Bad`] where a part has a faulty record, with the
+/// first listed part that has one. No thread is wanted.
+pub fn load_shard_here<H: KeyHash<Cell>>(
+    alloc: Global,
+    parts: &[(u64, &[u8])],
+    schema: &Schema,
+    shard: &Shard,
+) -> Result<RowTrie<H>, PartFault>
+    requires many { length parts.now ≤ piece_limit }
+    ensures loaded { LoadsTaken (takes H.hash_of shard.now) (rows_of_parts schema.now (map part_of parts.now)) result }
+    ensures fits { IfOk result (λ trie. AreRowsOf schema.now (map_of cell_cmp trie)) }
+    ensures alone { IsErrOf result PartFault.NoWorker → ⊥ }
+{
     let pieces = pieces_of(alloc, parts, piece_size(parts, 1))?;
-    load_pieces_here(alloc, pieces.as_slice(), schema)
+    load_pieces_here(alloc, pieces.as_slice(), schema, shard)
 }
 
 /// The same of the pieces of the parts.
@@ -97,34 +121,36 @@ fn load_pieces_here<H: KeyHash<Cell>>(
     alloc: Global,
     pieces: &[Piece<'_>],
     schema: &Schema,
+    shard: &Shard,
 ) -> Result<RowTrie<H>, PartFault>
-    ensures loaded { Loads (rows_of_pieces schema.now 0 pieces.now) result }
+    ensures loaded { LoadsTaken (takes H.hash_of shard.now) (rows_of_pieces schema.now 0 pieces.now) result }
     ensures fits { IfOk result (λ trie. AreRowsOf schema.now (map_of cell_cmp trie)) }
     ensures alone { IsErrOf result PartFault.NoWorker → ⊥ }
 {
-    let found = read_here::<H>(alloc, pieces, schema)?;
-    let shares = rows_of::<H>(alloc, pieces, schema, found)?;
+    let found = read_here::<H>(alloc, pieces, schema, shard)?;
+    let shares = rows_of::<H>(alloc, pieces, schema, shard, found)?;
     Ok(trie_here(alloc, shares)?)
 }
 
-/// What the pieces hold, read one after another.
+/// What the pieces hold of the shard, read one after another.
 fn read_here<H: KeyHash<Cell>>(
     alloc: Global,
     pieces: &[Piece<'_>],
     schema: &Schema,
+    shard: &Shard,
 ) -> Result<Vec<Found>, AllocError>
-    ensures { IfOk result (λ all. AreRead H.hash_of schema.now pieces.now all.items) }
+    ensures { IfOk result (λ all. AreRead H.hash_of (takes H.hash_of shard.now) schema.now pieces.now all.items) }
 {
     let mut all = Vec::with_capacity(alloc, pieces.len())?;
     for piece in pieces {
         let place = all.len() as u64;
-        let content = read_piece::<H>(alloc, piece, schema)?;
+        let content = read_piece::<H>(alloc, piece, schema, shard)?;
         all.push(Found { place, content })?;
     }
     Ok(all)
 }
 
-/// Loads the pieces of so many parts.
+/// Loads the rows of the shard from the pieces of so many parts.
 ///
 /// [`PartFault::NoWorker`] where a thread could not be started, otherwise [`PartFault::OutOfMemory`] where there was no
 /// memory, otherwise [`PartFault::Bad`] with the first listed part that has a faulty record.
@@ -134,22 +160,24 @@ fn load_pieces<'a, H: KeyHash<Cell> + Send + Sync, G: Gate, R: Threads + Wait>(
     parts: usize,
     pieces: &'a [Piece<'a>],
     schema: &'a Schema,
+    shard: &'a Shard,
     workers: u64,
     gate: &'a G,
 ) -> Result<RowTrie<H>, PartFault>
     requires { length pieces.now ≤ piece_limit }
-    ensures loaded { Loads (rows_of_pieces schema.now 0 pieces.now) result }
+    ensures loaded { LoadsTaken (takes H.hash_of shard.now) (rows_of_pieces schema.now 0 pieces.now) result }
     ensures fits { IfOk result (λ trie. AreRowsOf schema.now (map_of cell_cmp trie)) }
 {
     let reading = Reading {
         pieces,
         schema,
+        shard,
         gate,
         hash: PhantomData::<H>,
     };
     let given = share_out(rt, alloc, pieces.len() as u64, workers, &reading)?;
-    let found = in_order::<H>(alloc, pieces, schema, given)?;
-    let shares = rows_of::<H>(alloc, pieces, schema, found)?;
+    let found = in_order::<H>(alloc, pieces, schema, shard, given)?;
+    let shares = rows_of::<H>(alloc, pieces, schema, shard, found)?;
     let sources = Sources {
         parts,
         pieces: pieces.len(),
@@ -162,6 +190,7 @@ fn load_pieces<'a, H: KeyHash<Cell> + Send + Sync, G: Gate, R: Threads + Wait>(
 struct Reading<'a, G, H> {
     pieces: &'a [Piece<'a>],
     schema: &'a Schema,
+    shard: &'a Shard,
     gate: &'a G,
     hash: PhantomData<H>,
 }
@@ -187,12 +216,13 @@ impl<'a, G: Gate, H: KeyHash<Cell> + Send + Sync> Task for Reading<'a, G, H> {
     ghost use Rattle.std.specs.Prelude.{length};
     ghost use Rattle.std.specs.List.{AllZip};
     ghost use Rattle.loader.specs.Listed.{IsFound};
+    ghost use Rattle.loader.specs.Shards.{takes};
 
     type Made = Vec<Found>;
 
     ghost count = { λ task. length task.pieces.now };
 
-    ghost makes = { λ task places made. AllZip (IsFound H.hash_of task.schema.now task.pieces.now) places made.items };
+    ghost makes = { λ task places made. AllZip (IsFound H.hash_of (takes H.hash_of task.shard.now) task.schema.now task.pieces.now) places made.items };
 
     fn begin(&self, alloc: Global) -> Result<Vec<Found>, AllocError> {
         Ok(Vec::new(alloc))
@@ -202,7 +232,7 @@ impl<'a, G: Gate, H: KeyHash<Cell> + Send + Sync> Task for Reading<'a, G, H> {
         let piece = self.piece(place);
         self.gate.reading(piece.place);
         // A faulty record is a result as any other, so that the pieces at all places are read.
-        let content = read_piece::<H>(alloc, piece, self.schema)?;
+        let content = read_piece::<H>(alloc, piece, self.schema, self.shard)?;
         self.gate.read(piece.place, records_in(&content));
         Ok(made.push(Found { place, content })?)
     }
@@ -221,10 +251,11 @@ fn in_order<H: KeyHash<Cell>>(
     alloc: Global,
     pieces: &[Piece<'_>],
     schema: &Schema,
+    shard: &Shard,
     given: Vec<Vec<Found>>,
 ) -> Result<Vec<Found>, AllocError>
-    requires { AreShared (λ places found. AllZip (IsFound H.hash_of schema.now pieces.now) places found.items) (length pieces.now) given.items }
-    ensures { IfOk result (λ all. AreRead H.hash_of schema.now pieces.now all.items) }
+    requires { AreShared (λ places found. AllZip (IsFound H.hash_of (takes H.hash_of shard.now) schema.now pieces.now) places found.items) (length pieces.now) given.items }
+    ensures { IfOk result (λ all. AreRead H.hash_of (takes H.hash_of shard.now) schema.now pieces.now all.items) }
 {
     let mut all = Vec::new(alloc);
     for mut found in given {
@@ -234,16 +265,17 @@ fn in_order<H: KeyHash<Cell>>(
     Ok(all)
 }
 
-/// The rows of all pieces, those of one piece behind those of another, or the first listed part that has a faulty
-/// record.
+/// The rows of all pieces that the shard takes, those of one piece behind those of another, or the first listed part that has
+/// a faulty record.
 fn rows_of<H: KeyHash<Cell>>(
     alloc: Global,
     pieces: &[Piece<'_>],
     schema: &Schema,
+    shard: &Shard,
     found: Vec<Found>,
 ) -> Result<Shares, PartFault>
-    requires { AreRead H.hash_of schema.now pieces.now found.items }
-    ensures { Lists H.hash_of schema.now (rows_of_pieces schema.now 0 pieces.now) result }
+    requires { AreRead H.hash_of (takes H.hash_of shard.now) schema.now pieces.now found.items }
+    ensures { Lists H.hash_of (takes H.hash_of shard.now) schema.now (rows_of_pieces schema.now 0 pieces.now) result }
 {
     let mut rows = Shares::new(alloc)?;
     let mut count = 0;

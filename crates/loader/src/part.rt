@@ -4,24 +4,26 @@ ghost use Rattle.loader.specs.Loads.{IsContent, ReadsPart};
 ghost use Rattle.loader.specs.Parts.{rows_from};
 ghost use Rattle.loader.specs.Pieces.{rows_of_piece};
 ghost use Rattle.loader.specs.Records.{records_of};
+ghost use Rattle.loader.specs.Shards.{takes};
 
 use crate::header::is_header;
 use crate::pieces::Piece;
 use crate::records::{Records, fields, read_row};
+use crate::shard::Shard;
 use crate::shares::Spread;
 use cells::{Cell, KeyHash, Refused, Schema};
 use csv::ByteRecord;
 use std::alloc::{AllocError, Global};
 
-/// Rows, each beside its key, spread over shares, and how many they are.
+/// The rows of records that a shard takes, each beside its key, spread over shares, and how many the records are.
 #[derive(Drop)]
 pub(crate) struct Counted {
     pub rows: Spread,
     pub count: u64,
 }
 
-/// What a piece of a part holds: the rows of its records, or the number of its first faulty record. Records are numbered
-/// from 1 on, and the header, which stands in the first piece alone, is record 0.
+/// What a piece of a part holds: the rows of its records that a shard takes, or the number of its first faulty record. Records
+/// are numbered from 1 on, and the header, which stands in the first piece alone, is record 0.
 pub(crate) type Content = Result<Counted, u64>;
 
 /// Reads a piece of a part: the first one as a part, and a later one as records with no header before them.
@@ -31,13 +33,14 @@ pub(crate) fn read_piece<H: KeyHash<Cell>>(
     alloc: Global,
     piece: &Piece<'_>,
     schema: &Schema,
+    shard: &Shard,
 ) -> Result<Content, AllocError>
-    ensures { IfOk result (IsContent H.hash_of schema.now (rows_of_piece schema.now piece.now)) }
+    ensures { IfOk result (IsContent H.hash_of (takes H.hash_of shard.now) schema.now (rows_of_piece schema.now piece.now)) }
 {
     if piece.first {
-        read_part::<H>(alloc, piece.bytes, schema)
+        read_part::<H>(alloc, piece.bytes, schema, shard)
     } else {
-        read_later::<H>(alloc, piece.bytes, schema)
+        read_later::<H>(alloc, piece.bytes, schema, shard)
     }
 }
 
@@ -49,8 +52,9 @@ fn read_part<H: KeyHash<Cell>>(
     alloc: Global,
     bytes: &[u8],
     schema: &Schema,
+    shard: &Shard,
 ) -> Result<Content, AllocError>
-    ensures { IfOk result (ReadsPart H.hash_of schema.now bytes.now) }
+    ensures { IfOk result (ReadsPart H.hash_of (takes H.hash_of shard.now) schema.now bytes.now) }
 {
     let mut records = Records::new(alloc, bytes);
     let mut record = ByteRecord::new(alloc);
@@ -61,7 +65,7 @@ fn read_part<H: KeyHash<Cell>>(
     if !is_header(schema.columns(), header.as_slice()) {
         return Ok(Err(0));
     }
-    read_rows::<H>(alloc, records, schema)
+    read_rows::<H>(alloc, records, schema, shard)
 }
 
 /// Reads records that stand behind others of their part, from 1 on.
@@ -69,20 +73,23 @@ fn read_later<H: KeyHash<Cell>>(
     alloc: Global,
     bytes: &[u8],
     schema: &Schema,
+    shard: &Shard,
 ) -> Result<Content, AllocError>
-    ensures { IfOk result (IsContent H.hash_of schema.now (rows_from schema.now 1 (records_of bytes.now))) }
+    ensures { IfOk result (IsContent H.hash_of (takes H.hash_of shard.now) schema.now (rows_from schema.now 1 (records_of bytes.now))) }
 {
-    read_rows::<H>(alloc, Records::new(alloc, bytes), schema)
+    read_rows::<H>(alloc, Records::new(alloc, bytes), schema, shard)
 }
 
-/// The rows of the records that are left, which are numbered from 1 on, or the number of the first faulty one.
+/// The rows of the records that are left and that the shard takes, or the number of the first faulty one, whatever shard its
+/// row would be in. The records are numbered from 1 on, those of other shards too.
 fn read_rows<H: KeyHash<Cell>>(
     alloc: Global,
     mut records: Records<'_>,
     schema: &Schema,
+    shard: &Shard,
 ) -> Result<Content, AllocError>
     requires { length records + 1 < 2 ^ 64 }
-    ensures { IfOk result (IsContent H.hash_of schema.now (rows_from schema.now 1 records.entry)) }
+    ensures { IfOk result (IsContent H.hash_of (takes H.hash_of shard.now) schema.now (rows_from schema.now 1 records.entry)) }
 {
     let mut rows = Spread::new(alloc)?;
     let mut record = ByteRecord::new(alloc);
@@ -93,8 +100,7 @@ fn read_rows<H: KeyHash<Cell>>(
             Err(Refused::OutOfMemory) => return Err(AllocError),
             Err(_) => return Ok(Err(number)),
         };
-        let key = row.key().owned(alloc)?;
-        rows.push::<H>(key, row)?;
+        rows.put_taken::<H>(alloc, shard, row)?;
         number += 1;
     }
     Ok(Ok(Counted {

@@ -1,8 +1,11 @@
 //! Rows spread over shares by the hashes of their keys.
 ghost use Rattle.std.specs.Prelude.{◌≡◌, ◌<◌, ◌-◌, ◌^◌, ◌++◌, ◌∷◌, [], ℕ, IfOk, length, map, min, replicate, sum_by};
+ghost use Rattle.cells.specs.Tables.{keyed_rows};
 ghost use Rattle.cells.specs.declared.cell.Cell.{Cell};
+ghost use Rattle.loader.specs.Shards.{taken, takes};
 ghost use Rattle.loader.specs.Shares.{AreSpread, Pairs, in_shares, lists, share_count, share_of};
 
+use crate::shard::Shard;
 use cells::{Cell, KeyHash, Row};
 use std::alloc::{AllocError, Global};
 
@@ -42,6 +45,25 @@ impl Spread {
         let share = share_of(H::hash(&key));
         self.shares[share].push((key, row))?;
         Ok(())
+    }
+
+    /// Puts a row behind those that are there, if the shard takes it. Any other is let go at once, so that memory never
+    /// holds more than the rows of the shard.
+    pub fn put_taken<H: KeyHash<Cell>>(
+        &mut self,
+        alloc: Global,
+        shard: &Shard,
+        row: Row,
+    ) -> Result<(), AllocError>
+        requires { length self.old.shares.items ≡ share_count }
+        ensures { (pairs : Pairs) → AreSpread H.hash_of pairs (lists self.old.shares.items) →
+            IfOk result (λ _. AreSpread H.hash_of (pairs ++ keyed_rows (taken (takes H.hash_of shard.now) (row ∷ []))) (lists self.new.shares.items)) }
+    {
+        let key = row.key().owned(alloc)?;
+        if !shard.takes::<H>(&key) {
+            return Ok(());
+        }
+        self.push::<H>(key, row)
     }
 }
 

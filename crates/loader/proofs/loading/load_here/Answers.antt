@@ -1,13 +1,8 @@
-use Rattle.std.proofs.Common.{ap, map, subst, ◌∙◌}
-use Rattle.loader.specs.Loads.{Loads}
-use Rattle.loader.specs.Parts.{part_of}
-use Rattle.loader.specs.Pieces.{rows_of_pieces}
-use Rattle.loader.proofs.PiecesLemmas.{pieces_say}
+use Rattle.std.proofs.Common.{map}
+use Rattle.loader.specs.Parts.{part_of, rows_of_parts}
+use Rattle.loader.proofs.ShardLemmas.{whole_loads}
 use Rattle.loader.proofs.loading.load_here.Goals as goal
 
 pub returns-clause-loaded : goal.returns-clause-loaded
 returns-clause-loaded g c =
-    let t = c.args.schema.now in
-    subst (λ said. Loads said c.load_pieces_here.result)
-    (ap (rows_of_pieces t 0) c.as_slice.ensures.value ∙ pieces_say t (map part_of c.args.parts.now) c.in_ok-pieces.pieces.items c.in_ok-pieces.ensures.cut)
-    c.load_pieces_here.ensures.loaded
+    whole_loads g.H.KeyHash.hash_of c.whole-shard.result (rows_of_parts c.args.schema.now (map part_of c.args.parts.now)) c.load_shard_here.result c.whole-shard.ensures c.load_shard_here.ensures.loaded
