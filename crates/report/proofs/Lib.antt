@@ -1,6 +1,7 @@
 pub mod ArrangingLemmas
 pub mod CrossingLemmas
 pub mod HereLemmas
+pub mod KeptLemmas
 pub mod PiecesLemmas
 pub mod SortingLemmas
 pub mod StartedLemmas

@@ -5,9 +5,10 @@ ghost use Rattle.aggs.specs.Room.{cell_limit};
 ghost use Rattle.board.specs.Limits.{row_limit};
 ghost use Rattle.columns.specs.Columns.{Hold};
 ghost use Rattle.crew.specs.Gathering.{rows_in};
-ghost use Rattle.groups.specs.Groups.{report_rows};
+ghost use Rattle.groups.specs.Folds.{Folds};
+ghost use Rattle.groups.specs.Groups.{kept};
 ghost use Rattle.groups.specs.Needed.{Serve};
-ghost use Rattle.report.specs.Standing.{AreRowsFor, AreShown};
+ghost use Rattle.report.specs.Standing.{AreFolded, AreRowsFor, AreShown};
 ghost use Rattle.report.specs.Waiting.{IsReportText};
 
 use crate::arranging::{Arrangement, arrange};
@@ -68,26 +69,37 @@ fn rows_here<H: KeyHash<Cell> + KeyHash<Tuple>>(
     requires { len root.now ≤ row_limit }
     ensures { IfOk result (λ v. AreRowsFor root.now plan.now v.items) }
 {
-    let whole = Cutting { depth: 0, small: 1 };
-    let pieces = pieces_of(alloc, root, &whole)?;
-    rows_of_pieces(alloc, plan, pieces.as_slice(), root.len())
+    let folding = folding_here(alloc, root, plan)?;
+    folding.into_rows(alloc)
 }
 
-/// The rows of the plan's report over those of the pieces, of which there are so many.
-fn rows_of_pieces<H: KeyHash<Cell> + KeyHash<Tuple>>(
+/// The rows of an edition that the plan keeps, folded in the thread that calls.
+pub(crate) fn folding_here<'a, H: KeyHash<Cell> + KeyHash<Tuple>>(
     alloc: Global,
-    plan: &Plan,
+    root: &Root<H>,
+    plan: &'a Plan,
+) -> Result<Folding<'a, H>, AllocError>
+    requires { len root.now ≤ row_limit }
+    ensures { IfOk result (AreFolded root.now plan.now) }
+{
+    let whole = Cutting { depth: 0, small: 1 };
+    let pieces = pieces_of(alloc, root, &whole)?;
+    folding_of_pieces(alloc, plan, pieces.as_slice(), root.len())
+}
+
+/// The rows of the pieces that the plan keeps, folded. There are so many in the pieces.
+fn folding_of_pieces<'a, H: KeyHash<Cell> + KeyHash<Tuple>>(
+    alloc: Global,
+    plan: &'a Plan,
     pieces: &[RowPiece<H>],
     count: u64,
-) -> Result<Vec<ReportRow>, AllocError>
+) -> Result<Folding<'a, H>, AllocError>
     requires count { count ≡ length (rows_in pieces.now) }
     requires few { count ≤ cell_limit }
-    ensures { IfOk result (λ v. v.items ≡ report_rows plan.now (rows_in pieces.now)) }
+    ensures { IfOk result (Folds plan.now (kept plan.now.condition (rows_in pieces.now))) }
 {
     let columns = columns_of_pieces(alloc, plan, pieces)?;
-    let folding: Folding<'_, H> = Folding::of_columns(alloc, plan, &columns, count)?;
-    drop(columns);
-    folding.into_rows(alloc)
+    Folding::of_columns(alloc, plan, &columns, count)
 }
 
 /// The columns of the rows of the pieces that the plan needs.
