@@ -9,6 +9,7 @@ pub mod Endings
 pub mod Faults
 pub mod Givens
 pub mod Hows
+pub mod Joining
 pub mod JsonSpelling
 pub mod Keys
 pub mod Limits
@@ -17,12 +18,16 @@ pub mod Manners
 pub mod Output
 pub mod Parameters
 pub mod Refusals
+pub mod Retelling
 pub mod Says
 pub mod Sessions
 pub mod Spelling
 pub mod Statements
 pub mod Stops
 pub mod Tails
+pub mod Telling
+pub mod Told
 pub mod Turns
 pub mod ValueLines
 pub mod Viewers
+pub mod Walks

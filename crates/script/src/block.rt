@@ -93,7 +93,7 @@ fn shape_lines(
 }
 
 /// The block of a refused line. Want of memory is no refusal of a line: it ends the run.
-fn refusal_block(
+pub fn refusal_block(
     alloc: Global,
     form: Form,
     number: u64,

@@ -19,6 +19,7 @@ mod hash_choice;
 mod heard;
 mod here;
 mod how;
+mod joining;
 mod json_spelling;
 mod laws;
 mod limits;
@@ -31,6 +32,7 @@ mod owned;
 mod parameters;
 mod refusal_name;
 mod reporting;
+mod retelling;
 mod running;
 mod session;
 mod setup;
@@ -39,19 +41,24 @@ mod stage;
 mod standing;
 mod statement;
 mod step;
+mod telling;
+mod told;
 mod too_much;
 mod undone;
 mod unstarted;
 mod value_lines;
 mod viewing;
+mod walk;
 
 pub use answer::Answer;
 pub use ended::Ended;
+pub use fault::Fault;
 pub use finish::Finish;
 pub use hash_choice::HashChoice;
 pub use heard::Heard;
 pub use here::output_here;
 pub use how::How;
+pub use joining::join_told;
 pub use laws::{
     a_session_writes_the_output_of_its_lines, each_line_by_itself, each_script_has_one_output,
     hash_decides_shapes_alone, live_writes_the_output_first,
@@ -62,9 +69,12 @@ pub use limits::{
 };
 pub use manner::Manner;
 pub use on_refusal::OnRefusal;
+pub use retelling::output_of_told;
 pub use running::{live, run, run_by, run_in};
 pub use session::Session;
 pub use setup::Setup;
+pub use telling::{Untold, tell_here};
+pub use told::Told;
 pub use undone::Undone;
 pub use value_lines::{delete_line, put_line};
 pub use viewing::{Showing, Viewing};
