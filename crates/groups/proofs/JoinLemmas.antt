@@ -72,10 +72,10 @@ module _ {H : Type 0} where
     fits_at second [] q u v e f all = absurd (cc)
     fits_at second (x ∷ es) q u v e f all = elim (cases_Bool (tuple_eq q x.0)) [
       | inl same ↦
-        let here : q ≡ x.0 = same_tuples q x.0 same in
-        let is : u ≡ x.1 = same_Some _ _ (sym e ∙ ap (λ b. cond b (Some x.1) (lookup (tuple_eq q) es)) same) in
-        let fits : AllFit x.1 v = subst (λ o. IfSome o (AllFit x.1)) (ap (value_at (digit_order hash tuple_cmp) second) (sym here) ∙ f) all.0 in
-        subst (λ w. AllFit w v) (sym is) fits
+          let here : q ≡ x.0 = same_tuples q x.0 same in
+          let is : u ≡ x.1 = same_Some _ _ (sym e ∙ ap (λ b. cond b (Some x.1) (lookup (tuple_eq q) es)) same) in
+          let fits : AllFit x.1 v = subst (λ o. IfSome o (AllFit x.1)) (ap (value_at (digit_order hash tuple_cmp) second) (sym here) ∙ f) all.0 in
+          subst (λ w. AllFit w v) (sym is) fits
       | inr other ↦ fits_at second es q u v (sym (ap (λ b. cond b (Some x.1) (lookup (tuple_eq q) es)) other) ∙ e) f all.1
     ]
 

@@ -151,9 +151,10 @@ module _ {H : Type 0} where
     tells_each [] (t ∷ told) are all = absurd are
     tells_each (g ∷ groups) [] are all = absurd are
     tells_each (g ∷ groups) (t ∷ told) are all =
-        let more = tells_each groups told are.1 all.1 in
-        (ap₂ (λ (x : List Cell) (l : List (List Cell)). x ∷ l) (are.0).0 more.0,
-        (all_keep aggregations (members set t.tuple rows) g.1 t.kept (are.0).1 (all.0 ∙ ap (λ u. accs_of aggregations (members set u rows)) (sym (are.0).0)), more.1))
+        let more = tells_each groups told are.1 all.1 in (
+          ap₂ (λ (x : List Cell) (l : List (List Cell)). x ∷ l) (are.0).0 more.0,
+          (all_keep aggregations (members set t.tuple rows) g.1 t.kept (are.0).1 (all.0 ∙ ap (λ u. accs_of aggregations (members set u rows)) (sym (are.0).0)), more.1),
+        )
 
     -- what the groups tell that stand for rows
     pub set_told : (es rising : List (List Cell × List (Acc H))) (told : List GroupValue) → IsRising (digit_order hash tuple_cmp) (keys_of es) → StandsAt hash aggregations set rows es →

@@ -4,5 +4,3 @@
 
 #[cfg(test)]
 mod joined;
-#[cfg(test)]
-mod two_shards;
