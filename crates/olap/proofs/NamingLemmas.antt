@@ -11,7 +11,7 @@ use Rattle.std.specs.Option.{option_map_or}
 use Rattle.std.specs.Prelude.{bytes_eq, codes, is_none, nat_lt, slice_index}
 use Rattle.std.specs.Str.Lines.{strip_carriage_return}
 use Rattle.olap.specs.declared.naming.Parts.{Parts}
-use Rattle.olap.specs.Naming.{AreNamed, TakesPart, has_name, is_name, listing_in, number_named, part_named, resolved, resolved_line, resolved_listing, resolved_word, resolved_words}
+use Rattle.olap.specs.Naming.{AreNamed, TakesPart, has_name, is_name, part_named, resolved, resolved_line, resolved_listing, resolved_word, resolved_words}
 
 abbrev Text : Type 0
 Text = List ℕ
@@ -48,10 +48,10 @@ cut_none c text e = one_piece c text (no_place _ _ e)
 
 -- ---- `NAME=FILE`
 
-not_below : (a n : ℕ) → a ≡ n → cond (nat_lt a n) (Some a) None ≡ None
+pub not_below : (a n : ℕ) → a ≡ n → cond (nat_lt a n) (Some a) None ≡ None
 not_below a n e = grind (arith, nat_tests)
 
-below : (a n : ℕ) → a < n → cond (nat_lt a n) (Some a) None ≡ Some a
+pub below : (a n : ℕ) → a < n → cond (nat_lt a n) (Some a) None ≡ Some a
 below a n h = grind (arith, nat_tests)
 
 pub no_part : (word : Text) → position_or_len (λ b. b == 61) word ≡ length word → part_named word ≡ None

@@ -1,6 +1,6 @@
 -- What the program wrote, from what its parts say.
-use Rattle.std.proofs.Common.{ℕ, List, [], Option, sym}
-use Rattle.std.specs.Prelude.{◌≡◌, IfOk, Result, Ok, Err, OnErr, OnOk}
+use Rattle.std.proofs.Common.{ℕ, List, [], Option, arith, refl, sym}
+use Rattle.std.specs.Prelude.{◌≡◌, IfOk, IsErr, Result, Ok, Err, OnErr, OnOk}
 use Rattle.std.proofs.lemmas.List.{append-nil}
 use Rattle.std.specs.Io.KnownBytes.{Appends, Keeps}
 use Rattle.std.proofs.KnownBytes.{Appends-kept}
@@ -42,6 +42,12 @@ wrote_finished Is a b c (Ok f) finish wrote is k =
     let w = rw same at wrote in
     record { whole = w.whole; is_whole = w.is_whole; taken = Appends-kept a b c w.whole w.taken k }
 wrote_finished Is a b c (Err e) finish wrote is k = absurd cc
+
+-- what was written whole, and then closed
+pub wrote_closed : {T E : Type 0} (IsWhole : List ℕ → Type 0) (a b c : Option (List ℕ)) (ended : Result T E) (status : ℕ) (whole : List ℕ) → IsWhole whole →
+    OnOk ended (Appends a b whole) → (IsErr ended → status ≡ 3) → status ≡ 0 → Keeps b c → Writes IsWhole a c
+wrote_closed IsWhole a b c (Ok x) status whole is taken early done k = record { whole = whole; is_whole = is; taken = Appends-kept a b c whole taken k }
+wrote_closed IsWhole a b c (Err e) status whole is taken early done k = absurd (omega (arith, early refl, done))
 
 -- the output of a job, from what was read
 pub output_of_job : (file : List ℕ → Option (List ℕ)) (job : Job) (input : Input) → IsInputOf file job input → (finish : Finish) (whole : List ℕ) →

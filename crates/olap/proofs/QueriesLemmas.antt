@@ -6,7 +6,7 @@ use Rattle.clap.specs.Words.{Text}
 use Rattle.script.specs.Endings.{BeginsToWrite, Writes}
 use Rattle.script.specs.Stops.{HoweverFinished}
 use Rattle.script.specs.declared.finish.Finish.{Finish}
-use Rattle.script.specs.declared.finish.Finish.TheVariants.{Stopped, Through}
+use Rattle.script.specs.declared.finish.Finish.TheVariants.{Stopped}
 use Rattle.olap.specs.Folders.{AreTold}
 use Rattle.olap.specs.Options.{AreAmong}
 use Rattle.olap.specs.Proposals.{IsAsked}

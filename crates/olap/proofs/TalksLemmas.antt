@@ -3,14 +3,13 @@ use Rattle.std.proofs.Common.{◌≡◌, ◌∙◌, ℕ, Bool, true, false, List
 use Rattle.std.proofs.KnownBytes.{Appends-kept, Appends-nil, Appends-trans, Keeps-refl}
 use Rattle.std.proofs.lemmas.Grind.{reverse_onto}
 use Rattle.std.proofs.lemmas.List.{length-take, reverse-reverse}
-use Rattle.std.specs.Io.KnownBytes.{Appends, Keeps, prepend_known}
+use Rattle.std.specs.Io.KnownBytes.{Keeps, prepend_known}
 use Rattle.std.specs.List.{onto_first, slice_split}
 use Rattle.std.specs.Prelude.{slice_index}
 use Rattle.std.specs.Str.Lines.{lines, lines_of_parts}
 use Rattle.std.specs.Prelude.{⊤}
 use Rattle.olap.specs.Hearing.{HearsNext, lines_heard}
 use Rattle.cells.specs.declared.cell.Cell.{Cell}
-use Rattle.report.specs.Taken.{TakesBeginning}
 use Rattle.script.specs.Endings.{BeginsToWrite, Writes}
 use Rattle.script.specs.Givens.{Givens}
 use Rattle.script.specs.Limits.{script_limit}

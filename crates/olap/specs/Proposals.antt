@@ -3,7 +3,6 @@ use Rattle.std.specs.Prelude.{◌≡◌, ◌+◌, ◌⊎◌, Bool, ℕ, List, []
 use Rattle.std.specs.List.{slice_index_or}
 use Rattle.std.specs.declared.alloc.Global.{Global}
 use Rattle.cells.specs.Reading.{tokens_of}
-use Rattle.cells.specs.declared.schema.Column.{Column}
 use Rattle.cells.specs.declared.schema.ColumnType.{ColumnType}
 use Rattle.prepare.specs.Files.{Fields, records_of}
 use Rattle.prepare.specs.Listed.{by_name, header_in, is_named, naming_of, words_in}

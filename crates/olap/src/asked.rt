@@ -1,13 +1,19 @@
-//! What the first words of the command line ask for: a page of the manual, a check, a query of files, a session, or what `clap` reads.
+//! What the first words of the command line ask for: a page of the manual, a check, a query of files, a session, a shard of a run, a
+//! join of what shards told, or what `clap` reads of runs.
 ghost use Rattle.std.specs.Prelude.{◌≡◌, ◌⊎◌};
 
 use crate::ask::{ask, show_schema};
 use crate::check::check_files;
 use crate::input::Folder;
+use crate::join::join_files;
 use crate::manual::{Topic, refuse_page, show, topic_of};
-use crate::program::run_words;
-use crate::session::{converse, show_help};
+use crate::program::{run_words, show_help};
+use crate::session::converse;
+use crate::session_words::job_of_words;
+use crate::shard_run::run_shard;
+use crate::shard_words::{join_of_words, shard_of_words};
 use crate::tell::Screen;
+use crate::written::Writable;
 use std::alloc::Global;
 use std::io::{BufWriter, Write};
 use std::sync::Wait;
@@ -15,7 +21,7 @@ use std::thread::Threads;
 use std::time::Clock;
 
 /// What the words after the program's name ask for.
-#[derive(Clone, Copy, Debug, Drop)]
+#[derive(Clone, Copy, Drop)]
 enum Asked<'w> {
     /// A page of the manual.
     Page(Topic),
@@ -29,21 +35,43 @@ enum Asked<'w> {
     Schema(&'w [String]),
     /// A session, of these words.
     Session(&'w [String]),
-    /// Help of sessions.
-    SessionHelp,
-    /// What `clap` reads: a run, or help of the commands.
+    /// What one shard tells of a run, of these words.
+    Shard(&'w [String]),
+    /// A join of what shards told, of these words.
+    Join(&'w [String]),
+    /// Help of one of these.
+    Help(Helped),
+    /// A run, or help of the commands.
     Command,
 }
 
+/// A command that `clap` reads for itself, and of which it has help.
+#[derive(Clone, Copy, Drop)]
+enum Helped {
+    Session,
+    Shard,
+    Join,
+}
+
 /// Does what the words after the program's name ask for, of which there is one at least, and gives the program's status: that
-/// of [`run_words`] for a command, of [`check_files`] for a check, of [`ask`] for a query and of [`converse`] for a session, and for the manual 0 where its page was written, 2 where it
+/// of [`run_words`] for a command, of [`check_files`] for a check, of [`ask`] for a query, of [`converse`] for a session, of
+/// [`run_shard`] for a shard and of [`join_files`] for a join, and for the manual 0 where its page was written, 2 where it
 /// has no such page, and 3 where the page could not be written.
 pub fn answer<
     F: Folder,
+    S: Writable,
     W: Write + Drop,
     E: Write,
     R: Threads + Wait + Sync + Eprint + Print + Clock + Screen + Input,
->(rt: &R, alloc: Global, words: &[String], folder: &F, mut out: BufWriter<W>, err: &mut E) -> u8
+>(
+    rt: &R,
+    alloc: Global,
+    words: &[String],
+    folder: &F,
+    files: &mut S,
+    mut out: BufWriter<W>,
+    err: &mut E,
+) -> u8
     ensures { (result ≡ 0) ⊎ ((result ≡ 1) ⊎ ((result ≡ 2) ⊎ (result ≡ 3))) }
 {
     match asked_by(words) {
@@ -53,8 +81,26 @@ pub fn answer<
         Asked::Query(words) => ask(rt, alloc, words, folder, out, err).0,
         Asked::Schema(words) => show_schema(alloc, words, folder, out, err),
         Asked::Session(words) => converse(rt, alloc, words, folder, rt.reader(), out, err).0,
-        Asked::SessionHelp => show_help(alloc, out, err),
+        Asked::Shard(words) => run_shard(alloc, words, folder, files, out, err).0,
+        Asked::Join(words) => join_files(alloc, words, folder, files, out, err).0,
+        Asked::Help(of) => show_help_of(alloc, of, out, err),
         Asked::Command => run_words(rt, alloc, words, folder, out, err).0,
+    }
+}
+
+/// Shows the help of a command, and gives the program's status.
+fn show_help_of<W: Write + Drop, E: Write>(
+    alloc: Global,
+    of: Helped,
+    out: BufWriter<W>,
+    err: &mut E,
+) -> u8
+    ensures { (result ≡ 0) ⊎ (result ≡ 2) }
+{
+    match of {
+        Helped::Session => show_help(job_of_words(alloc, &["--help"]), out, err),
+        Helped::Shard => show_help(shard_of_words(alloc, &["--help"]), out, err),
+        Helped::Join => show_help(join_of_words(alloc, &["--help"]), out, err),
     }
 }
 
@@ -69,8 +115,28 @@ fn asked_by(words: &[String]) -> Asked<'_> {
         "query" => Asked::Query(rest),
         "schema" => Asked::Schema(rest),
         "session" => Asked::Session(rest),
+        "join" => Asked::Join(rest),
+        "run" if have_shard(rest) => Asked::Shard(rest),
         _ => Asked::Command,
     }
+}
+
+/// Whether one of the words, before a word `--`, is an option of a shard.
+fn have_shard(words: &[String]) -> bool {
+    words
+        .iter()
+        .map(|word| word.as_str())
+        .take_while(|word| *word != "--")
+        .any(is_of_shard)
+}
+
+/// Whether the word is `--shard` or `--partials`, or one of these with its value.
+fn is_of_shard(word: &str) -> bool {
+    let name = match word.split_once('=') {
+        Some((name, _)) => name,
+        None => word,
+    };
+    name == "--shard" || name == "--partials"
 }
 
 /// What the words after `help` ask for. `clap` tells of its own commands.
@@ -82,7 +148,9 @@ fn asked_of_help(words: &[String]) -> Asked<'_> {
         "run" => Asked::Command,
         "live" => Asked::Command,
         "help" => Asked::Command,
-        "session" => Asked::SessionHelp,
+        "session" => Asked::Help(Helped::Session),
+        "shard" => Asked::Help(Helped::Shard),
+        "join" => Asked::Help(Helped::Join),
         word => match topic_of(word) {
             Some(topic) => Asked::Page(topic),
             None => Asked::NoPage(word),

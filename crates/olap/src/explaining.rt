@@ -9,7 +9,7 @@ use reasons::{PartReason, Reason, Reasons};
 use std::alloc::Global;
 
 /// Which refusals are told.
-#[derive(Clone, Copy, Debug, PartialEq, Eq, Drop)]
+#[derive(Clone, Copy, Drop)]
 pub enum Told {
     /// None.
     Nothing,

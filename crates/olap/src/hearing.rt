@@ -24,7 +24,7 @@ pub struct Hearing<B> {
 }
 
 /// What is met after a piece of a line.
-#[derive(Clone, Copy, Debug, PartialEq, Eq, Drop)]
+#[derive(Clone, Copy, Drop)]
 enum Met {
     /// More of the line.
     More,
@@ -35,7 +35,7 @@ enum Met {
 }
 
 /// The first piece of the bytes that are at hand.
-#[derive(Clone, Copy, Debug, PartialEq, Eq, Drop)]
+#[derive(Clone, Copy, Drop)]
 struct Cut {
     /// How many bytes the piece has.
     piece: usize,

@@ -10,7 +10,7 @@ use script::Ended;
 use std::io::{BufWriter, Write};
 
 /// What the manual has a page of.
-#[derive(Clone, Copy, Debug, PartialEq, Eq, Drop)]
+#[derive(Clone, Copy, Drop)]
 pub enum Topic {
     /// The language of scripts.
     Language,
@@ -123,7 +123,7 @@ pub fn refuse_page<E: Write>(word: &str, err: &mut E) -> u8
 {
     let _ = writeln!(
         err,
-        "error: no help of '{word}'\n\nThere is help of run, live, session, check, query, schema and language, and of the numbers 1 to 15 and 90 to 93."
+        "error: no help of '{word}'\n\nThere is help of run, live, session, check, query, schema, shard, join and language, and of the numbers 1 to 15 and 90 to 93."
     );
     NOTHING_RUN
 }

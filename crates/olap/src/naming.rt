@@ -56,7 +56,7 @@ impl<T: Drop> From<AllocFailed<T>> for NamingFault {
 }
 
 /// Parts, in the order of their numbers.
-#[derive(Debug, Drop)]
+#[derive(Drop)]
 pub struct Parts {
     /// The names of their files.
     pub files: Vec<Text>,

@@ -8,7 +8,7 @@ use std::alloc::{AllocError, AllocFailed, Global};
 use thiserror::Error;
 
 /// An option that takes a value.
-#[derive(Clone, Copy, Debug, PartialEq, Eq, Drop)]
+#[derive(Clone, Copy, Drop)]
 pub enum Valued {
     Columns,
     Delimiter,
@@ -40,7 +40,7 @@ impl Valued {
 }
 
 /// Why words are no question. Its text is what the program writes behind `error: `.
-#[derive(Clone, Copy, Debug, PartialEq, Eq, Drop, Error)]
+#[derive(Clone, Copy, Debug, Drop, Error)]
 pub enum OptionFault<'w> {
     #[error("there is no option '{0}'")]
     Unknown(&'w str),
@@ -93,7 +93,7 @@ impl<'w, T: Drop> From<AllocFailed<T>> for OptionFault<'w> {
 }
 
 /// The words, parted: what was given for each option, and the words that belong to none.
-#[derive(Debug, Drop)]
+#[derive(Drop)]
 pub struct Parted<'w> {
     pub columns: Option<&'w str>,
     pub delimiter: Option<&'w str>,

@@ -3,7 +3,7 @@
 use crate::job::Job;
 use crate::tell::Tell;
 use cells::{Schema, whole_number_of};
-use reasons::{PartFaults, Reasons, faults_of_part};
+use reasons::{PartFaults, PartReason, Reasons, faults_of_part};
 use script::{MAX_PARTS, MAX_SCRIPT_BYTES};
 use std::alloc::{AllocError, Global};
 
@@ -44,18 +44,46 @@ fn tell_part<T: Tell>(
     schema: &Schema,
 ) -> Result<(), AllocError> {
     let mut faults = faults_of_part(alloc, part, schema)?;
+    tell_faults(teller, name, &mut faults)
+}
+
+/// Tells the first of the faulty records, and how many more there are.
+fn tell_faults<T: Tell>(
+    teller: &T,
+    name: &str,
+    faults: &mut PartFaults<'_>,
+) -> Result<(), AllocError> {
+    tell_first(teller, name, faults)?;
+    tell_count(teller, name, count_left(faults)?);
+    Ok(())
+}
+
+/// Tells the first faulty records, at most [`MAX_TOLD`].
+fn tell_first<T: Tell>(
+    teller: &T,
+    name: &str,
+    faults: &mut PartFaults<'_>,
+) -> Result<(), AllocError> {
     for _ in 0..MAX_TOLD {
         let Some((_, reason)) = faults.next()? else {
-            return Ok(());
+            break;
         };
-        let line = reason.line;
-        teller.tell(format_args!("{name}:{line}: {reason} (6 BadPart, 7 BadRecord)"));
+        tell_fault(teller, name, reason);
     }
-    let more = count_left(&mut faults)?;
+    Ok(())
+}
+
+/// Tells a faulty record.
+fn tell_fault<T: Tell>(teller: &T, name: &str, reason: PartReason) {
+    let line = reason.line;
+    teller.tell(format_args!("{name}:{line}: {reason} (6 BadPart, 7 BadRecord)"));
+}
+
+/// Tells how many faulty records more there are, where there are some.
+fn tell_count<T: Tell>(teller: &T, name: &str, more: u64) {
     if more > 0 {
         teller.tell(format_args!("{name}: {more} faulty records more (6 BadPart, 7 BadRecord)"));
     }
-    Ok(())
 }
 
 /// How many faulty records are left.

@@ -263,6 +263,7 @@ pub(crate) fn refuse<W: Write + Drop, E: Write>(
 ) -> (u8, BufWriter<W>)
     ensures help { IsHelp fault.now → result.0 ≡ 0 }
     ensures refused { (IsHelp fault.now → ⊥) → result.0 ≡ 2 }
+    ensures only { result.0 ≡ 0 → IsHelp fault.now }
     ensures nothing { result.0 ≡ 2 → Keeps (writer_contents W.contents out) (writer_contents W.contents result.1) }
 {
     if let WordsFault::Clap(error) = fault {
@@ -274,4 +275,18 @@ pub(crate) fn refuse<W: Write + Drop, E: Write>(
     }
     let _ = write!(err, "{fault}");
     (NOTHING_RUN, out)
+}
+
+/// Shows the help that was asked for instead of a job, and gives the program's status.
+pub fn show_help<J: Drop, W: Write + Drop, E: Write>(
+    asked: Result<J, WordsFault>,
+    out: BufWriter<W>,
+    err: &mut E,
+) -> u8
+    ensures { (result ≡ 0) ⊎ (result ≡ 2) }
+{
+    match asked {
+        Ok(_) => WRITTEN,
+        Err(fault) => refuse(&fault, out, err).0,
+    }
 }

@@ -17,7 +17,7 @@ use std::alloc::{AllocError, AllocFailed, Global};
 use thiserror::Error;
 
 /// A table that is proposed for files.
-#[derive(Debug, Drop)]
+#[derive(Drop)]
 pub struct Proposal {
     pub columns: Vec<Column>,
     /// The place of the key among them.
@@ -74,7 +74,7 @@ impl<T: Drop> From<AllocFailed<T>> for Unproposed {
 }
 
 /// A place where no table can be proposed, and why. Its text is a line that the program writes.
-#[derive(Debug, Drop)]
+#[derive(Drop)]
 pub struct FileFault {
     /// The file, by its place among the names.
     pub file: usize,
@@ -327,7 +327,7 @@ fn with_key(alloc: Global, files: &[Vec<u8>], choice: Choice) -> Result<Proposal
 }
 
 /// Parts, with the names and the types of their columns.
-#[derive(Debug, Drop)]
+#[derive(Drop)]
 struct Typed {
     names: Vec<Text>,
     parts: Vec<Vec<u8>>,

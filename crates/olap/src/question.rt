@@ -34,7 +34,7 @@ pub struct Question<'w> {
 }
 
 /// A file whose table is wanted.
-#[derive(Debug, Drop)]
+#[derive(Drop)]
 pub struct SchemaQuestion {
     /// The one file.
     pub names: Vec<Text>,
@@ -42,7 +42,7 @@ pub struct SchemaQuestion {
 }
 
 /// What is chosen of files.
-#[derive(Debug, Drop)]
+#[derive(Drop)]
 pub struct Wanted {
     /// The columns that were listed. None: those of the file.
     pub columns: Option<Vec<Chosen>>,

@@ -9,10 +9,10 @@ ghost use Rattle.script.specs.declared.finish.Finish.TheVariants.{Stopped, Throu
 ghost use Rattle.olap.specs.Talks.{AskForSessionHelp, AskToTalk, IsOfJob, IsTalk, IsTalkSoFar};
 
 use crate::ask::read_files;
-use crate::close::{NOTHING_RUN, WRITTEN};
+use crate::close::NOTHING_RUN;
 use crate::input::Folder;
 use crate::program::{cannot_read, refuse};
-use crate::session_words::{SessionJob, job_of_words, session_job};
+use crate::session_words::{SessionJob, session_job};
 use crate::talk::{Holding, Prompt, hold};
 use crate::tell::Screen;
 use crew::Gate;
@@ -54,16 +54,6 @@ pub fn converse<
     match session_job(alloc, words) {
         Ok(job) => with_parts(rt, alloc, &job, folder, input, out, err),
         Err(fault) => refuse(&fault, out, err),
-    }
-}
-
-/// Shows help of sessions, and gives the program's status.
-pub fn show_help<W: Write + Drop, E: Write>(alloc: Global, out: BufWriter<W>, err: &mut E) -> u8
-    ensures { (result ≡ 0) ⊎ (result ≡ 2) }
-{
-    match job_of_words(alloc, &["--help"]) {
-        Ok(_) => WRITTEN,
-        Err(fault) => refuse(&fault, out, err).0,
     }
 }
 

@@ -30,7 +30,7 @@ The status is 0 where the input ended and all was answered, 1 where a strict ses
 2 where the words are refused or a part cannot be read, and 3 where the session ended early.";
 
 /// What the words after `session` ask for. It owns its file names.
-#[derive(Debug, Drop)]
+#[derive(Drop)]
 pub struct SessionJob {
     /// How reports are answered and parts are loaded.
     pub how: How,

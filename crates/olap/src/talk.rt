@@ -53,7 +53,7 @@ pub struct Holding<'a, R, G> {
 }
 
 /// Why a session did not go on.
-#[derive(Clone, Copy, Debug, PartialEq, Eq, Drop)]
+#[derive(Clone, Copy, Drop)]
 enum Broken {
     /// A line ended it early, or what it wrote was not taken.
     Ended(Ended),

@@ -1,8 +1,8 @@
-use Rattle.std.proofs.Common.{List, map, string_bytes, subst, ℕ, Option, ◌∷◌, ◌∙◌, inl, inr, rules, sym}
+use Rattle.std.proofs.Common.{List, map, string_bytes, subst, ℕ, Option, ◌∷◌, inr, sym}
 use Rattle.std.specs.Io.Buffered.{writer_buffer, writer_contents}
 use Rattle.olap.specs.Options.{AreAmong}
 use Rattle.olap.specs.Queries.{AskToAnswer, IsAnswerOfNamed}
-use Rattle.olap.proofs.QueriesLemmas.{asked, leaves_as, leaves_nothing, not_2}
+use Rattle.olap.proofs.QueriesLemmas.{asked, leaves_as}
 use Rattle.olap.proofs.ask.ask.Goals as goal
 
 pub returns-in-Ok-question_of-clause-leaves : goal.returns-in-Ok-question_of-clause-leaves

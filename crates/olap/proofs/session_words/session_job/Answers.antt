@@ -1,7 +1,7 @@
 use Rattle.std.proofs.Common.{map, string_bytes, subst, List, ◌≡◌}
-use Rattle.std.specs.Prelude.{IfErr, IfOk}
+use Rattle.std.specs.Prelude.{IfErr}
 use Rattle.clap.specs.Words.{Text}
-use Rattle.olap.specs.SessionWords.{AskForSession, ExplainsSessionFault}
+use Rattle.olap.specs.SessionWords.{ExplainsSessionFault}
 use Rattle.olap.proofs.session_words.session_job.Goals as goal
 
 pub returns-clause-fault : goal.returns-clause-fault

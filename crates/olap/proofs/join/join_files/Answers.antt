@@ -1,0 +1,5 @@
+use Rattle.std.proofs.Common.{inr}
+use Rattle.olap.proofs.join.join_files.Goals as goal
+
+pub returns-in-Ok-clause-left : goal.returns-in-Ok-clause-left
+returns-in-Ok-clause-left g c = λ done. inr (record { job = c.in-Ok.job; asked = c.in-Ok.ensures.job; leaves = c.run_join.ensures.left done })

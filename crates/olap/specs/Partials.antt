@@ -1,0 +1,141 @@
+-- Partial answers in files: what a run over a shard writes, and what is joined of what such runs wrote.
+use Rattle.std.specs.Prelude.{◌≡◌, ◌≤◌, ◌⊎◌, ◌∷◌, ℕ, List, [], Option, None, Some, length, map}
+use Rattle.std.specs.List.{AllByRecursion}
+use Rattle.std.specs.Str.Lines.{lines}
+use Rattle.clap.specs.Words.{IsAmong, Text, fault_of}
+use Rattle.clap.specs.declared.error.kind.ErrorKind.TheVariants.{DisplayHelp, DisplayVersion}
+use Rattle.cells.specs.Hashes.{fnv_hash}
+use Rattle.cells.specs.declared.cell.Cell.{Cell}
+use Rattle.forms.specs.declared.form.Form.{Form}
+use Rattle.loader.specs.Shards.{ShardValue}
+use Rattle.script.specs.Givens.{Givens}
+use Rattle.script.specs.Limits.{part_limit}
+use Rattle.script.specs.Manners.{in_form}
+use Rattle.script.specs.Output.{IsOutput}
+use Rattle.script.specs.Told.{FitAll}
+use Rattle.shards.specs.Answers.{IsPartialAnswer}
+use Rattle.shards.specs.Documents.{DocumentValue, IsTextOf}
+use Rattle.olap.specs.Folders.{AreTold, Tells}
+use Rattle.olap.specs.Programs.{IsInputOf}
+use Rattle.olap.specs.ShardWords.{AskForShard, AskToJoin, join_app, shard_app}
+use Rattle.olap.specs.declared.input.Input.{Input}
+use Rattle.olap.specs.declared.shard_words.JoinJob.{JoinJob}
+use Rattle.olap.specs.declared.shard_words.ShardJob.{ShardJob}
+
+-- which shard a key belongs to is told by this hash, on every machine
+abbrev pub shard_hash : Cell → ℕ
+shard_hash = fnv_hash
+
+-- shards tell this of the script, over the parts that a run is given
+pub record IsToldOf (givens : Givens) (script : Text) (it : DocumentValue) : Type 0 where
+  pub is_script : it.script ≡ script
+  pub told : IsPartialAnswer shard_hash givens it
+
+-- and this is its text
+pub record IsPartialText (givens : Givens) (script text : Text) : Type 0 where
+  pub it : DocumentValue
+  pub is_text : IsTextOf it text
+  pub told : IsToldOf givens script it
+
+-- ---- `run --shard`
+
+-- the text is what the shard tells of a script over these parts, where no line of the run over all rows is refused for want of room
+pub record IsShardText (shard : ShardValue) (input : Input) (text : Text) : Type 0 where
+  pub it : DocumentValue
+  pub is_text : IsTextOf it text
+  pub count : it.count ≡ shard.count
+  pub numbers : it.numbers ≡ shard.number ∷ []
+  pub script : it.script ≡ input.script.items
+  pub told : (givens : Givens) → givens.parts ≡ map (λ part. part.items) input.parts.items → FitAll givens [] (lines input.script.items) → IsPartialAnswer shard_hash givens it
+
+-- the text of what the shard tells of these was written
+pub record IsTextWritten (WasWritten : Text → Text → Type 0) (job : ShardJob) (input : Input) : Type 0 where
+  pub text : Text
+  pub is_text : IsShardText job.shard input text
+  pub written : WasWritten job.partials text
+
+-- what a job's files hold was read, and what its shard tells was written, so far as it is told what was
+pub record IsShardTold (file : Text → Option (List ℕ)) (WasWritten : Text → Text → Type 0) (job : ShardJob) : Type 0 where
+  pub input : Input
+  pub is_input : IsInputOf file job.run input
+  pub text : IsTextWritten WasWritten job input
+
+-- the words ask for a shard of a run over these files, and it was told
+pub record AskToTell (file : Text → Option (List ℕ)) (WasWritten : Text → Text → Type 0) (words : List Text) : Type 0 where
+  pub job : ShardJob
+  pub asked : AskForShard words job
+  pub told : IsShardTold file WasWritten job
+
+-- the words ask for help of it
+abbrev pub AskForShardHelp : List Text → Type 0
+AskForShardHelp words = IsAmong DisplayHelp (fault_of shard_app words) ⊎ IsAmong DisplayVersion (fault_of shard_app words)
+
+-- ---- `join`
+
+-- the text holds this partial answer, if it holds one
+abbrev pub IsAnswerIn : Text → DocumentValue → Type 0
+IsAnswerIn text it = (held : DocumentValue) → IsTextOf held text → it ≡ held
+
+-- the text of a file, so far as it is told what it holds, and what is so of it
+pub record OfText (held : Option Text) (Is : Text → Type 0) : Type 0 where
+  pub text : Text
+  pub told : Tells held text
+  pub is : Is text
+
+-- where these texts are partial answers of one script, so is what was joined of them
+abbrev pub IsJointOf : List Text → DocumentValue → Type 0
+IsJointOf texts it = (givens : Givens) (script : Text) → AllByRecursion (IsPartialText givens script) texts → IsToldOf givens script it
+
+-- and so is its text
+abbrev pub IsJointText : List Text → Text → Type 0
+IsJointText texts text = (givens : Givens) (script : Text) → AllByRecursion (IsPartialText givens script) texts → IsPartialText givens script text
+
+-- where these texts are partial answers of one script, this is its output, if no line of the run over all rows is refused for want of room
+abbrev pub IsJointOutput : Form → List Text → List ℕ → Type 0
+IsJointOutput form texts whole = (hash : Cell → ℕ) (givens : Givens) (script : Text) → givens.manner ≡ in_form form → length givens.parts ≤ part_limit → FitAll givens [] (lines script) →
+    AllByRecursion (IsPartialText givens script) texts → IsOutput hash givens script whole
+
+-- the texts of a job's files, so far as it is told what they hold, and what is so of them
+pub record OfTexts (file : Text → Option (List ℕ)) (names : List Text) (Is : List Text → Type 0) : Type 0 where
+  pub texts : List Text
+  pub told : AreTold file names texts
+  pub is : Is texts
+
+abbrev pub names : JoinJob → List Text
+names job = job.first ∷ job.others.items
+
+-- the bytes are the output of what a job's files hold
+abbrev pub IsOutputOfJoin : (Text → Option (List ℕ)) → JoinJob → List ℕ → Type 0
+IsOutputOfJoin file job whole = OfTexts file (names job) (λ texts. IsJointOutput job.form texts whole)
+
+-- they were joined to a text, which was written under this name
+pub record IsWrittenJoint (WasWritten : Text → Text → Type 0) (name : Text) (texts : List Text) : Type 0 where
+  pub text : Text
+  pub joint : IsJointText texts text
+  pub written : WasWritten name text
+
+-- the text of what was joined was written
+pub record IsWrittenAs (WasWritten : Text → Type 0) (it : DocumentValue) : Type 0 where
+  pub text : Text
+  pub is_text : IsTextOf it text
+  pub written : WasWritten text
+
+-- the bytes are the output of the script, where its shards have told this, and no line of the run over all rows is refused for want of room
+abbrev pub IsOutputOfTold : Form → DocumentValue → List ℕ → Type 0
+IsOutputOfTold form it whole = (hash : Cell → ℕ) (givens : Givens) → givens.manner ≡ in_form form → length givens.parts ≤ part_limit → FitAll givens [] (lines it.script) →
+    IsPartialAnswer shard_hash givens it → IsOutput hash givens it.script whole
+
+-- what a join has left: the writer took its output; or its partial answer was written, where a file of that is named
+abbrev pub Leaves : (Text → Option (List ℕ)) → (Text → Text → Type 0) → ((List ℕ → Type 0) → Type 0) → JoinJob → Option Text → Type 0
+Leaves file WasWritten Takes job None = Takes (IsOutputOfJoin file job)
+Leaves file WasWritten Takes job (Some name) = OfTexts file (names job) (IsWrittenJoint WasWritten name)
+
+-- the words ask for a join of these files, which has left that
+pub record AskAndLeave (file : Text → Option (List ℕ)) (WasWritten : Text → Text → Type 0) (Takes : (List ℕ → Type 0) → Type 0) (words : List Text) : Type 0 where
+  pub job : JoinJob
+  pub asked : AskToJoin words job
+  pub leaves : Leaves file WasWritten Takes job job.partials
+
+-- the words ask for help of it
+abbrev pub AskForJoinHelp : List Text → Type 0
+AskForJoinHelp words = IsAmong DisplayHelp (fault_of join_app words) ⊎ IsAmong DisplayVersion (fault_of join_app words)

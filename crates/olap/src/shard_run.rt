@@ -1,0 +1,169 @@
+//! The command `run --shard`: what one shard of the table tells of a script.
+ghost use Rattle.std.specs.Prelude.{◌≡◌, ◌⊎◌, IfOk, map, string_bytes};
+ghost use Rattle.std.specs.Io.Buffered.{writer_contents};
+ghost use Rattle.std.specs.Io.KnownBytes.{Keeps};
+ghost use Rattle.olap.specs.Partials.{AskForShardHelp, AskToTell, IsShardText, IsShardTold, IsTextWritten};
+
+use crate::close::{NOTHING_RUN, WRITTEN, end_early};
+use crate::input::{Folder, Input, Unread, Unreadable, read_named};
+use crate::program::{cannot_read, refuse};
+use crate::shard_words::{ShardJob, shard_job};
+use crate::written::{Writable, cannot_write};
+use cells::Fnv;
+use script::{Ended, MAX_PARTS, MAX_SCRIPT_BYTES, Untold};
+use std::alloc::{AllocError, Global};
+use std::io::{BufWriter, Write};
+use std::str;
+
+/// Tells of the shard that the words after `run` ask for, over the files that they name, writes that to the file that they name for
+/// it, and gives the program's status and the writer back. Help goes to `out`, and else nothing; why nothing is told goes to `err`.
+///
+/// At 0 the file was written, or help was asked for. At 2 nothing was: the words are refused, a file can't be read, or the shard
+/// can't tell of the script. At 3 memory was refused, or the file can't be written.
+pub fn run_shard<F: Folder, S: Writable, W: Write + Drop, E: Write>(
+    alloc: Global,
+    words: &[String],
+    folder: &F,
+    files: &mut S,
+    out: BufWriter<W>,
+    err: &mut E,
+) -> (u8, BufWriter<W>)
+    ensures status { (result.0 ≡ 0) ⊎ ((result.0 ≡ 2) ⊎ (result.0 ≡ 3)) }
+    ensures told { result.0 ≡ 0 → AskForShardHelp (map string_bytes words.now)
+        ⊎ AskToTell (F.file folder.now) (S.writes files.old files.new) (map string_bytes words.now) }
+    ensures nothing { result.0 ≡ 2 → files.new ≡ files.old }
+    ensures silent { (result.0 ≡ 2) ⊎ (result.0 ≡ 3) → Keeps (writer_contents W.contents out) (writer_contents W.contents result.1) }
+{
+    match shard_job(alloc, words) {
+        Ok(job) => (tell_job(alloc, &job, folder, files, err), out),
+        Err(fault) => refuse(&fault, out, err),
+    }
+}
+
+/// Tells of a shard over the files that the job names, as [`run_shard`] does.
+fn tell_job<F: Folder, S: Writable, E: Write>(
+    alloc: Global,
+    job: &ShardJob,
+    folder: &F,
+    files: &mut S,
+    err: &mut E,
+) -> u8
+    ensures status { (result ≡ 0) ⊎ ((result ≡ 2) ⊎ (result ≡ 3)) }
+    ensures told { result ≡ 0 → IsShardTold (F.file folder.now) (S.writes files.old files.new) job.now }
+    ensures nothing { result ≡ 2 → files.new ≡ files.old }
+{
+    // Where there is no room for the parts, no file is read, and the first is named.
+    let Ok(room) = Vec::with_capacity(alloc, job.run.parts.len()) else {
+        let name = job.run.script.as_str();
+        let why = Unread::Memory;
+        return cannot_read(Unreadable { name, why }, err);
+    };
+    match read_named(alloc, folder, &job.run, room) {
+        Ok(input) => tell_input(alloc, job, &input, files, err),
+        Err(unread) => cannot_read(unread, err),
+    }
+}
+
+/// Tells of a shard over what was read for it.
+fn tell_input<S: Writable, E: Write>(
+    alloc: Global,
+    job: &ShardJob,
+    input: &Input,
+    files: &mut S,
+    err: &mut E,
+) -> u8
+    ensures status { (result ≡ 0) ⊎ ((result ≡ 2) ⊎ (result ≡ 3)) }
+    ensures told { result ≡ 0 → IsTextWritten (S.writes files.old files.new) job.now input.now }
+    ensures nothing { result ≡ 2 → files.new ≡ files.old }
+{
+    let text = match shard_text(alloc, job, input) {
+        Ok(text) => text,
+        Err(why) => return refuse_script(job, input, why, err),
+    };
+    match files.write(job.partials.as_str(), text.as_slice()) {
+        Ok(()) => WRITTEN,
+        Err(why) => cannot_write(job.partials.as_str(), why, err),
+    }
+}
+
+/// Why there is no text of what a shard tells.
+#[derive(Clone, Copy, Drop)]
+enum Textless {
+    /// The script is not UTF-8, and no partial answer can have it.
+    NotUtf8,
+    /// The shard can't tell of the script.
+    Untold(Untold),
+}
+
+impl From<Untold> for Textless {
+    fn from(why: Untold) -> Textless {
+        Textless::Untold(why)
+    }
+}
+
+impl From<AllocError> for Textless {
+    fn from(_refused: AllocError) -> Textless {
+        Textless::Untold(Untold::OutOfMemory)
+    }
+}
+
+/// The text of what the shard tells of a script and its parts.
+fn shard_text(alloc: Global, job: &ShardJob, input: &Input) -> Result<Vec<u8>, Textless>
+    ensures { IfOk result (λ text. IsShardText job.now.shard input.now text.items) }
+{
+    let Ok(script) = str::from_utf8(input.script.as_slice()) else {
+        return Err(Textless::NotUtf8);
+    };
+    let answer = shards::tell::<Fnv>(
+        alloc,
+        script,
+        input.parts.as_slice(),
+        &job.run.how,
+        &job.shard,
+    )?;
+    Ok(shards::write(alloc, &answer)?)
+}
+
+/// Says why the shard can't tell of the script.
+fn refuse_script<E: Write>(job: &ShardJob, input: &Input, why: Textless, err: &mut E) -> u8
+    ensures { (result ≡ 2) ⊎ (result ≡ 3) }
+{
+    let name = job.run.script.as_str();
+    let _ = match why {
+        Textless::Untold(Untold::OutOfMemory) => return end_early(Ended::OutOfMemory, err),
+        Textless::Untold(Untold::TooMuch) => return refuse_size(name, input, err),
+        Textless::Untold(Untold::Shape { line }) => {
+            writeln!(
+                err,
+                "olap: {name}:{line}: a shape is asked for, which no shard can tell"
+            )
+        }
+        Textless::Untold(Untold::TooManyRows { line }) => {
+            writeln!(
+                err,
+                "olap: {name}:{line}: the shard would have more rows than --rows lets in"
+            )
+        }
+        Textless::NotUtf8 => writeln!(err, "olap: {name}: it is not UTF-8"),
+    };
+    NOTHING_RUN
+}
+
+/// Says that the script is too long, or that there are too many parts.
+fn refuse_size<E: Write>(name: &str, input: &Input, err: &mut E) -> u8
+    ensures { result ≡ 2 }
+{
+    let count = input.parts.len();
+    let _ = if count > MAX_PARTS {
+        writeln!(
+            err,
+            "olap: at most {MAX_PARTS} parts are read, and {count} were given"
+        )
+    } else {
+        writeln!(
+            err,
+            "olap: {name}: it has more than {MAX_SCRIPT_BYTES} bytes"
+        )
+    };
+    NOTHING_RUN
+}
