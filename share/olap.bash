@@ -5,7 +5,7 @@ _olap() {
     local options="--workers --depth --small --hash --rows --format --strict --explain --progress --part --help"
     COMPREPLY=()
     if ((COMP_CWORD == 1)); then
-        mapfile -t COMPREPLY < <(compgen -W "run live session query schema check help --help --version" -- "$word")
+        mapfile -t COMPREPLY < <(compgen -W "run live session query schema check join help --help --version" -- "$word")
         return
     fi
     # (the `=` of an option is a word of its own)
@@ -23,13 +23,18 @@ _olap() {
             mapfile -t COMPREPLY < <(compgen -W "classic csv json table" -- "$word")
             return
             ;;
-        --workers | --depth | --small | --rows | --query | --viewers | --shots | --part | --order | --limit | --columns | --delimiter | --number | --null)
+        --partials)
+            compopt -o filenames 2> /dev/null
+            mapfile -t COMPREPLY < <(compgen -f -- "$word")
+            return
+            ;;
+        --workers | --depth | --small | --rows | --shard | --query | --viewers | --shots | --part | --order | --limit | --columns | --delimiter | --number | --null)
             return
             ;;
     esac
     case ${COMP_WORDS[1]} in
         help)
-            mapfile -t COMPREPLY < <(compgen -W "run live session query schema check language $(echo {1..15})" -- "$word")
+            mapfile -t COMPREPLY < <(compgen -W "run live session query schema check shard join language $(echo {1..15})" -- "$word")
             return
             ;;
         live) options+=" --query --viewers --shots --as-they-come" ;;
@@ -37,7 +42,15 @@ _olap() {
         query) options="--columns --delimiter --number --null --trim --order --limit --workers --rows --format --progress --help" ;;
         schema) options="--columns --delimiter --number --null --trim --help" ;;
         check) options="--part --help" ;;
-        run) ;;
+        join) options="--format --partials --help" ;;
+        run)
+            # A shard takes few of the options.
+            if [[ " ${COMP_WORDS[*]:2:COMP_CWORD-2}" =~ " --"(shard|partials) ]]; then
+                options="--shard --partials --rows --part --help"
+            else
+                options+=" --shard --partials"
+            fi
+            ;;
         *) return ;;
     esac
     # After the word `--` all words are file names.

@@ -14,6 +14,7 @@ from cases.table import as_bytes
 TOP = pathlib.Path(__file__).resolve().parent.parent
 PROGRAM = TOP / "crates/olap/out/olap"
 SECONDS = 120
+LATE = f"it did not end in {SECONDS} seconds"
 SHOWN = 2000
 
 
@@ -67,7 +68,7 @@ def tried(program, case):
     try:
         return differences(case, *run(program, case))
     except subprocess.TimeoutExpired:
-        return [f"it did not end in {SECONDS} seconds"]
+        return [LATE]
 
 
 def written_to(program, case, command):
@@ -76,7 +77,10 @@ def written_to(program, case, command):
     with tempfile.TemporaryDirectory() as room:
         lay_out(room, case.files)
         words = ["bash", "-c", command, "bash", program, *case.words]
-        ran = subprocess.run(words, cwd=room, stdin=subprocess.DEVNULL, capture_output=True, timeout=SECONDS)
+        try:
+            ran = subprocess.run(words, cwd=room, stdin=subprocess.DEVNULL, capture_output=True, timeout=SECONDS)
+        except subprocess.TimeoutExpired:
+            return [LATE]
         status, errors = (pathlib.Path(room, name).read_bytes() for name in ("status", "errors"))
     return differences(case, int(status), ran.stdout, errors)
 

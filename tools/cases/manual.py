@@ -68,7 +68,7 @@ def page(word, begins, has=""):
 
 def none(word):
     """A word of which the manual has no page."""
-    there = "There is help of run, live, session, check, query, schema and language, and of the numbers 1 to 15 and 90 to 93.\n"
+    there = "There is help of run, live, session, check, query, schema, shard, join and language, and of the numbers 1 to 15 and 90 to 93.\n"
     return Case(f"help of {word!r}", ["help", word], errors=f"error: no help of '{word}'\n\n{there}", status=2)
 
 
@@ -80,7 +80,7 @@ CASES = [
     Case("check --help", ["check", "--help"], output=Text(has="\nUsage: olap check [--part NAME=FILE]... SCRIPT [PART]...\n")),
     Case("check -h", ["check", "-h"], output=Text(has="\nUsage: olap check [--part NAME=FILE]... SCRIPT [PART]...\n")),
     *[page("language", "The language of scripts\n\n", has) for has in LANGUAGE],
-    *[none(word) for word in ("0", "16", "89", "94", "-1", "+1", "1.0", "", "walk", "Language", "NotGrouped")],
+    *[none(word) for word in ("0", "16", "89", "94", "-1", "+1", "1.0", "", "walk", "Language", "NotGrouped", "shards", "partials")],
     Case("help of two words", ["help", "12", "13"], errors=Text("error: "), status=2),
     Case("help run is the help of run", ["help", "run"], output=Text(has="\nUsage: olap run [OPTIONS] <SCRIPT> [PART]...\n")),
     Case("help tells of help", ["help"], output=Text(has="\n  olap help language ")),
