@@ -9,7 +9,7 @@ use reasons::{PartReason, Reason, Reasons};
 use std::alloc::Global;
 
 /// Which refusals are told.
-#[derive(Clone, Copy, Drop)]
+#[derive(Clone, Copy, PartialEq, Eq, Drop)]
 pub enum Told {
     /// None.
     Nothing,
@@ -96,14 +96,16 @@ fn reasons_of<'a>(alloc: Global, told: Told, input: &'a Input) -> Option<Reasons
 impl<'a, T: Tell> Explaining<'a, T> {
     /// Tells why a line is refused; the line 0 is the script as a whole.
     fn tell_line(&self, line: u64, fault: Refused) {
+        match self.reason(line, fault) {
+            Some(reason) => self.tell_reason(line, &reason, fault),
+            None => self.tell_none(line, fault),
+        }
+    }
+
+    /// Tells the reason of a line, or of the script.
+    fn tell_reason(&self, line: u64, reason: &Reason, fault: Refused) {
         let name = self.script;
         let number = fault.number();
-        let Some(reason) = self.reason(line, fault) else {
-            self.teller.tell(format_args!(
-                "{name}:{line}: no memory for the reason ({number} {fault})"
-            ));
-            return;
-        };
         if line == 0 {
             self.teller
                 .tell(format_args!("{name}: {reason} ({number} {fault})"));
@@ -117,6 +119,15 @@ impl<'a, T: Tell> Explaining<'a, T> {
                 .teller
                 .tell(format_args!("{name}:{line}: {reason} ({number} {fault})")),
         }
+    }
+
+    /// Tells that there is no memory for a line's reason.
+    fn tell_none(&self, line: u64, fault: Refused) {
+        let name = self.script;
+        let number = fault.number();
+        self.teller.tell(format_args!(
+            "{name}:{line}: no memory for the reason ({number} {fault})"
+        ));
     }
 
     /// Tells what is wrong with a record of a part.

@@ -2,7 +2,7 @@
 
 use crate::job::Job;
 use crate::tell::Tell;
-use cells::{Schema, whole_number_of};
+use cells::{Schema, Text, whole_number_of};
 use reasons::{PartFaults, PartReason, Reasons, faults_of_part};
 use script::{MAX_PARTS, MAX_SCRIPT_BYTES};
 use std::alloc::{AllocError, Global};
@@ -27,7 +27,26 @@ pub fn tell_parts<T: Tell>(
         return Ok(());
     };
     let listed = listed_parts(alloc, script, parts.len())?;
-    for ((name, part), is_listed) in job.parts.iter().zip(parts).zip(listed.as_slice()) {
+    tell_listed(
+        alloc,
+        teller,
+        job.parts.as_slice(),
+        parts,
+        listed.as_slice(),
+        schema,
+    )
+}
+
+/// The same of the parts of these names that are listed.
+fn tell_listed<T: Tell>(
+    alloc: Global,
+    teller: &T,
+    names: &[Text],
+    parts: &[Vec<u8>],
+    listed: &[bool],
+    schema: &Schema,
+) -> Result<(), AllocError> {
+    for ((name, part), is_listed) in names.iter().zip(parts).zip(listed) {
         if *is_listed {
             tell_part(alloc, teller, name.as_str(), part.as_slice(), schema)?;
         }

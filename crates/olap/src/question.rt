@@ -158,20 +158,33 @@ pub fn question_of<'w, R: Threads + Screen>(
         return Err(OptionFault::LineBreak);
     }
     let wanted = wanted_of(alloc, parted)?;
+    let question = question_asked(rt, alloc, query, files, parted)?;
+    Ok((question, wanted))
+}
+
+/// The question that a query asks of files.
+fn question_asked<'w, R: Threads + Screen>(
+    rt: &R,
+    alloc: Global,
+    query: &'w str,
+    files: &[&'w str],
+    parted: &Parted<'w>,
+) -> Result<Question<'w>, OptionFault<'w>>
+    ensures query { IfOk result (λ asked. asked.query.now ≡ query.entry.now) }
+    ensures names { IfOk result (λ asked. asked.names.items ≡ map (λ n. n.now) files.now) }
+    ensures bare { IfOk result (λ asked. asked.manner.heads ≡ false) }
+{
     let how = how(rt, parted)?;
     let arrangement = arrangement_of(alloc, query, parted.order, parted.limit)?;
     let manner = manner_of(rt, parted.format, arrangement)?;
     let names = owned(alloc, files)?;
-    Ok((
-        Question {
-            query,
-            names,
-            how,
-            manner,
-            tells_progress: parted.tells_progress,
-        },
-        wanted,
-    ))
+    Ok(Question {
+        query,
+        names,
+        how,
+        manner,
+        tells_progress: parted.tells_progress,
+    })
 }
 
 /// How an answer is told whose form a word names, without a heading: without a word, as a table where standard output is a terminal,
