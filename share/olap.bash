@@ -45,10 +45,10 @@ _olap() {
         join) options="--format --partials --help" ;;
         run)
             # A shard takes few of the options.
-            if [[ " ${COMP_WORDS[*]:2:COMP_CWORD-2}" =~ " --"(shard|partials) ]]; then
-                options="--shard --partials --rows --part --help"
+            if [[ " ${COMP_WORDS[*]:2:COMP_CWORD-2}" =~ " --"(shard|partials|own-parts) ]]; then
+                options="--shard --partials --own-parts --rows --part --help"
             else
-                options+=" --shard --partials"
+                options+=" --shard --partials --own-parts"
             fi
             ;;
         *) return ;;

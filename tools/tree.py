@@ -50,7 +50,11 @@ def size(name):
     return sum(it.stat().st_size for folder in folders for it in folder.rglob("*") if it.is_file())
 
 
+def free():
+    """How many bytes of memory are free."""
+    return int(re.search(r"MemAvailable:\s+(\d+)", pathlib.Path("/proc/meminfo").read_text())[1]) * 1024
+
+
 def lanes():
     """How many checks run side by side: one a processor, as many as memory holds."""
-    free = int(re.search(r"MemAvailable:\s+(\d+)", pathlib.Path("/proc/meminfo").read_text())[1]) * 1024
-    return max(1, min(len(os.sched_getaffinity(0)), free // MEMORY))
+    return max(1, min(len(os.sched_getaffinity(0)), free() // MEMORY))

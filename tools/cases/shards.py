@@ -20,14 +20,14 @@ TREES = ("left", "right", "random", "flat")
 # Partial answers, as a run writes them and as none does.
 
 
-def framed(body, mark=b"olap partial answers 1 "):
+def framed(body, mark=b"olap partial answers 2 "):
     """A text with the right check sum of its body."""
     return mark + hashlib.sha256(body).hexdigest().encode() + b"\n" + body
 
 
-def partial(shards, of=2, text="publish\n", told=(None,)):
+def partial(shards, of=2, text="publish\n", told=(None,), division="keys"):
     """What these shards tell of a script."""
-    return framed(json.dumps({"of": of, "script": text, "shards": shards, "told": told}, separators=(",", ":")).encode())
+    return framed(json.dumps({"of": [division, of], "script": text, "shards": shards, "told": told}, separators=(",", ":")).encode())
 
 
 def flipped(text, at):
@@ -37,7 +37,7 @@ def flipped(text, at):
 
 def body(**members):
     """A body like that of a partial answer, of which some members are other ones, or left out."""
-    all = {"of": 2, "script": "publish\n", "shards": [2], "told": [None], **members}
+    all = {"of": ["keys", 2], "script": "publish\n", "shards": [2], "told": [None], **members}
     return json.dumps({name: value for name, value in all.items() if value is not ...}).encode()
 
 
@@ -47,13 +47,15 @@ OTHER = "it is no partial answer of this version"
 SPOILT = "it is spoilt: its check sum differs, or it ends too soon"
 MALFORMED = "its check sum is right, but not its form"
 UNFIT = "what it tells does not fit what the files before it tell"
+DIVIDED = "--own-parts was given for it and not for the files before it, or the other way round"
 
 # A second file, and why it is refused.
 SECONDS = {
     "an empty file": (b"", OTHER),
     "a script": ("publish\n", OTHER),
     "another word at the front": (flipped(SECOND, 0), OTHER),
-    "a later version": (framed(body(), b"olap partial answers 2 "), OTHER),
+    "an earlier version": (framed(body(), b"olap partial answers 1 "), OTHER),
+    "a later version": (framed(body(), b"olap partial answers 3 "), OTHER),
     "a blank before it": (b" " + SECOND, OTHER),
     "an end within the first word": (SECOND[:10], OTHER),
     "an end within the sum": (SECOND[: HEAD // 2], SPOILT),
@@ -77,8 +79,11 @@ SECONDS = {
     "no member `script`": (framed(body(script=...)), MALFORMED),
     "no member `shards`": (framed(body(shards=...)), MALFORMED),
     "no member `told`": (framed(body(told=...)), MALFORMED),
-    "a text as the number of shards": (framed(body(of="2")), MALFORMED),
-    "a negative number of shards": (framed(body(of=-2)), MALFORMED),
+    "a number of shards alone": (framed(body(of=2)), MALFORMED),
+    "a division alone": (framed(body(of=["keys"])), MALFORMED),
+    "a division that there is not": (framed(body(of=["Keys", 2])), MALFORMED),
+    "a text as the number of shards": (framed(body(of=["keys", "2"])), MALFORMED),
+    "a negative number of shards": (framed(body(of=["keys", -2])), MALFORMED),
     "a number as the script": (framed(body(script=2)), MALFORMED),
     "a shard that is no number": (framed(body(shards=["2"])), MALFORMED),
     "an object that is told": (framed(body(told={})), MALFORMED),
@@ -87,6 +92,8 @@ SECONDS = {
     "a refusal that there is not": (framed(body(told=[["refused", ["line", 16]]])), MALFORMED),
     "another script": (partial([2], text="publish \n"), "it is of another script than the files before it"),
     "another script with another number of shards": (partial([1], 3, "", []), "it is of another script than the files before it"),
+    "parts of its own": (partial([2], division="parts"), DIVIDED),
+    "parts of its own, and another number of shards": (partial([1], 3, division="parts"), DIVIDED),
     "another number of shards": (partial([2], 3), "its table has another number of shards than that of the files before it"),
     "another number of shards and the same shard": (partial([1], 3), "its table has another number of shards than that of the files before it"),
     "the same shard": (FIRST, "shard 1 is in a file before it, too"),
@@ -117,6 +124,8 @@ JOINED = [
     ],
     joined("the first of two that do not fit", [FIRST, FIRST, b""], "p2: shard 1 is in a file before it, too"),
     joined("the third of three", [FIRST, SECOND, b""], f"p3: {OTHER}"),
+    joined("common parts after own ones", [partial([1], division="parts"), SECOND], f"p2: {DIVIDED}"),
+    joined("the same shard of own parts", [partial([1], division="parts")] * 2, "p2: shard 1 is in a file before it, too"),
     joined("a shard of two files", [partial([1], 3), partial([2], 3), partial([3, 2], 3)], "p3: shard 2 is in a file before it, too"),
     joined("one file twice", [FIRST], "p1: shard 1 is in a file before it, too", ["p1", "p1"]),
     joined("a file that is not there", [FIRST], "cannot read p2: no such file", ["p1", "p2"]),
@@ -132,6 +141,7 @@ JOINED = [
     joined("a script that is too long", [partial([1], 1, "\n" * 1_048_577, [])], "the script has more than 1048576 bytes"),
     told("two shards", ["join", "p1", "p2"], [FIRST, SECOND], "line 1 refused 1\n", status=0),
     told("two shards, the other way round", ["join", "p2", "p1"], [FIRST, SECOND], "line 1 refused 1\n", status=0),
+    told("two shards with own parts", ["join", "p1", "p2"], [partial([k], division="parts") for k in (1, 2)], "line 1 refused 1\n", status=0),
     told("one of one shard", ["join", "p1"], [partial([1], 1)], "line 1 refused 1\n", status=0),
     told("three of three shards in two files", ["join", "p1", "p2"], [partial([3, 1], 3), partial([2], 3)], "line 1 refused 1\n", status=0),
     told("a faulty load of two shards", ["join", "p1", "p2"], [partial([k], 2, "table T (K INT KEY)\nload 1\n", [None, ["refused", ["part", [1, 7]]]]) for k in (1, 2)], "line 2 refused 6 part 1 record 7\n", status=0),
@@ -162,6 +172,12 @@ WORDS = [
     refused("run --partials p s", f"{NEEDED}  --shard <K/N>\n"),
     refused("run s --partials=p", f"{NEEDED}  --shard <K/N>\n"),
     refused("run --shard 1/2 --partials p", f"{NEEDED}  <SCRIPT>\n"),
+    refused("run --own-parts s", f"{NEEDED}  --shard <K/N>\n  --partials <FILE>\n"),
+    refused("run --own-parts --shard 1/2 s", f"{NEEDED}  --partials <FILE>\n"),
+    refused("run --own-parts --own-parts --shard 1/2 --partials p s", "'--own-parts'"),
+    refused("run --own-parts=yes --shard 1/2 --partials p s", "'--own-parts'"),
+    refused("live --query Q --own-parts s", "unexpected argument '--own-parts' found\n"),
+    refused("join --own-parts p1 p2", "unexpected argument '--own-parts' found\n"),
     refused("run s --partials p --shard"),
     refused("run s --shard 1/2 --partials"),
     refused("run s --shard 1/2 --shard 1/2 --partials p", "'--shard"),
@@ -192,6 +208,7 @@ WORDS = [
 SHARD = "\nUsage: olap run [OPTIONS] --shard <K/N> --partials <FILE> <SCRIPT> [PART]...\n"
 JOIN = "\nUsage: olap join [OPTIONS] <PARTIALS>...\n"
 HELP = [Case(line, line.split(" "), output=Text(has=SHARD)) for line in ("run --shard 1/2 --help", "run --shard=1/2 -h", "run --partials p --help", "help shard")]
+HELP += [Case("help shard has --own-parts", ["help", "shard"], output=Text(has="\n      --own-parts "))]
 HELP += [Case(line, line.split(" "), output=Text(has=JOIN)) for line in ("join --help", "join -h", "help join")]
 HELP += [Case(f"{line} has {word}", line.split(" "), output=Text(has=f"\n      {word} <")) for line, words in (("help shard", ("--shard", "--partials", "--rows", "--part")), ("help join", ("--format", "--partials"))) for word in words]
 
@@ -205,10 +222,17 @@ FAR = "the shard would have more rows than --rows lets in"
 SHAPE = "a shape is asked for, which no shard can tell"
 
 
+PUT = "a row is put, and with --own-parts each row is in the parts of one shard"
+
+
+def bad_load(why):
+    return f"the load is refused ({why}), and with --own-parts no other shard knows of it"
+
+
 def untold(title, text, errors, options=(), names=("q",), script="s"):
     """A script over a part, of which a shard tells nothing."""
     words = ["run", *options, "--shard", "1/1", "--partials", "p", script, *names]
-    return Case(f"run: {title}", words, {"s": text, "q": "K\n1\n2\n"}, errors=f"olap: {errors}\n", status=2)
+    return Case(f"run: {title}", words, {"s": text, "q": "K\n1\n2\n", "bad": "K\n1\nx\n"}, errors=f"olap: {errors}\n", status=2)
 
 
 UNTOLD = [
@@ -228,7 +252,24 @@ UNTOLD = [
     untold("no part of a name", "", "cannot read r: no such file", ["--part", "a=r"]),
     untold("no script and no part", "", "cannot read t: no such file", script="t", names=["r"]),
     untold("a folder", "", "cannot read .: it is a folder", names=["."]),
+    *[
+        untold(f"own parts: {title}", text, errors, ["--own-parts", *options], names)
+        for title, text, errors, options, names in (
+            ("a put", TABLE + "load 1\nput 3\nput 4\n", f"s:3: {PUT}", (), ("q",)),
+            ("a put after one of another text and one before the table", "put 1\n" + TABLE + "put x\n# put 2\nput 2", f"s:5: {PUT}", (), ("q",)),
+            ("a put after a shape and a load that is refused", TABLE + "shape\nload 2\nput 2\n", f"s:4: {PUT}", (), ("q",)),
+            ("no part of this number", TABLE + "load 1 2\n", f"s:2: {bad_load('5')}", (), ("q",)),
+            ("a list of other words", TABLE + "load 1  1\nload 2\n", f"s:2: {bad_load('3')}", (), ("q",)),
+            ("a faulty record", TABLE + "load 1\npublish\nload 1 2\n", f"s:4: {bad_load('6 part 2 record 2')}", (), ("q", "bad")),
+            ("another header", TABLE + "load 1\n", f"s:2: {bad_load('6 part 1 record 0')}", (), ("s",)),
+            ("a shape after a load that is refused", TABLE + "load 2\nshape\n", f"s:3: {SHAPE}", (), ("q",)),
+            ("a row too many", TABLE + "load 1\n", f"s:2: {FAR}", ("--rows=1",), ("q",)),
+            ("65 parts and a put", TABLE + "put 1\n", "at most 64 parts are read, and 65 were given", (), ("q",) * 65),
+            ("a put in a script that is too long", TABLE + "put 1\n" + "\n" * 1_048_577, "s: it has more than 1048576 bytes", (), ("q",)),
+        )
+    ],
     # What is told is looked at where it is joined, below.
+    Case("run: a shard with parts of its own", ["run", "--shard", "1/2", "--own-parts", "--partials", "p", "s", "q"], {"s": TABLE + "load 1\ndelete 1\npublish\nreport SELECT K FROM T GROUP BY K\n", "q": "K\n1\n2\n"}),
     Case("run: a shard of two", ["run", "--shard", "1/2", "--partials", "p", "s", "q"], {"s": FORTY + "load 1\npublish\nreport SELECT K FROM T GROUP BY K\n", "q": "K\n41\n42\n"}),
 ]
 
@@ -304,6 +345,29 @@ def random_script(chance, lines):
     return end.join([*first, "publish", *(f"report SELECT {query}" for query in QUERIES)]), texts
 
 
+def own_script(chance, lines):
+    """A script of about so many lines that puts no row and loads no part with a fault, and two parts of all rows."""
+    kinds = [lambda: f"delete {chance.randrange(40)}"] * 3 + [lambda: f"load {chance.choice(['1', '2', '2 1', '1 1'])}"] * 2 + [lambda: "publish"] * 2
+    kinds += [lambda: f"report SELECT {chance.choice(QUERIES)}"] * 2 + [lambda: chance.choice([it for it in REFUSED if not it.startswith("load")])]
+    first = ["put 1", SALES, "load 1 2", "publish", *(chance.choice(kinds)() for _ in range(lines)), "publish", *(f"report SELECT {query}" for query in QUERIES)]
+    return "\n".join(first), [[row(chance) for _ in range(count)] for count in (40, 9)]
+
+
+def own_pipeline(number, count, tree, form, chance):
+    """So many shards, each with the rows of its keys in parts of its own, in some order of the keys' first rows, beside one run over all rows."""
+    text, rows = own_script(chance, 30)
+    owner = {f"{key}": chance.randrange(count) + 1 for key in range(40)}
+    header = "ID,REGION,ITEM,UNITS"
+    names = [f"part{part}.csv" for part in range(1, len(rows) + 1)]
+    own = {f"{shard}.{name}": "\n".join([header, *(it for it in some if owner[it.split(",")[0]] == shard)]) for shard in range(1, count + 1) for name, some in zip(names, rows)}
+    # (of the run over all rows: the rows of one shard after those of another)
+    whole = {name: "\n".join([header, *sorted(some, key=lambda it: owner[it.split(",")[0]])]) for name, some in zip(names, rows)}
+    joins, last = tree_of(tree, count, chance)
+    tells = f'for k in $(seq {count}); do "$olap" run --own-parts --shard $k/{count} --partials $k {SCRIPT} {" ".join(f"$k.{name}" for name in names)}; done'
+    compared = [f'"$olap" run --format {form} {SCRIPT} {" ".join(names)} > whole', f'"$olap" join --format {form} {last} > joined', "cmp joined whole"]
+    return by_shell(f"own parts {number}: {count} shards, {tree} tree, {form}", "; ".join([tells, *joins, *compared]), **{SCRIPT: text, **own, **whole})
+
+
 def is_utf8(text):
     return text == text.decode(errors="ignore").encode()
 
@@ -335,6 +399,8 @@ def pipelines(chance):
                 yield pipeline("all kinds of lines", rich, texts, count, tree, form, chance)
     for number in range(1, 25):
         yield pipeline(f"random script {number}", *random_script(chance, 40), chance.choice(COUNTS), chance.choice(TREES), chance.choice(FORMS), chance)
+    for number in range(1, 25):
+        yield own_pipeline(number, chance.choice(COUNTS), chance.choice(TREES), chance.choice(FORMS), chance)
     for title, text, texts, output in drawn():
         yield pipeline(title, text, texts, chance.choice(COUNTS), chance.choice(TREES), chance.choice(FORMS), chance, output)
     by_names = "table T (K INT KEY, V INT)\nload south part1\nload 1 south\npublish\nreport SELECT K, V FROM T GROUP BY K, V\n"
@@ -360,6 +426,9 @@ def files(title, command, output="", errors="", status=0, **more):
 OF_FILES = [
     files("what a shard tells", f"{RUN} p s; cmp p p1"),
     files("the last of as many shards as there may be", f'"$olap" run --shard 18446744073709551615/18446744073709551615 --partials p s; cmp p far', far=partial([2**64 - 1], 2**64 - 1)),
+    files("what a shard with parts of its own tells", f'"$olap" run --shard 1/2 --own-parts --partials p s; cmp p own', own=partial([1], division="parts")),
+    files("own parts, and a shard that has no row", 'for k in 1 2; do "$olap" run --own-parts --shard $k/2 --partials p$k s part$k; done; "$olap" join p1 p2', "line 4 edition 1\nCOUNT(*) | MAX(K)\n2 | 7\n", s=TABLE + "load 1\npublish\nreport SELECT COUNT(*), MAX(K) FROM T\n", part1="K\n5\n7\n", part2="K\n"),
+    files("own parts by their names", 'for k in 1 2; do "$olap" run --own-parts --shard $k/2 --partials p$k --part south=part$k s; done; "$olap" join p2 p1', "line 5 edition 1\nK\n1\n2\n", s=TABLE + "load south\ndelete 3\npublish\nreport SELECT K FROM T GROUP BY K\n", part1="K\n1\n", part2="K\n2\n3\n"),
     files("a shard by numbers with zeros", '"$olap" run s --partials=p --shard=0001/02; cmp p p1'),
     files("a file that is replaced", f"echo old > p; echo old > p.new; {RUN} p s; cmp p p1; ls p*", "p\np1\np2\n"),
     files("a file in a folder", f"mkdir d; {RUN} d/p s; cmp d/p p1; ls d", "p\n"),

@@ -23,7 +23,6 @@ use crate::laying::trie_of;
 use crate::report_row::{ReportRow, add_values, behind, row_of};
 use crate::rising::{in_order, rise};
 use cells::{Cell, KeyHash, Total, Tuple};
-use itertools::Itertools;
 use query::{GroupSet, Item, Plan, Truth};
 use std::alloc::{AllocError, Global};
 use std::vec::IntoIter;
@@ -37,8 +36,9 @@ pub(crate) fn by_tuple<'a, H: KeyHash<Cell> + KeyHash<Tuple>>(
     ensures all { IfOk result (λ it. IsPermutation groups.now (lent (into_iter_items it))) }
     ensures rising { IfOk result (λ it. IsSorted tuple_cmp (keys_of (lent (into_iter_items it)))) }
 {
-    let groups = groups.entries(alloc)?;
-    groups.into_iter().sorted_by_key(alloc, |group| group.0)
+    let mut all = groups.entries(alloc)?;
+    all.sort_by_key(|group| group.0)?;
+    Ok(all.into_iter())
 }
 
 /// The items that are shown: those of the select list.

@@ -79,13 +79,6 @@ listed_more hash_of takes t said count next piece old new shares more all so_far
       ∙ ap (λ n. before (so_far.rs ++ read.rs) (rows_of_pieces t n new)) (sym counts);
 }
 
--- one piece was taken that has a faulty record
-pub listed_fault : (hash_of : Cell → ℕ) (takes : Cell → Bool) (t : Table) (said : Result (List RowValue) FaultyRecord) (count entry number : ℕ) (piece : Piece) (old new : List Piece) (shares : List Pairs) →
-    Listed hash_of takes t said count old shares → old ≡ piece ∷ new → rows_of_piece t piece ≡ Err number → entry ≡ records_before piece count + number →
-    said ≡ Err (record { part = piece.part; entry = entry })
-listed_fault hash_of takes t said count entry number piece old new shares so_far took faulty is =
-    said_by t said so_far.rs count piece old new (Err number) so_far.is took faulty ∙ ap (λ n. Err (record { part = piece.part; entry = n })) (sym is)
-
 -- all pieces were taken
 pub listed_end : (hash_of : Cell → ℕ) (takes : Cell → Bool) (t : Table) (said : Result (List RowValue) FaultyRecord) (count : ℕ) (left : List Piece) (shares : List Pairs) → Listed hash_of takes t said count left shares →
     left ≡ [] → IsRead hash_of takes t said shares

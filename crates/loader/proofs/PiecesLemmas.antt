@@ -1,5 +1,5 @@
 -- What the pieces of parts say, one behind another, is what the parts say.
-use Rattle.std.proofs.Common.{◌≡◌, ℕ, suc, ◌+◌, ◌<◌, Bool, true, false, Option, Some, None, List, [], ◌∷◌, ◌++◌, drop, get_or, length, map, refl, ap, sym, subst, ◌∙◌, arith, append_assoc}
+use Rattle.std.proofs.Common.{◌≡◌, ℕ, suc, ◌+◌, ◌<◌, Bool, true, false, Option, Some, None, List, [], ◌∷◌, ◌++◌, drop, get_or, length, map, refl, ap, sym, ◌∙◌, arith, append_assoc}
 use Rattle.std.proofs.Math.Seq.{drop-cons}
 use Rattle.std.proofs.lemmas.List.{append-nil, length-append}
 use Rattle.std.specs.Borrow.{Bor}
@@ -186,10 +186,6 @@ cut_more parts old new pieces all part own so_far took is joined_to = record {
     each = zip_more IsInPieces so_far.done so_far.are.of_parts part own so_far.are.each is;
   };
 }
-
-pub cut_end : (parts left : List Part) (pieces : List Piece) → CutSoFar parts left pieces → left ≡ [] → ArePieces parts pieces
-cut_end parts left pieces so_far none =
-    subst (λ all. ArePieces all pieces) (sym (append-nil so_far.done) ∙ ap (λ rest. so_far.done ++ rest) (sym none) ∙ so_far.all) so_far.are
 
 -- the part at a place, and those behind it
 taken : (parts : List (ℕ × Bor (List ℕ))) (place : ℕ) (other : ℕ × Bor (List ℕ)) → place < length parts →

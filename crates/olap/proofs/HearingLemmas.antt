@@ -85,11 +85,6 @@ lines_last line h n = ap lines_of_parts (slice_split_none (λ b. b == 10) line (
 
 -- ---- what is heard
 
--- nothing yet
-pub listens_none : (a : Option (List ℕ)) (line : List ℕ) → line ≡ [] → Listens a a line
-listens_none None line e = record { seen = []; within = λ k d l. absurd (omega arith); is_kept = e; consumed = tt }
-listens_none (Some x) line e = record { seen = []; within = λ k d l. absurd (omega arith); is_kept = e; consumed = refl }
-
 -- more of a line
 seen_more : (old mid new : Option (List ℕ)) (line after : List ℕ) (met : Met) → (l : Listens old mid line) (t : TakesPiece mid new line after met) →
     (after ≡ kept (l.seen ++ t.piece)) × All (λ byte. byte ≢ 10) (l.seen ++ t.piece) × Consumes old new ((l.seen ++ t.piece) ++ bytes_of met)

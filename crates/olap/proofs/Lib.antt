@@ -1,13 +1,6 @@
-pub mod CommandLineLemmas
 pub mod FoldersLemmas
 pub mod HearingLemmas
-pub mod NamingLemmas
-pub mod OptionsLemmas
 pub mod PartialsLemmas
 pub mod ProgramLemmas
-pub mod ProposalsLemmas
 pub mod QueriesLemmas
-pub mod QuestionsLemmas
-pub mod SessionWordsLemmas
-pub mod ShardWordsLemmas
 pub mod TalksLemmas

@@ -1,23 +1,29 @@
 -- Partial answers in files, joined one after another.
-use Rattle.std.proofs.Common.{◌≡◌, ◌<◌, ◌+◌, ◌∙◌, ◌∷◌, ◌++◌, ℕ, List, [], Option, ap, length, slice_index_or, subst, sym, take}
+use Rattle.std.proofs.Common.{◌≡◌, ◌<◌, ◌+◌, ◌∙◌, ◌∷◌, ◌++◌, ℕ, List, [], Option, ap, inl, inr, length, slice_index_or, subst, sym, take}
 use Rattle.std.proofs.lemmas.List.{take_more}
 use Rattle.std.specs.List.{AllByRecursion}
-use Rattle.clap.specs.Words.{Text}
+use Rattle.std.specs.Prelude.{◌⊎◌}
+use Rattle.clap.specs.Words.{IsAmong, Text, fault_of}
+use Rattle.clap.specs.declared.error.kind.ErrorKind.TheVariants.{DisplayHelp, DisplayVersion}
+use Rattle.command.specs.Jobs.{IsHelp}
+use Rattle.command.specs.ShardWords.{ExplainsShardFault, shard_app}
+use Rattle.command.specs.declared.job.WordsFault.{WordsFault}
+use Rattle.command.specs.declared.job.WordsFault.TheVariants.{Clap, Naming, NoScript, OutOfRange}
 use Rattle.forms.specs.declared.form.Form.{Form}
 use Rattle.script.specs.Givens.{Givens}
-use Rattle.shards.specs.Answers.{IsPartialAnswer}
+use Rattle.shards.specs.Answers.{IsPartialAnswer, Sharding}
 use Rattle.shards.specs.Documents.{DocumentValue}
 use Rattle.olap.proofs.FoldersLemmas.{told_more}
-use Rattle.olap.specs.Partials.{IsAnswerIn, IsJointOf, IsJointOutput, IsOutputOfTold, IsPartialText, IsToldOf, IsWrittenAs, IsWrittenJoint, OfText, OfTexts, shard_hash}
+use Rattle.olap.specs.Partials.{IsAnswerIn, IsJointOf, IsJointOutput, IsOutputOfTold, IsPartialText, IsToldOf, IsWrittenAs, IsWrittenJoint, OfText, OfTexts}
 
 -- what is told of a text's answer is told of the one that was read
-told_in : (givens : Givens) (script text : Text) (it : DocumentValue) → IsAnswerIn text it → IsPartialText givens script text → IsToldOf givens script it
-told_in givens script text it is p = subst (IsToldOf givens script) (sym (is p.it p.is_text)) p.told
+told_in : (sharding : Sharding) (givens : Givens) (script text : Text) (it : DocumentValue) → IsAnswerIn text it → IsPartialText sharding givens script text → IsToldOf sharding givens script it
+told_in sharding givens script text it is p = subst (IsToldOf sharding givens script) (sym (is p.it p.is_text)) p.told
 
 -- the first file
 pub joint_first : (file : Text → Option (List ℕ)) (name : Text) (it : DocumentValue) → OfText (file name) (λ text. IsAnswerIn text it) →
     OfTexts file (name ∷ []) (λ texts. IsJointOf texts it)
-joint_first file name it one = record { texts = one.text ∷ []; told = (one.told, tt); is = λ givens script all. told_in givens script one.text it one.is all.0 }
+joint_first file name it one = record { texts = one.text ∷ []; told = (one.told, tt); is = λ sharding givens script all. told_in sharding givens script one.text it one.is all.0 }
 
 all_before : (P : Text → Type 0) (texts : List Text) (text : Text) → AllByRecursion P (texts ++ text ∷ []) → AllByRecursion P texts × P text
 all_before P [] text all = (tt, all.0)
@@ -25,7 +31,7 @@ all_before P (t ∷ texts) text all = let p = all_before P texts text all.1 in (
 
 -- two partial answers were joined
 pub record Joins (first second it : DocumentValue) : Type 0 where
-  pub told : (givens : Givens) → IsPartialAnswer shard_hash givens first → IsPartialAnswer shard_hash givens second → IsPartialAnswer shard_hash givens it
+  pub told : (sharding : Sharding) (givens : Givens) → IsPartialAnswer sharding givens first → IsPartialAnswer sharding givens second → IsPartialAnswer sharding givens it
   pub script : it.script ≡ first.script
 
 -- the next file
@@ -34,11 +40,11 @@ pub joint_more : (file : Text → Option (List ℕ)) (names : List Text) (name :
 joint_more file names name old next it before one joins = record {
   texts = before.texts ++ one.text ∷ [];
   told = told_more file names before.texts name one.text before.told one.told;
-  is = λ givens script all.
-      let p = all_before (IsPartialText givens script) before.texts one.text all in
-      let first = before.is givens script p.0 in
-      let second = told_in givens script one.text next one.is p.1 in
-      record { is_script = joins.script ∙ first.is_script; told = joins.told givens first.told second.told };
+  is = λ sharding givens script all.
+      let p = all_before (IsPartialText sharding givens script) before.texts one.text all in
+      let first = before.is sharding givens script p.0 in
+      let second = told_in sharding givens script one.text next one.is p.1 in
+      record { is_script = joins.script ∙ first.is_script; told = joins.told sharding givens first.told second.told };
 }
 
 pub joint_next : (file : Text → Option (List ℕ)) (first : Text) (others : List Text) (i : ℕ) (item name : Text) (old next it : DocumentValue) →
@@ -54,7 +60,7 @@ pub written_joint : (file : Text → Option (List ℕ)) (WasWritten : Text → T
 written_joint file WasWritten names name it joint wrote = record {
   texts = joint.texts;
   told = joint.told;
-  is = record { text = wrote.text; joint = λ givens script all. record { it = it; is_text = wrote.is_text; told = joint.is givens script all }; written = wrote.written };
+  is = record { text = wrote.text; joint = λ sharding givens script all. record { it = it; is_text = wrote.is_text; told = joint.is sharding givens script all }; written = wrote.written };
 }
 
 -- and its output
@@ -63,7 +69,19 @@ pub output_of_joint : (file : Text → Option (List ℕ)) (form : Form) (names :
 output_of_joint file form names it joint whole is = record {
   texts = joint.texts;
   told = joint.told;
-  is = λ hash givens script manner parts fit all.
-      let t = joint.is givens script all in
-      rw (← t.is_script) (is hash givens manner parts (rw t.is_script fit) t.told);
+  is = λ hash sharding givens script manner parts fit all.
+      let t = joint.is sharding givens script all in
+      rw (← t.is_script) (is hash sharding givens manner parts (rw t.is_script fit) t.told);
 }
+
+-- ---- words
+
+-- a fault that shows help asks for it
+pub help_of_shard : (words : List Text) (fault : WordsFault) → ExplainsShardFault words fault → IsHelp fault → IsAmong DisplayHelp (fault_of shard_app words) ⊎ IsAmong DisplayVersion (fault_of shard_app words)
+help_of_shard words (Clap e) (inl memory) (inl help) = absurd cc
+help_of_shard words (Clap e) (inl memory) (inr version) = absurd cc
+help_of_shard words (Clap e) (inr among) (inl help) = inl (subst (λ k. IsAmong k (fault_of shard_app words)) help among)
+help_of_shard words (Clap e) (inr among) (inr version) = inr (subst (λ k. IsAmong k (fault_of shard_app words)) version among)
+help_of_shard words (OutOfRange it) why help = absurd help
+help_of_shard words (Naming fault) why help = absurd help
+help_of_shard words NoScript why help = absurd help

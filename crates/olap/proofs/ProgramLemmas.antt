@@ -12,11 +12,11 @@ use Rattle.script.specs.Manners.{in_form}
 use Rattle.script.specs.Stops.{HoweverFinished}
 use Rattle.script.specs.Viewers.{IsRunBy}
 use Rattle.script.specs.declared.finish.Finish.{Finish}
-use Rattle.olap.specs.Jobs.{Ask}
+use Rattle.command.specs.Jobs.{Ask}
 use Rattle.olap.specs.Programs.{AskToWrite, IsInputOf, IsOutputOfJob}
 use Rattle.olap.specs.declared.input.Input.{Input}
 use Rattle.report.specs.Taken.{TakesBeginning}
-use Rattle.olap.specs.declared.job.Job.{Job}
+use Rattle.command.specs.declared.job.Job.{Job}
 
 -- all of it is a beginning
 takes_all : (a b : Option (List ℕ)) (whole : List ℕ) → Appends a b whole → TakesBeginning a b whole

@@ -8,12 +8,11 @@ use Rattle.script.specs.Stops.{HoweverFinished}
 use Rattle.script.specs.declared.finish.Finish.{Finish}
 use Rattle.script.specs.declared.finish.Finish.TheVariants.{Stopped}
 use Rattle.olap.specs.Folders.{AreTold}
-use Rattle.olap.specs.Options.{AreAmong}
-use Rattle.olap.specs.Proposals.{IsAsked}
-use Rattle.olap.specs.Queries.{AskToAnswer, IsAnswer, IsAnswerOfNamed, IsStrictOutput, Leaves}
+use Rattle.questions.specs.Options.{AreAmong}
+use Rattle.olap.specs.Queries.{AskToAnswer, IsAnswer, IsAnswerOfNamed, IsAsked, IsStrictOutput, Leaves}
 use Rattle.olap.specs.declared.input.Input.{Input}
-use Rattle.olap.specs.declared.question.Question.{Question}
-use Rattle.olap.specs.declared.question.Wanted.{Wanted}
+use Rattle.questions.specs.declared.question.Question.{Question}
+use Rattle.questions.specs.declared.question.Wanted.{Wanted}
 use Rattle.olap.proofs.ProgramLemmas.{begins_however, writes_as}
 
 -- ---- the writer

@@ -20,8 +20,8 @@ use Rattle.script.specs.Stops.{StopsAfter, Tells, stops}
 use Rattle.clap.specs.Words.{Text}
 use Rattle.script.specs.Hows.{hash_of_choice}
 use Rattle.olap.specs.Folders.{AreTold}
-use Rattle.olap.specs.SessionWords.{AskForSession}
-use Rattle.olap.specs.declared.session_words.SessionJob.{SessionJob}
+use Rattle.command.specs.SessionWords.{AskForSession}
+use Rattle.command.specs.declared.session_words.SessionJob.{SessionJob}
 use Rattle.olap.specs.Talks.{AreRepliesUpTo, AskToTalk, Holds, IsOfJob, IsTalk, IsTalkSoFar}
 use Rattle.olap.specs.Talks as talks
 use Rattle.script.specs.declared.finish.Finish.{Finish}

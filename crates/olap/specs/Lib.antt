@@ -1,15 +1,7 @@
-pub mod CommandLine
 pub mod Folders
 pub mod Hearing
-pub mod Jobs
-pub mod Naming
-pub mod Options
 pub mod Partials
 pub mod Programs
-pub mod Proposals
 pub mod Queries
-pub mod Questions
-pub mod SessionWords
-pub mod ShardWords
 pub mod Talks
 pub mod Topics

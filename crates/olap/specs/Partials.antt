@@ -7,51 +7,69 @@ use Rattle.clap.specs.declared.error.kind.ErrorKind.TheVariants.{DisplayHelp, Di
 use Rattle.cells.specs.Hashes.{fnv_hash}
 use Rattle.cells.specs.declared.cell.Cell.{Cell}
 use Rattle.forms.specs.declared.form.Form.{Form}
-use Rattle.loader.specs.Shards.{ShardValue}
+use Rattle.loader.specs.Shards.{ShardValue, shard_of}
 use Rattle.script.specs.Givens.{Givens}
 use Rattle.script.specs.Limits.{part_limit}
 use Rattle.script.specs.Manners.{in_form}
 use Rattle.script.specs.Output.{IsOutput}
 use Rattle.script.specs.Told.{FitAll}
-use Rattle.shards.specs.Answers.{IsPartialAnswer}
+use Rattle.shards.specs.Answers.{HasOwnParts, IsPartialAnswer, Sharding}
 use Rattle.shards.specs.Documents.{DocumentValue, IsTextOf}
+use Rattle.shards.specs.declared.division.Division.{Division}
+use Rattle.shards.specs.declared.division.Division.TheVariants.{Keys, Parts}
 use Rattle.olap.specs.Folders.{AreTold, Tells}
 use Rattle.olap.specs.Programs.{IsInputOf}
-use Rattle.olap.specs.ShardWords.{AskForShard, AskToJoin, join_app, shard_app}
+use Rattle.command.specs.ShardWords.{AskForShard, AskToJoin, join_app, shard_app}
 use Rattle.olap.specs.declared.input.Input.{Input}
-use Rattle.olap.specs.declared.shard_words.JoinJob.{JoinJob}
-use Rattle.olap.specs.declared.shard_words.ShardJob.{ShardJob}
+use Rattle.command.specs.declared.shard_words.JoinJob.{JoinJob}
+use Rattle.command.specs.declared.shard_words.ShardJob.{ShardJob}
 
 -- which shard a key belongs to is told by this hash, on every machine
 abbrev pub shard_hash : Cell → ℕ
 shard_hash = fnv_hash
 
--- shards tell this of the script, over the parts that a run is given
-pub record IsToldOf (givens : Givens) (script : Text) (it : DocumentValue) : Type 0 where
+-- shards tell this of the script, over the parts that a run over all rows is given; keys belong to shards so
+pub record IsToldOf (sharding : Sharding) (givens : Givens) (script : Text) (it : DocumentValue) : Type 0 where
   pub is_script : it.script ≡ script
-  pub told : IsPartialAnswer shard_hash givens it
+  pub told : IsPartialAnswer sharding givens it
 
 -- and this is its text
-pub record IsPartialText (givens : Givens) (script text : Text) : Type 0 where
+pub record IsPartialText (sharding : Sharding) (givens : Givens) (script text : Text) : Type 0 where
   pub it : DocumentValue
   pub is_text : IsTextOf it text
-  pub told : IsToldOf givens script it
+  pub told : IsToldOf sharding givens script it
 
 -- ---- `run --shard`
 
--- the text is what the shard tells of a script over these parts, where no line of the run over all rows is refused for want of room
-pub record IsShardText (shard : ShardValue) (input : Input) (text : Text) : Type 0 where
-  pub it : DocumentValue
-  pub is_text : IsTextOf it text
+-- the parts that were read
+abbrev pub parts_of : Input → List (List ℕ)
+parts_of input = map (λ part. part.items) input.parts.items
+
+-- it is what the shard tells of a script: over these parts, where the table is divided by keys, and else over the parts of a run of whose
+-- rows it has these parts; no line of the run over all rows is refused for want of room
+abbrev pub TellsOfShard : Division → ShardValue → Input → DocumentValue → Type 0
+TellsOfShard Keys shard input it = (givens : Givens) → givens.parts ≡ parts_of input → FitAll givens [] (lines input.script.items) → IsPartialAnswer (shard_of shard_hash) givens it
+TellsOfShard Parts shard input it = (sharding : Sharding) (givens : Givens) → HasOwnParts sharding givens shard input.script.items (parts_of input) → FitAll givens [] (lines input.script.items) →
+    IsPartialAnswer sharding givens it
+
+-- it is the partial answer of the shard
+pub record IsShardAnswer (division : Division) (shard : ShardValue) (input : Input) (it : DocumentValue) : Type 0 where
+  pub divided : it.division ≡ division
   pub count : it.count ≡ shard.count
   pub numbers : it.numbers ≡ shard.number ∷ []
   pub script : it.script ≡ input.script.items
-  pub told : (givens : Givens) → givens.parts ≡ map (λ part. part.items) input.parts.items → FitAll givens [] (lines input.script.items) → IsPartialAnswer shard_hash givens it
+  pub told : TellsOfShard division shard input it
+
+-- and this is its text
+pub record IsShardText (division : Division) (shard : ShardValue) (input : Input) (text : Text) : Type 0 where
+  pub it : DocumentValue
+  pub is_text : IsTextOf it text
+  pub answer : IsShardAnswer division shard input it
 
 -- the text of what the shard tells of these was written
 pub record IsTextWritten (WasWritten : Text → Text → Type 0) (job : ShardJob) (input : Input) : Type 0 where
   pub text : Text
-  pub is_text : IsShardText job.shard input text
+  pub is_text : IsShardText job.division job.shard input text
   pub written : WasWritten job.partials text
 
 -- what a job's files hold was read, and what its shard tells was written, so far as it is told what was
@@ -84,16 +102,16 @@ pub record OfText (held : Option Text) (Is : Text → Type 0) : Type 0 where
 
 -- where these texts are partial answers of one script, so is what was joined of them
 abbrev pub IsJointOf : List Text → DocumentValue → Type 0
-IsJointOf texts it = (givens : Givens) (script : Text) → AllByRecursion (IsPartialText givens script) texts → IsToldOf givens script it
+IsJointOf texts it = (sharding : Sharding) (givens : Givens) (script : Text) → AllByRecursion (IsPartialText sharding givens script) texts → IsToldOf sharding givens script it
 
 -- and so is its text
 abbrev pub IsJointText : List Text → Text → Type 0
-IsJointText texts text = (givens : Givens) (script : Text) → AllByRecursion (IsPartialText givens script) texts → IsPartialText givens script text
+IsJointText texts text = (sharding : Sharding) (givens : Givens) (script : Text) → AllByRecursion (IsPartialText sharding givens script) texts → IsPartialText sharding givens script text
 
 -- where these texts are partial answers of one script, this is its output, if no line of the run over all rows is refused for want of room
 abbrev pub IsJointOutput : Form → List Text → List ℕ → Type 0
-IsJointOutput form texts whole = (hash : Cell → ℕ) (givens : Givens) (script : Text) → givens.manner ≡ in_form form → length givens.parts ≤ part_limit → FitAll givens [] (lines script) →
-    AllByRecursion (IsPartialText givens script) texts → IsOutput hash givens script whole
+IsJointOutput form texts whole = (hash : Cell → ℕ) (sharding : Sharding) (givens : Givens) (script : Text) → givens.manner ≡ in_form form → length givens.parts ≤ part_limit → FitAll givens [] (lines script) →
+    AllByRecursion (IsPartialText sharding givens script) texts → IsOutput hash givens script whole
 
 -- the texts of a job's files, so far as it is told what they hold, and what is so of them
 pub record OfTexts (file : Text → Option (List ℕ)) (names : List Text) (Is : List Text → Type 0) : Type 0 where
@@ -122,8 +140,8 @@ pub record IsWrittenAs (WasWritten : Text → Type 0) (it : DocumentValue) : Typ
 
 -- the bytes are the output of the script, where its shards have told this, and no line of the run over all rows is refused for want of room
 abbrev pub IsOutputOfTold : Form → DocumentValue → List ℕ → Type 0
-IsOutputOfTold form it whole = (hash : Cell → ℕ) (givens : Givens) → givens.manner ≡ in_form form → length givens.parts ≤ part_limit → FitAll givens [] (lines it.script) →
-    IsPartialAnswer shard_hash givens it → IsOutput hash givens it.script whole
+IsOutputOfTold form it whole = (hash : Cell → ℕ) (sharding : Sharding) (givens : Givens) → givens.manner ≡ in_form form → length givens.parts ≤ part_limit → FitAll givens [] (lines it.script) →
+    IsPartialAnswer sharding givens it → IsOutput hash givens it.script whole
 
 -- what a join has left: the writer took its output; or its partial answer was written, where a file of that is named
 abbrev pub Leaves : (Text → Option (List ℕ)) → (Text → Text → Type 0) → ((List ℕ → Type 0) → Type 0) → JoinJob → Option Text → Type 0

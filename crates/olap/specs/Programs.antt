@@ -9,12 +9,12 @@ use Rattle.script.specs.Manners.{in_form}
 use Rattle.script.specs.Output.{IsOutput}
 use Rattle.script.specs.Viewers.{IsRunBy}
 use Rattle.script.specs.declared.finish.Finish.{Finish}
-use Rattle.olap.specs.CommandLine.{olap}
+use Rattle.command.specs.CommandLine.{olap}
 use Rattle.olap.specs.Folders.{AreTold, Tells}
-use Rattle.olap.specs.Jobs.{Ask}
-use Rattle.olap.specs.Naming.{resolved}
+use Rattle.command.specs.Jobs.{Ask}
+use Rattle.command.specs.Naming.{resolved}
 use Rattle.olap.specs.declared.input.Input.{Input}
-use Rattle.olap.specs.declared.job.Job.{Job}
+use Rattle.command.specs.declared.job.Job.{Job}
 
 -- the words ask for help or for the version
 abbrev pub AskForHelp : List Text → Type 0

@@ -13,8 +13,8 @@ use Rattle.script.specs.declared.finish.Finish.TheVariants.{Stopped, Through}
 use Rattle.script.specs.declared.on_refusal.OnRefusal.{OnRefusal}
 use Rattle.olap.specs.Folders.{AreTold}
 use Rattle.olap.specs.Hearing.{lines_heard}
-use Rattle.olap.specs.SessionWords.{AskForSession, session}
-use Rattle.olap.specs.declared.session_words.SessionJob.{SessionJob}
+use Rattle.command.specs.SessionWords.{AskForSession, session}
+use Rattle.command.specs.declared.session_words.SessionJob.{SessionJob}
 
 -- the bytes are the replies to lines, one after another, of which only the last may be one after which a session stops
 pub data AreRepliesUpTo (hash : Cell → ℕ) (givens : Givens) (on : OnRefusal) : List (List ℕ) → Finish → List ℕ → Type 0 where

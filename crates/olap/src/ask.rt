@@ -3,24 +3,24 @@ ghost use Rattle.std.specs.Prelude.{◌≡◌, ◌⊎◌, [], IfOk, length, map,
 ghost use Rattle.std.specs.Io.Buffered.{writer_buffer, writer_contents};
 ghost use Rattle.std.specs.List.{slice_index_or};
 ghost use Rattle.olap.specs.Folders.{AreTold};
-ghost use Rattle.olap.specs.Options.{asks_for_help};
-ghost use Rattle.olap.specs.Proposals.{IsAsked, line_of_proposal};
-ghost use Rattle.olap.specs.Queries.{AskToAnswer, IsAnswer, IsAnswerOfNamed, IsStrictOutput, Leaves};
-ghost use Rattle.olap.specs.Questions.{script_of};
+ghost use Rattle.questions.specs.Options.{asks_for_help};
+ghost use Rattle.questions.specs.Proposals.{line_of_proposal};
+ghost use Rattle.olap.specs.Queries.{AskToAnswer, IsAnswer, IsAsked, IsAnswerOfNamed, IsStrictOutput, Leaves};
+ghost use Rattle.questions.specs.Questions.{script_of};
 
 use crate::asking::Asking;
 use crate::close::{NOTHING_RUN, end_early};
 use crate::input::{Folder, Input, Unread, Unreadable, read_parts};
 use crate::manual::{Topic, show};
-use crate::options::{OptionFault, part_words};
 use crate::program::{cannot_read, errors_of, progress_of, run_input};
-use crate::proposal::{FileFault, Proposal, Unproposed, proposed};
-use crate::question::{Question, SchemaQuestion, Wanted, question_of, schema_question_of};
-use crate::table_text::{script_of, table_line, table_name};
 use crate::tell::{Renew, Screen};
 use crate::telling::Telling;
 use crate::unread::tell_unread;
 use cells::Text;
+use questions::options::{OptionFault, part_words};
+use questions::proposal::{FileFault, Proposal, Unproposed, proposed};
+use questions::question::{Question, SchemaQuestion, Wanted, question_of, schema_question_of};
+use questions::table_text::{script_of, table_line, table_name};
 use script::{Ended, HashChoice, OnRefusal};
 use std::alloc::{AllocError, Global};
 use std::io::{BufWriter, Write};
@@ -61,7 +61,7 @@ pub fn ask<
         let status = show(Topic::Query.page(), &mut out, err);
         return (status, out);
     }
-    match question_of(rt, alloc, &parted) {
+    match question_of(rt, alloc, &parted, rt.shows_output()) {
         Ok((question, wanted)) => ask_question(rt, alloc, &question, wanted, folder, out, err),
         Err(fault) => (refuse_words("query", fault, err), out),
     }

@@ -9,11 +9,11 @@ use crate::join::join_files;
 use crate::manual::{Topic, refuse_page, show, topic_of};
 use crate::program::{run_words, show_help};
 use crate::session::converse;
-use crate::session_words::job_of_words;
 use crate::shard_run::run_shard;
-use crate::shard_words::{join_of_words, shard_of_words};
 use crate::tell::Screen;
 use crate::written::Writable;
+use command::session_words::job_of_words;
+use command::shard_words::{join_of_words, shard_of_words};
 use std::alloc::Global;
 use std::io::{BufWriter, Write};
 use std::sync::Wait;
@@ -130,13 +130,13 @@ fn have_shard(words: &[String]) -> bool {
         .any(is_of_shard)
 }
 
-/// Whether the word is `--shard` or `--partials`, or one of these with its value.
+/// Whether the word is `--shard` or `--partials`, or one of these with its value, or `--own-parts`.
 fn is_of_shard(word: &str) -> bool {
     let name = match word.split_once('=') {
         Some((name, _)) => name,
         None => word,
     };
-    name == "--shard" || name == "--partials"
+    name == "--shard" || name == "--partials" || name == "--own-parts"
 }
 
 /// What the words after `help` ask for. `clap` tells of its own commands.

@@ -4,12 +4,12 @@ ghost use Rattle.std.specs.Prelude.{◌≡◌, ◌≤◌, ◌⊎◌, IfOk, lengt
 use crate::close::{NOTHING_RUN, WRITTEN, end_early};
 use crate::explaining::{Explaining, Told};
 use crate::input::{Folder, Input, Unread, Unreadable, read_named};
-use crate::job::Job;
-use crate::naming::{NamingFault, Parts};
 use crate::part_faults::tell_parts;
 use crate::program::{cannot_read, run_input};
 use crate::tell::{Output, Tell};
 use cells::Text;
+use command::job::Job;
+use command::naming::{NamingFault, Parts};
 use forms::Form;
 use script::{Ended, HashChoice, How, Manner, OnRefusal};
 use std::alloc::{AllocError, AllocFailed, Global};

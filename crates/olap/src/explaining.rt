@@ -1,9 +1,9 @@
 //! Tells why lines are refused, and where their faults are.
 
 use crate::input::Input;
-use crate::job::Job;
 use crate::tell::Tell;
 use cells::{Refused, Text};
+use command::job::Job;
 use crew::Gate;
 use reasons::{PartReason, Reason, Reasons};
 use std::alloc::Global;

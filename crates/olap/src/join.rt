@@ -8,9 +8,9 @@ ghost use Rattle.olap.specs.Partials.{AskAndLeave, AskForJoinHelp, IsJointOf, Is
 use crate::close::{NOTHING_RUN, WRITTEN, close_run, end_early};
 use crate::input::{Folder, Unreadable};
 use crate::program::{cannot_read, refuse};
-use crate::shard_words::{JoinJob, join_job};
 use crate::written::{Writable, cannot_write};
 use cells::{Fnv, Text};
+use command::shard_words::{JoinJob, join_job};
 use forms::Form;
 use report::{Out, Pour, write_whole};
 use script::{Ended, MAX_SCRIPT_BYTES, Manner};
@@ -205,6 +205,9 @@ fn refuse_next<E: Write>(name: &str, why: Unjoined, err: &mut E) -> u8
     let why = match why {
         Unjoined::OutOfMemory => return end_early(Ended::OutOfMemory, err),
         Unjoined::OtherScript => "it is of another script than the files before it",
+        Unjoined::OtherDivision => {
+            "--own-parts was given for it and not for the files before it, or the other way round"
+        }
         Unjoined::OtherCount => {
             "its table has another number of shards than that of the files before it"
         }

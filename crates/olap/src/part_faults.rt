@@ -1,8 +1,8 @@
 //! The faulty records of the parts that a script lists.
 
-use crate::job::Job;
 use crate::tell::Tell;
 use cells::{Schema, Text, whole_number_of};
+use command::job::Job;
 use reasons::{PartFaults, PartReason, Reasons, faults_of_part};
 use script::{MAX_PARTS, MAX_SCRIPT_BYTES};
 use std::alloc::{AllocError, Global};

@@ -2,15 +2,16 @@
 ghost use Rattle.std.specs.Prelude.{◌≡◌, ◌⊎◌, IfOk, map, string_bytes};
 ghost use Rattle.std.specs.Io.Buffered.{writer_contents};
 ghost use Rattle.std.specs.Io.KnownBytes.{Keeps};
-ghost use Rattle.olap.specs.Partials.{AskForShardHelp, AskToTell, IsShardText, IsShardTold, IsTextWritten};
+ghost use Rattle.olap.specs.Partials.{AskForShardHelp, AskToTell, IsShardAnswer, IsShardText, IsShardTold, IsTextWritten};
 
 use crate::close::{NOTHING_RUN, WRITTEN, end_early};
 use crate::input::{Folder, Input, Unread, Unreadable, read_named};
 use crate::program::{cannot_read, refuse};
-use crate::shard_words::{ShardJob, shard_job};
 use crate::written::{Writable, cannot_write};
 use cells::Fnv;
-use script::{Ended, MAX_PARTS, MAX_SCRIPT_BYTES, Untold};
+use command::shard_words::{ShardJob, shard_job};
+use script::{Ended, MAX_PARTS, MAX_SCRIPT_BYTES, OwnUntold, Untold};
+use shards::{Division, Document};
 use std::alloc::{AllocError, Global};
 use std::io::{BufWriter, Write};
 use std::str;
@@ -92,36 +93,82 @@ enum Textless {
     /// The script is not UTF-8, and no partial answer can have it.
     NotUtf8,
     /// The shard can't tell of the script.
-    Untold(Untold),
+    Untold(OwnUntold),
+}
+
+impl From<OwnUntold> for Textless {
+    fn from(why: OwnUntold) -> Textless {
+        Textless::Untold(why)
+    }
 }
 
 impl From<Untold> for Textless {
     fn from(why: Untold) -> Textless {
-        Textless::Untold(why)
+        Textless::Untold(OwnUntold::Untold(why))
     }
 }
 
 impl From<AllocError> for Textless {
     fn from(_refused: AllocError) -> Textless {
-        Textless::Untold(Untold::OutOfMemory)
+        Textless::Untold(OwnUntold::Untold(Untold::OutOfMemory))
     }
 }
 
 /// The text of what the shard tells of a script and its parts.
 fn shard_text(alloc: Global, job: &ShardJob, input: &Input) -> Result<Vec<u8>, Textless>
-    ensures { IfOk result (λ text. IsShardText job.now.shard input.now text.items) }
+    ensures { IfOk result (λ text. IsShardText job.now.division job.now.shard input.now text.items) }
 {
     let Ok(script) = str::from_utf8(input.script.as_slice()) else {
         return Err(Textless::NotUtf8);
     };
-    let answer = shards::tell::<Fnv>(
-        alloc,
-        script,
-        input.parts.as_slice(),
-        &job.run.how,
-        &job.shard,
-    )?;
+    let answer = shard_answer(alloc, script, job, input)?;
     Ok(shards::write(alloc, &answer)?)
+}
+
+/// What the shard tells of a script.
+fn shard_answer(
+    alloc: Global,
+    script: &str,
+    job: &ShardJob,
+    input: &Input,
+) -> Result<Document, Textless>
+    requires { script.now ≡ input.now.script.items }
+    ensures { IfOk result (IsShardAnswer job.now.division job.now.shard input.now) }
+{
+    match job.division {
+        Division::Keys => answer_by_keys(alloc, script, job, input),
+        Division::Parts => answer_by_parts(alloc, script, job, input),
+    }
+}
+
+/// What a shard of a table that is divided by keys tells of a script.
+fn answer_by_keys(
+    alloc: Global,
+    script: &str,
+    job: &ShardJob,
+    input: &Input,
+) -> Result<Document, Textless>
+    requires { script.now ≡ input.now.script.items }
+    ensures { IfOk result (IsShardAnswer Division.Keys job.now.shard input.now) }
+{
+    let parts = input.parts.as_slice();
+    let answer = shards::tell::<Fnv>(alloc, script, parts, &job.run.how, &job.shard)?;
+    Ok(answer)
+}
+
+/// What a shard that has these parts of its own tells of a script.
+fn answer_by_parts(
+    alloc: Global,
+    script: &str,
+    job: &ShardJob,
+    input: &Input,
+) -> Result<Document, Textless>
+    requires { script.now ≡ input.now.script.items }
+    ensures { IfOk result (IsShardAnswer Division.Parts job.now.shard input.now) }
+{
+    let parts = input.parts.as_slice();
+    let answer = shards::tell_own::<Fnv>(alloc, script, parts, &job.run.how, &job.shard)?;
+    Ok(answer)
 }
 
 /// Says why the shard can't tell of the script.
@@ -130,21 +177,39 @@ fn refuse_script<E: Write>(job: &ShardJob, input: &Input, why: Textless, err: &m
 {
     let name = job.run.script.as_str();
     let _ = match why {
-        Textless::Untold(Untold::OutOfMemory) => return end_early(Ended::OutOfMemory, err),
-        Textless::Untold(Untold::TooMuch) => return refuse_size(name, input, err),
-        Textless::Untold(Untold::Shape { line }) => {
+        Textless::Untold(OwnUntold::Untold(why)) => return refuse_lines(name, input, why, err),
+        Textless::Untold(OwnUntold::Put { line }) => writeln!(
+            err,
+            "olap: {name}:{line}: a row is put, and with --own-parts each row is in the parts of one shard"
+        ),
+        Textless::Untold(OwnUntold::Load { line, fault }) => writeln!(
+            err,
+            "olap: {name}:{line}: the load is refused ({fault}), and with --own-parts no other shard knows of it"
+        ),
+        Textless::NotUtf8 => writeln!(err, "olap: {name}: it is not UTF-8"),
+    };
+    NOTHING_RUN
+}
+
+/// Says why no shard can tell of the script, or why there is no room for the rows of this one.
+fn refuse_lines<E: Write>(name: &str, input: &Input, why: Untold, err: &mut E) -> u8
+    ensures { (result ≡ 2) ⊎ (result ≡ 3) }
+{
+    let _ = match why {
+        Untold::OutOfMemory => return end_early(Ended::OutOfMemory, err),
+        Untold::TooMuch => return refuse_size(name, input, err),
+        Untold::Shape { line } => {
             writeln!(
                 err,
                 "olap: {name}:{line}: a shape is asked for, which no shard can tell"
             )
         }
-        Textless::Untold(Untold::TooManyRows { line }) => {
+        Untold::TooManyRows { line } => {
             writeln!(
                 err,
                 "olap: {name}:{line}: the shard would have more rows than --rows lets in"
             )
         }
-        Textless::NotUtf8 => writeln!(err, "olap: {name}: it is not UTF-8"),
     };
     NOTHING_RUN
 }

@@ -1,11 +1,11 @@
 //! Tells which columns of the files of a question are not read.
 
 use crate::asking::shown;
-use crate::proposal::{FileFault, columns_of_file};
-use crate::question::{Question, Wanted};
 use crate::tell::Tell;
 use cells::Text;
 use prepare::{Chosen, header_of, is_same_name};
+use questions::proposal::{FileFault, columns_of_file};
+use questions::question::{Question, Wanted};
 use std::alloc::{AllocError, Global};
 
 /// Tells of each file which of its columns are not read, where there are some and the question asks for it. The fault is that no

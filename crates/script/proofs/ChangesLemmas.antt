@@ -104,10 +104,6 @@ laid old new left changes within form number = inl (record { draft = changes; wi
 pub overflown : (old new : Editions) (left : Rows) → new ≡ old → keeper.limit old < len left → (form : Form) (number : ℕ) → LaysOrOverflows form old new left number (change_text form number (Some TooManyRows))
 overflown old new left same full form number = inr (record { unchanged = same; full = full; refused = refl })
 
--- as it is told
-pub laid_text : {form : Form} {old new : Editions} {left : Rows} {number : ℕ} (rule : Option Refused) (bytes : List ℕ) → LaysOrOverflows form old new left number (change_text form number rule) → bytes ≡ change_text form number rule → LaysOrOverflows form old new left number bytes
-laid_text {form} {old} {new} {left} {number} rule bytes lays is = subst (LaysOrOverflows form old new left number) (sym is) lays
-
 -- ---- what a session has after it
 
 -- its block tells whether it is refused

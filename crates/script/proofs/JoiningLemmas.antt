@@ -3,6 +3,7 @@ use Rattle.std.proofs.Common.{◌≡◌, ◌∙◌, ◌||◌, ℕ, ◌+◌, ◌�
 use Rattle.std.proofs.lemmas.List.{append-nil}
 use Rattle.std.proofs.lemmas.List.Sorted.{IsPermutation-cons, IsPermutation-middle, IsPermutation-refl, IsPermutation-trans}
 use Rattle.std.specs.List.Sorted.{IsPermutation}
+use Rattle.cells.specs.Updates.{Put, Update}
 use Rattle.cells.specs.Values.{RowValue, Table}
 use Rattle.cells.specs.declared.cell.Cell.{Cell}
 use Rattle.groups.specs.Groups.{keeps, kept}
@@ -116,6 +117,12 @@ alike_joins walk doing first second (Some both) differs alike = record {
 
 pub quiet_joins : (walk : Walk) (first second : Told) (o : Option Told) → IfSome o (AreAlike first second) → IfSome o (Joins walk doing.Quiet first second)
 quiet_joins walk first second o = alike_joins walk doing.Quiet first second o (λ does t query quiet is. subst IsSilent is quiet)
+
+apart_updates : (does : Result Deed Fault) (more : List Update) (t : Table) (query : List ℕ) → does ≡ Ok (Updates more) → does ≡ Ok (Reports t query) → ⊥
+apart_updates does more t query is other = absurd cc
+
+pub put_joins : (walk : Walk) (first second : Told) (o : Option Told) → IfSome o (AreAlike first second) → IfSome o (Joins walk doing.Puts first second)
+put_joins walk first second o = alike_joins walk doing.Puts first second o (λ does t query puts is. apart_updates does (Put puts.row ∷ []) t query puts.is is)
 
 pub load_joins : (walk : Walk) (first second : Told) (o : Option Told) → IfSome o (AreAlike first second) → IfSome o (Joins walk doing.Loads first second)
 load_joins walk first second o = alike_joins walk doing.Loads first second o (λ does t query load is. subst IsLoad is load)

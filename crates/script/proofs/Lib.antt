@@ -9,6 +9,7 @@ pub mod HereLemmas
 pub mod JoiningLemmas
 pub mod LinesLemmas
 pub mod ListingsLemmas
+pub mod OwnLemmas
 pub mod ParametersLemmas
 pub mod ProgressLemmas
 pub mod RefusalsLemmas

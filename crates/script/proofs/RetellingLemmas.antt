@@ -135,7 +135,7 @@ report_refused manner number edition declared schema t rs query fault bytes has 
 }
 
 -- all rows are taken
-all_taken : (all : Cell → Bool) → ((key : Cell) → all key ≡ true) → (rs : List RowValue) → taken all rs ≡ rs
+pub all_taken : (all : Cell → Bool) → ((key : Cell) → all key ≡ true) → (rs : List RowValue) → taken all rs ≡ rs
 all_taken all every [] = refl
 all_taken all every (r ∷ rs) = ap (λ b. cond b (r ∷ taken all rs) (taken all rs)) (every r.key) ∙ ap (λ l. r ∷ l) (all_taken all every rs)
 
@@ -153,6 +153,14 @@ silent hash givens before (Err fault) bytes quiet fits none = absurd quiet
 
 pub quiet_gives : (manner : Manner) (walk : Walk) (it : Told) (bytes : List ℕ) → bytes ≡ [] → GivesBlock manner walk doing.Quiet it bytes
 quiet_gives manner walk it bytes none = record { is = λ hash givens all before does same every counts editions quiet fits tells. silent hash givens before does bytes quiet fits none }
+
+pub put_gives : (manner : Manner) (walk : Walk) (it : Told) (bytes : List ℕ) → bytes ≡ [] → GivesBlock manner walk doing.Puts it bytes
+put_gives manner walk it bytes none = record {
+  is = λ hash givens all before does same every counts editions puts fits tells.
+      let room = subst (Fits givens (updates givens before)) puts.is fits in
+      subst (λ d. IsAnswer hash givens before d bytes) (sym puts.is)
+      (none ∙ sym (ap (λ b. cond b (refusal givens.manner.form (length before + 1) (Line TooManyRows)) []) room));
+}
 
 loads : (hash : Cell → ℕ) (givens : Givens) (all : Cell → Bool) (before : Lines) (does : Result Deed Fault) (number : ℕ) (it : Told) (bytes : List ℕ) → number ≡ length before + 1 → IsLoad does →
     Fits givens (updates givens before) does → IsTold givens all before does it →

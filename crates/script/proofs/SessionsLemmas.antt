@@ -115,9 +115,6 @@ module _ (givens : Givens) (before : Lines) (line : List ℕ) (desk : Option Edi
   numbers : next ≡ length (counted before) + 1
   numbers = omega (arith, next_is, stands.number_is, length-counted before, (heard_small before line h).0)
 
-  count_is : next ≡ next_number before
-  count_is = omega (arith, next_is, stands.number_is)
-
   module _ {H : Type 0} (hash : Cell → ℕ) (after : Option Editions) (block : Block H) (steps : Steps hash givens line next desk after block) where
     -- what its block will be
     pub told : Foretells (IsBlock hash givens (counted before) line) (IsRefusedLine givens (counted before) line) block

@@ -1,12 +1,11 @@
 -- The shard's part of a table after one more line, and what is told of the lines.
-use Rattle.std.proofs.Common.{◌≡◌, ◌∙◌, ◌||◌, ℕ, ◌+◌, ◌<◌, ◌≤◌, Bool, true, false, cond, ◌⊎◌, inl, inr, Option, Some, None, Result, Ok, Err, List, [], ◌∷◌, ◌++◌, length, reverse, refl, sym, ap, ap₂, subst, append_assoc, arith}
+use Rattle.std.proofs.Common.{◌≡◌, ◌∙◌, ◌||◌, ℕ, ◌+◌, ◌<◌, ◌≤◌, Bool, true, false, cond, Option, Some, None, Result, Ok, Err, List, [], ◌∷◌, ◌++◌, length, reverse, refl, sym, ap, ap₂, subst, append_assoc, arith}
 use Rattle.std.proofs.lemmas.List.{append-nil}
 use Rattle.std.proofs.lemmas.List.Elements.{filter-append}
 use Rattle.std.specs.FinMap.{insert, len, remove}
 use Rattle.std.specs.List.{AllByRecursion}
-use Rattle.std.specs.Prelude.{IfErr, IfOk, OnOk, Vec}
+use Rattle.std.specs.Prelude.{IfOk, OnOk}
 use Rattle.std.specs.Str.Lines.{lines}
-use Rattle.std.specs.declared.alloc.Global.{Global}
 use Rattle.cells.specs.CellOrder.{cell_cmp, cell_eq}
 use Rattle.cells.specs.Laws.{len_rows, table_rows_delete, table_rows_put}
 use Rattle.cells.specs.SameKeys.{same_cells}
@@ -14,28 +13,22 @@ use Rattle.cells.specs.Tables.{Rows, laid_over, table}
 use Rattle.cells.specs.Updates.{AreLeft, Delete, Put, Update, key_of, puts, rows, touches}
 use Rattle.cells.specs.Values.{RowValue, Table}
 use Rattle.cells.specs.declared.cell.Cell.{Cell}
-use Rattle.board.specs.Editions.{Begins, ChangesDraft, Edition, Editions}
+use Rattle.board.specs.Editions.{Begins, ChangesDraft, Editions}
 use Rattle.board.specs.Editions as keeper
-use Rattle.groups.specs.Groups.{kept}
-use Rattle.groups.specs.Told.{GroupValue, Tells}
 use Rattle.loader.specs.Loads.{AreTaken}
 use Rattle.loader.specs.Parts.{FaultyRecord}
 use Rattle.loader.specs.Shards.{taken}
-use Rattle.query.specs.Plans.{PlanTree}
 use Rattle.trie.specs.Maps.{map_of}
-use Rattle.cells.specs.declared.refused.Refused.{Refused}
 use Rattle.cells.specs.declared.refused.Refused.TheVariants as refused
-use Rattle.script.specs.Deeds.{Declares, Deed, Loads, Nothing, Publishes, Reports, Updates, deed}
+use Rattle.script.specs.Deeds.{Declares, Deed, Loads, Nothing, Publishes, Reports, deed}
 use Rattle.script.specs.Desks.{schema_of_desk}
 use Rattle.script.specs.Givens.{Givens}
 use Rattle.script.specs.Limits.{script_limit}
 use Rattle.script.specs.Listings.{rows_held, rows_loaded}
 use Rattle.script.specs.Output.{added, declared, declared_by, deed_behind, is_publish, published, updates, within_loaded}
-use Rattle.script.specs.Says.{IsRefused, MeansPlan, Says}
-use Rattle.script.specs.Telling.{AsksForShape, EndsBy, EndsLine, EndsOver, EndsScript, EndsWithin, FitBehind, HasLimit, IsBlank, IsFull, IsLineOf, IsShare, IsShareBehind, LacksRoom, LaysShare, LaysSilently, LoadsShare, Overfills, TellsLine, TellsReport, asked, edition_of_desk, puts_of, share}
+use Rattle.script.specs.Telling.{AsksForShape, EndsBy, EndsLine, EndsOver, EndsWithin, FitBehind, HasLimit, IsBlank, IsFull, IsLineOf, IsShare, IsShareBehind, LacksRoom, LaysShare, LaysSilently, LoadsShare, Overfills, TellsLine, TellsReport, asked, edition_of_desk, puts_of, share}
 use Rattle.script.specs.Told.{AreTold, FitAll, Fits, FitsLoaded, IsTold, told_load}
 use Rattle.script.specs.declared.fault.Fault.{Fault}
-use Rattle.script.specs.declared.fault.Fault.TheVariants.{Line}
 use Rattle.script.specs.declared.telling.Untold.{Untold}
 use Rattle.script.specs.declared.telling.Untold.TheVariants.{OutOfMemory, Shape, TooManyRows, TooMuch}
 use Rattle.script.specs.declared.told.Told.{Told}
@@ -74,7 +67,7 @@ module _ (takes : Cell → Bool) where
   left_out false r rs left e same = ap (λ b. cond b (r ∷ taken takes rs) (taken takes rs)) e ∙ same
 
   -- one that is taken stays where no later update has its key
-  stays : (touched : Bool) (r : RowValue) (rs left : List RowValue) → takes r.key ≡ true → taken takes rs ≡ left → taken takes (cond touched rs (r ∷ rs)) ≡ cond touched left (r ∷ left)
+  pub stays : (touched : Bool) (r : RowValue) (rs left : List RowValue) → takes r.key ≡ true → taken takes rs ≡ left → taken takes (cond touched rs (r ∷ rs)) ≡ cond touched left (r ∷ left)
   stays true r rs left e same = same
   stays false r rs left e same = ap (λ b. cond b (r ∷ taken takes rs) (taken takes rs)) e ∙ ap (λ (l : List RowValue). r ∷ l) same
 
@@ -96,7 +89,7 @@ module _ (takes : Cell → Bool) where
   put_taken false r rs = refl
 
   -- the puts of rows that are taken
-  share_puts : (rs : List RowValue) → share takes (puts rs) ≡ puts (taken takes rs)
+  pub share_puts : (rs : List RowValue) → share takes (puts rs) ≡ puts (taken takes rs)
   share_puts [] = refl
   share_puts (r ∷ rs) = ap (λ us. cond (takes r.key) (Put r ∷ us) us) (share_puts rs) ∙ put_taken (takes r.key) r (taken takes rs)
 
@@ -130,9 +123,6 @@ module _ (takes : Cell → Bool) where
     limit = refl;
   }
 
-  pub lays_other : (k : Editions) (u : Update) → takes (key_of u) ≡ false → LaysShare takes k k (u ∷ [])
-  lays_other k u e = lays_none k (u ∷ []) (ap (λ b. cond b (u ∷ []) []) e)
-
   pub lays_put : (old new : Editions) (row : RowValue) → takes row.key ≡ true → ChangesDraft old new (insert (keeper.draft old) row.key row) → LaysShare takes old new (Put row ∷ [])
   lays_put old new row is changes =
       lays_one old new (Put row) (insert (keeper.draft old) row.key row) is (λ us e. ap (λ (d : Rows). insert d row.key row) e ∙ sym (table_rows_put us row)) changes
@@ -165,9 +155,6 @@ module _ (takes : Cell → Bool) where
   pub deletes_silently : (old new : Editions) (key : Cell) → true ≡ takes key → ChangesDraft old new (remove (keeper.draft old) key) → LaysSilently takes old new (Delete key ∷ []) told.Nothing
   deletes_silently old new key is changes = record { lays = lays_delete takes old new key (sym is) changes; nothing = refl }
 
-  pub passes_over : (k : Editions) (u : Update) → false ≡ takes (key_of u) → LaysSilently takes k k (u ∷ []) told.Nothing
-  passes_over k u is = record { lays = lays_other takes k u (sym is); nothing = refl }
-
   -- the rows of parts
   pub loads_taken : ((us : List Update) (rs : List RowValue) → table (rows (us ++ puts rs)) ≡ laid_over (table (rows (puts rs))) (table (rows us))) →
       (old new : Editions) (said : Result (List RowValue) FaultyRecord) (held : List (Cell × RowValue)) (it : Result Told Untold) → AreTaken takes said held →
@@ -175,21 +162,6 @@ module _ (takes : Cell → Bool) where
   loads_taken law old new said held (Ok it) taken changes nothing =
       subst (λ s. LoadsShare takes old new (rows_held s) it) (sym taken.is) (record { lays = lays_loaded takes law old new taken.rs (map_of cell_cmp held) taken.map changes; nothing = nothing })
   loads_taken law old new said held (Err e) taken changes nothing = tt
-
--- a fault that is not want of memory is that of the line
-pub fault_said : {Y : Type 0} (said : Result Y Fault) (fault : Fault) → (fault ≡ Line refused.OutOfMemory) ⊎ (said ≡ Err fault) → (fault ≡ Line refused.OutOfMemory → false ≡ true) → said ≡ Err fault
-fault_said said fault (inl wanting) memory = absurd (let bad : false ≡ true = memory wanting in cc)
-fault_said said fault (inr is) memory = is
-
--- a report whose text means a plan, and one that is refused
-pub keeps_plan : (last : Edition) (t : Table) (query : List ℕ) (plan : PlanTree) (sets : Vec (List GroupValue) Global) → t ≡ last.schema → MeansPlan t query plan →
-    ((rs : List RowValue) → AreLeft rs → last.rows ≡ table rs → Tells plan (kept plan.condition rs) sets.items) → TellsReport last query (told.Kept sets)
-keeps_plan last t query plan sets same means tells = λ rs left is. record { plan = plan; means = subst (λ (s : Table). MeansPlan s query plan) same means; tells = tells rs left is }
-
-pub refuses_report : (last : Edition) (t : Table) (query : List ℕ) (fault : Refused) → t ≡ last.schema → IsRefused t query fault → (Line fault ≡ Line refused.OutOfMemory → false ≡ true) →
-    TellsReport last query told.Nothing
-refuses_report last t query fault same (inl wanting) memory = absurd (let bad : false ≡ true = memory (ap Line wanting) in cc)
-refuses_report last t query fault same (inr says) memory = λ rs left is. record { fault = fault; says = subst (λ (s : Table). Says s rs query (Err fault)) same (says rs) }
 
 -- ---- how a run ends early
 
@@ -216,38 +188,16 @@ module _ (takes : Cell → Bool) where
         (λ us e. ap₂ laid_over loaded.map e ∙ sym (law us (taken takes loaded.rs)) ∙ ap (λ (more : List Update). table (rows (us ++ more))) (sym (share_puts takes loaded.rs))) ends.1),
   )
 
-  module _ (parts : List (List ℕ)) where
-    pub ends_memory : (desk : Option Editions) (number : ℕ) (bytes : List ℕ) (e : Untold) → e ≡ OutOfMemory → EndsLine takes parts desk number bytes e
-    ends_memory desk number bytes e is = subst (EndsLine takes parts desk number bytes) (sym is) tt
-
-    -- a line that asks for these updates
-    pub ends_asking : (k : Editions) (number : ℕ) (bytes : List ℕ) (r : Result Deed Fault) (e : Untold) → deed (Some (keeper.schema k)) bytes ≡ r → EndsBy takes k number (asked parts r) e →
-        EndsLine takes parts (Some k) number bytes e
-    ends_asking k number bytes r OutOfMemory does ends = tt
-    ends_asking k number bytes r TooMuch does ends = absurd ends
-    ends_asking k number bytes r (Shape line) does ends = absurd ends
-    ends_asking k number bytes r (TooManyRows line) does ends = (ends.0, subst (λ d. IsFull takes k (asked parts d)) (sym does) ends.1)
-
-    pub ends_script : (limit : ℕ) (script : List ℕ) (e : Untold) → EndsWithin takes parts limit (lines script) e → EndsScript takes parts limit script e
-    ends_script limit script OutOfMemory is = tt
-    ends_script limit script TooMuch is = absurd is
-    ends_script limit script (Shape line) is = is
-    ends_script limit script (TooManyRows line) is = is
-
--- a run over the lines is not refused as a whole
-pub not_whole : {T : Type 0} (takes : Cell → Bool) (parts : List (List ℕ)) (limit : ℕ) (all : Lines) (r : Result T Untold) → IfErr r (EndsWithin takes parts limit all) → r ≡ Err TooMuch → ⊥
-not_whole {T} takes parts limit all r ends is = subst (λ (q : Result T Untold). IfErr q (EndsWithin takes parts limit all)) is ends
-
 -- ---- the definitions, at a line whose deed is known
 
 module _ (givens : Givens) (before : Lines) (line : List ℕ) (r : Result Deed Fault) (does : deed_behind givens before line ≡ r) where
   declared_more : declared givens (line ∷ before) ≡ declared_by (declared givens before) r
   declared_more = ap (declared_by (declared givens before)) does
 
-  updates_more : updates givens (line ∷ before) ≡ updates givens before ++ added givens (updates givens before) r
+  pub updates_more : updates givens (line ∷ before) ≡ updates givens before ++ added givens (updates givens before) r
   updates_more = ap (λ d. updates givens before ++ added givens (updates givens before) d) does
 
-  published_more : published givens (line ∷ before) ≡ cond (is_publish r) (rows (updates givens before)) (published givens before)
+  pub published_more : published givens (line ∷ before) ≡ cond (is_publish r) (rows (updates givens before)) (published givens before)
   published_more = ap (λ d. cond (is_publish d) (rows (updates givens before)) (published givens before)) does
 
 -- what is so of a line that adds these updates where there is room for them, and of which this is told
@@ -286,20 +236,6 @@ module _ (takes : Cell → Bool) (parts : List (List ℕ)) (limit : ℕ) (line :
 
   abbrev TellsKept : Editions → Editions → Told → Type 0
   TellsKept old new it = TellsLine takes parts limit line (Some old) (Some new) it
-
-  -- a line that does nothing, and one that is refused by its own text
-  pub tells_nothing : (k : Editions) → deed (Some (keeper.schema k)) line ≡ Ok Nothing → TellsKept k k told.Nothing
-  tells_nothing k does = tells_added k (Ok Nothing) does k [] told.Nothing
-      (record { declares = λ earlier. refl; adds = λ givens us same fits. refl; quiet = refl; told = λ givens before same. refl }) (lays_none takes k [] refl)
-
-  pub tells_refused : (k : Editions) (fault : Fault) → deed (Some (keeper.schema k)) line ≡ Err fault → TellsKept k k told.Nothing
-  tells_refused k fault does = tells_added k (Err fault) does k [] told.Nothing
-      (record { declares = λ earlier. refl; adds = λ givens us same fits. refl; quiet = refl; told = λ givens before same. refl }) (lays_none takes k [] refl)
-
-  -- one that adds updates
-  pub tells_updates : (old new : Editions) (more : List Update) (it : Told) → deed (Some (keeper.schema old)) line ≡ Ok (Updates more) → LaysSilently takes old new more it → TellsKept old new it
-  tells_updates old new more it does silent = tells_added old (Ok (Updates more)) does new more it
-      (record { declares = λ earlier. refl; adds = λ givens us same fits. ap (λ b. cond b [] more) fits; quiet = refl; told = λ givens before same. silent.nothing }) silent.lays
 
   -- a load
   loads_by : (old new : Editions) (listing : List ℕ) (it : Told) (held : Result (List RowValue) Fault) → deed (Some (keeper.schema old)) line ≡ Ok (Loads (keeper.schema old) listing) →

@@ -16,6 +16,7 @@ pub mod Limits
 pub mod Listings
 pub mod Manners
 pub mod Output
+pub mod Own
 pub mod Parameters
 pub mod Refusals
 pub mod Retelling

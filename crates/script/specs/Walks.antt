@@ -1,6 +1,7 @@
 -- What the lines of a script do by themselves, with no rows beside. The lines before a line stand with the last one first.
-use Rattle.std.specs.Prelude.{◌≡◌, ◌+◌, ℕ, List, length, if◌then◌else◌, Option, Some, Result, Ok, Err, ⊤}
-use Rattle.cells.specs.Values.{Table}
+use Rattle.std.specs.Prelude.{◌≡◌, ◌+◌, ℕ, List, [], ◌∷◌, length, if◌then◌else◌, Option, Some, Result, Ok, Err, ⊤}
+use Rattle.cells.specs.Updates.{Delete, Put, Update}
+use Rattle.cells.specs.Values.{RowValue, Table}
 use Rattle.script.specs.Deeds.{Declares, Deed, Loads, Nothing, Publishes, Reports, Shapes, Updates, deed}
 use Rattle.script.specs.Givens.{Givens}
 use Rattle.script.specs.Output.{declared, declared_by, edition, is_publish}
@@ -15,16 +16,27 @@ pub record StandsBehind (before : List (List ℕ)) (walk : Walk) : Type 0 where
   pub same_edition : (givens : Givens) → walk.edition ≡ edition givens before
   pub same_number : walk.number ≡ length before
 
--- a line that does this writes nothing, where there is room for its row
+-- none of these updates puts a row
+abbrev pub PutNothing : List Update → Type 0
+PutNothing [] = ⊤
+PutNothing (Put row ∷ more) = ⊥
+PutNothing (Delete key ∷ more) = PutNothing more
+
+-- a line that does this writes nothing, and puts no row
 abbrev pub IsSilent : Result Deed Fault → Type 0
 IsSilent (Ok Nothing) = ⊤
 IsSilent (Ok (Declares t)) = ⊤
-IsSilent (Ok (Updates more)) = ⊤
+IsSilent (Ok (Updates more)) = PutNothing more
 IsSilent (Ok Publishes) = ⊤
 IsSilent (Ok (Loads t listing)) = ⊥
 IsSilent (Ok (Reports t query)) = ⊥
 IsSilent (Ok Shapes) = ⊥
 IsSilent (Err fault) = ⊥
+
+-- it puts a row
+pub record PutsRow (does : Result Deed Fault) : Type 0 where
+  pub row : RowValue
+  pub is : does ≡ Ok (Updates (Put row ∷ []))
 
 -- it loads parts
 abbrev pub IsLoad : Result Deed Fault → Type 0
@@ -46,6 +58,7 @@ pub record IsReportOn (declared : Option Table) (query : List ℕ) (does : Resul
 -- what a line does, as far as it counts
 abbrev pub IsDoing : Option Table → Result Deed Fault → Doing → Type 0
 IsDoing declared does doing.Quiet = IsSilent does
+IsDoing declared does doing.Puts = PutsRow does
 IsDoing declared does doing.Loads = IsLoad does
 IsDoing declared does (doing.Reports query) = IsReportOn declared query.now does
 IsDoing declared does doing.Shape = does ≡ Ok Shapes

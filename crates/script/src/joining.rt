@@ -93,6 +93,7 @@ fn joined_line<H: KeyHash<Cell> + KeyHash<Tuple>>(
 {
     match doing {
         Doing::Quiet => Ok(agreed(first, second)),
+        Doing::Puts => Ok(agreed(first, second)),
         Doing::Loads => Ok(agreed(first, second)),
         Doing::Reports(query) => joined_report::<H>(alloc, walk, query, first, second),
         Doing::Shape => Ok(None),

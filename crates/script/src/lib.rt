@@ -28,6 +28,7 @@ mod listing;
 mod load_line;
 mod manner;
 mod on_refusal;
+mod own;
 mod owned;
 mod parameters;
 mod refusal_name;
@@ -69,6 +70,7 @@ pub use limits::{
 };
 pub use manner::Manner;
 pub use on_refusal::OnRefusal;
+pub use own::{OwnUntold, tell_own_here};
 pub use retelling::output_of_told;
 pub use running::{live, run, run_by, run_in};
 pub use session::Session;

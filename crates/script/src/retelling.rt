@@ -96,6 +96,7 @@ fn block_of<H: KeyHash<Cell> + KeyHash<Tuple>>(
 {
     match doing {
         Doing::Quiet => Ok(Some(Vec::new(alloc))),
+        Doing::Puts => Ok(Some(Vec::new(alloc))),
         Doing::Loads => block_of_load(alloc, manner.form, walk.number, told),
         Doing::Reports(query) => block_of_report::<H>(alloc, manner, walk, query, told),
         Doing::Shape => Ok(None),

@@ -12,8 +12,10 @@ use std::alloc::{AllocError, Global};
 /// What a line does, as far as it counts for those who have what shards tell of it.
 #[derive(Debug, Drop)]
 pub enum Doing<'a> {
-    /// It says nothing, where there is room for its row: a comment, a table, an update or a publish.
+    /// It says nothing: a comment, a table, a delete or a publish.
     Quiet,
+    /// It puts a row, and says nothing where there is room for it.
+    Puts,
     /// It loads parts, which only a shard has read.
     Loads,
     /// It reports on the query that the text asks, whatever it says.
@@ -59,7 +61,7 @@ impl Walk {
         match read_statement(alloc, schema, line) {
             Ok(Statement::Nothing) => Ok(Doing::Quiet),
             Ok(Statement::Load(_)) => Ok(Doing::Loads),
-            Ok(Statement::Put(_)) => Ok(Doing::Quiet),
+            Ok(Statement::Put(_)) => Ok(Doing::Puts),
             Ok(Statement::Delete(_)) => Ok(Doing::Quiet),
             Ok(Statement::Publish) => {
                 self.edition += 1;

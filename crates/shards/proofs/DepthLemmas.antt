@@ -68,4 +68,5 @@ pub document_within : (it : DocumentValue) (d : Data) â†’ SpellsDocument it d â†
 document_within it d spells =
     let shards = list_within SpellsCount 0 (count_within 0) it.numbers spells.shards spells.is_shards in
     let told = list_within SpellsLine 7 line_within it.lines spells.told spells.is_told in
-    rw spells.is (omega (arith, shards, told))
+    let dividing = pair_within _ (SpellsCount it.count) 0 (word_within 0 _) (count_within 0 it.count) spells.dividing spells.is_dividing in
+    rw spells.is (omega (arith, shards, told, dividing))

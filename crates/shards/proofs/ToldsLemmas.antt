@@ -8,7 +8,8 @@ use Rattle.std.specs.Prelude.{Ok, Err, Result}
 use Rattle.std.specs.Str.Lines.{lines}
 use Rattle.cells.specs.Values.{RowValue}
 use Rattle.cells.specs.declared.cell.Cell.{Cell}
-use Rattle.loader.specs.Shards.{ShardValue, shard_of, taken, takes}
+use Rattle.loader.specs.Shards.{IsNumberOf, ShardValue, taken}
+use Rattle.loader.specs.Shards as loader
 use Rattle.script.specs.Deeds.{Declares, Deed, Loads, Nothing, Publishes, Reports, Shapes, Updates}
 use Rattle.script.specs.Givens.{Givens}
 use Rattle.script.specs.Listings.{rows_loaded}
@@ -17,8 +18,9 @@ use Rattle.script.specs.Told.{AreTold, IsKeptFor, IsTold, IsToldReport, told_loa
 use Rattle.script.specs.declared.fault.Fault.{Fault}
 use Rattle.script.specs.declared.told.Told.{Told}
 use Rattle.script.specs.declared.told.Told.TheVariants as told
-use Rattle.shards.specs.Answers.{AreApart, IsPartialAnswer, is_among}
+use Rattle.shards.specs.Answers.{AreApart, IsPartialAnswer, Sharding, belongs, is_among}
 use Rattle.shards.specs.Documents.{DocumentValue, line_value}
+use Rattle.shards.specs.declared.division.Division.{Division}
 
 -- ---- whatever memory has it
 nothing_alike : (x y : Told) → x ≡ told.Nothing → line_value x ≡ line_value y → y ≡ told.Nothing
@@ -90,11 +92,11 @@ or_false : (b : Bool) → b ≡ (b || false)
 or_false true = refl
 or_false false = refl
 
-pub takes_among : (hash : Cell → ℕ) (shard : ShardValue) (key : Cell) → takes hash shard key ≡ is_among hash shard.count (shard.number ∷ []) key
-takes_among hash shard key = or_false (takes hash shard key)
+pub takes_among : (shard_of : Sharding) (shard : ShardValue) (key : Cell) → belongs shard_of shard key ≡ is_among shard_of shard.count (shard.number ∷ []) key
+takes_among shard_of shard key = or_false (belongs shard_of shard key)
 
-pub among_both : (hash : Cell → ℕ) (count : ℕ) (first second : List ℕ) (key : Cell) → (is_among hash count first key || is_among hash count second key) ≡ is_among hash count (first ++ second) key
-among_both hash count first second key = sym (list_any-append (λ number. shard_of hash count key == number) first second)
+pub among_both : (shard_of : Sharding) (count : ℕ) (first second : List ℕ) (key : Cell) → (is_among shard_of count first key || is_among shard_of count second key) ≡ is_among shard_of count (first ++ second) key
+among_both shard_of count first second key = sym (list_any-append (λ number. shard_of count key == number) first second)
 
 -- no number of the first list is found in the second
 pub apart : (first second : List ℕ) → find (λ number. list_any (λ n. number == n) second) first ≡ None → AreApart first second
@@ -125,41 +127,45 @@ in_both_lists (k ∷ first) second m is = elim (cases_Bool (list_any (λ n. k ==
       (or_true (m == k) (list_any (λ n. m == n) first) later.0, later.1)
 ]
 
--- each key belongs to a shard of so many
-pub all_among : (hash : Cell → ℕ) (count : ℕ) (numbers : List ℕ) → 1 ≤ count → ((number : ℕ) → 1 ≤ number → number ≤ count → list_any (λ n. number == n) numbers ≡ true) → (key : Cell) →
-    is_among hash count numbers key ≡ true
-all_among hash count numbers some all key = all (shard_of hash count key) (omega arith) (omega (arith, some))
+-- of as many shards as there are, each key belongs to one
+pub each_of : (hash_of : Cell → ℕ) (count : ℕ) → 1 ≤ count → (key : Cell) → IsNumberOf (loader.shard_of hash_of count key) count
+each_of hash_of count some key = record { least = omega arith; most = omega (arith, some) }
+
+-- each key belongs to one of the shards that have told
+pub all_among : (shard_of : Sharding) (count : ℕ) (numbers : List ℕ) → ((key : Cell) → IsNumberOf (shard_of count key) count) → ((number : ℕ) → 1 ≤ number → number ≤ count → list_any (λ n. number == n) numbers ≡ true) → (key : Cell) →
+    is_among shard_of count numbers key ≡ true
+all_among shard_of count numbers each all key = let one = each key in all (shard_of count key) one.least one.most
 
 -- ---- partial answers
 -- the partial answer of one shard
-pub one_shard : (hash : Cell → ℕ) (givens : Givens) (shard : ShardValue) (script : List ℕ) (tolds : List Told) (it : DocumentValue) →
-    it ≡ record { script = script; count = shard.count; numbers = shard.number ∷ []; lines = map line_value tolds } →
-    AreTold givens (takes hash shard) [] (lines script) tolds → IsPartialAnswer hash givens it
-one_shard hash givens shard script tolds it is told = subst (IsPartialAnswer hash givens) (sym is)
-    (record { tolds = tolds; are = refl; told = all_same givens (takes hash shard) (is_among hash shard.count (shard.number ∷ [])) (takes_among hash shard) [] (lines script) tolds told })
+pub one_shard : (shard_of : Sharding) (givens : Givens) (division : Division) (shard : ShardValue) (script : List ℕ) (tolds : List Told) (it : DocumentValue) →
+    it ≡ record { script = script; division = division; count = shard.count; numbers = shard.number ∷ []; lines = map line_value tolds } →
+    AreTold givens (belongs shard_of shard) [] (lines script) tolds → ((key : Cell) → IsNumberOf (shard_of shard.count key) shard.count) → IsPartialAnswer shard_of givens it
+one_shard shard_of givens division shard script tolds it is told each = subst (IsPartialAnswer shard_of givens) (sym is)
+    (record { tolds = tolds; are = refl; each = each; told = all_same givens (belongs shard_of shard) (is_among shard_of shard.count (shard.number ∷ [])) (takes_among shard_of shard) [] (lines script) tolds told })
 
 -- what is told in a partial answer, whatever memory has it
-pub told_in : (hash : Cell → ℕ) (givens : Givens) (it : DocumentValue) (tolds : List Told) → IsPartialAnswer hash givens it → map line_value tolds ≡ it.lines →
-    AreTold givens (is_among hash it.count it.numbers) [] (lines it.script) tolds
-told_in hash givens it tolds answer are = all_alike givens (is_among hash it.count it.numbers) [] (lines it.script) answer.tolds tolds answer.told (answer.are ∙ sym are)
+pub told_in : (shard_of : Sharding) (givens : Givens) (it : DocumentValue) (tolds : List Told) → IsPartialAnswer shard_of givens it → map line_value tolds ≡ it.lines →
+    AreTold givens (is_among shard_of it.count it.numbers) [] (lines it.script) tolds
+told_in shard_of givens it tolds answer are = all_alike givens (is_among shard_of it.count it.numbers) [] (lines it.script) answer.tolds tolds answer.told (answer.are ∙ sym are)
 
 -- the partial answer of both
-pub both_answer : (hash : Cell → ℕ) (givens : Givens) (first second : DocumentValue) (xs ys both : List Told) (it : DocumentValue) →
+pub both_answer : (shard_of : Sharding) (givens : Givens) (first second : DocumentValue) (xs ys both : List Told) (it : DocumentValue) →
     first.script ≡ second.script → first.count ≡ second.count → AreApart first.numbers second.numbers →
     map line_value xs ≡ first.lines → map line_value ys ≡ second.lines →
     ((one two : Cell → Bool) → ((key : Cell) → one key ≡ true → two key ≡ false) → AreTold givens one [] (lines first.script) xs → AreTold givens two [] (lines first.script) ys →
     AreTold givens (λ key. one key || two key) [] (lines first.script) both) →
     it.script ≡ first.script → it.count ≡ first.count → it.numbers ≡ first.numbers ++ second.numbers → it.lines ≡ map line_value both →
-    IsPartialAnswer hash givens first → IsPartialAnswer hash givens second → IsPartialAnswer hash givens it
-both_answer hash givens first second xs ys both it script count are_apart are_xs are_ys joins is_script is_count is_numbers is_lines one two =
-    let among_one = is_among hash first.count first.numbers in
-    let among_two = is_among hash first.count second.numbers in
-    let told_one = told_in hash givens first xs one are_xs in
-    let told_second = told_in hash givens second ys two are_ys in
-    let told_script = subst (λ s. AreTold givens (is_among hash second.count second.numbers) [] (lines s) ys) (sym script) told_second in
-    let told_two = subst (λ n. AreTold givens (is_among hash n second.numbers) [] (lines first.script) ys) (sym count) told_script in
-    let told = joins among_one among_two (λ key there. are_apart (shard_of hash first.count key) there) told_one told_two in
-    let all = all_same givens (λ key. among_one key || among_two key) (is_among hash first.count (first.numbers ++ second.numbers)) (among_both hash first.count first.numbers second.numbers) [] (lines first.script) both told in
-    let of_numbers = subst (λ ns. AreTold givens (is_among hash first.count ns) [] (lines first.script) both) (sym is_numbers) all in
-    let of_count = subst (λ n. AreTold givens (is_among hash n it.numbers) [] (lines first.script) both) (sym is_count) of_numbers in
-    record { tolds = both; are = sym is_lines; told = subst (λ s. AreTold givens (is_among hash it.count it.numbers) [] (lines s) both) (sym is_script) of_count }
+    IsPartialAnswer shard_of givens first → IsPartialAnswer shard_of givens second → IsPartialAnswer shard_of givens it
+both_answer shard_of givens first second xs ys both it script count are_apart are_xs are_ys joins is_script is_count is_numbers is_lines one two =
+    let among_one = is_among shard_of first.count first.numbers in
+    let among_two = is_among shard_of first.count second.numbers in
+    let told_one = told_in shard_of givens first xs one are_xs in
+    let told_second = told_in shard_of givens second ys two are_ys in
+    let told_script = subst (λ s. AreTold givens (is_among shard_of second.count second.numbers) [] (lines s) ys) (sym script) told_second in
+    let told_two = subst (λ n. AreTold givens (is_among shard_of n second.numbers) [] (lines first.script) ys) (sym count) told_script in
+    let told = joins among_one among_two (λ key there. are_apart (shard_of first.count key) there) told_one told_two in
+    let all = all_same givens (λ key. among_one key || among_two key) (is_among shard_of first.count (first.numbers ++ second.numbers)) (among_both shard_of first.count first.numbers second.numbers) [] (lines first.script) both told in
+    let of_numbers = subst (λ ns. AreTold givens (is_among shard_of first.count ns) [] (lines first.script) both) (sym is_numbers) all in
+    let of_count = subst (λ n. AreTold givens (is_among shard_of n it.numbers) [] (lines first.script) both) (sym is_count) of_numbers in
+    record { tolds = both; are = sym is_lines; told = subst (λ s. AreTold givens (is_among shard_of it.count it.numbers) [] (lines s) both) (sym is_script) of_count; each = λ key. subst (λ n. IsNumberOf (shard_of n key) n) (sym is_count) (one.each key) }

@@ -1,6 +1,7 @@
 -- Partial answers as values of JSON (RFC 8259), and as texts.
-use Rattle.std.specs.Prelude.{◌≡◌, ℕ, List, Option, None, Some, Result, Ok, Err, codes, IsUtf8}
-use Rattle.serde_json.specs.Data.{Data, no_members, null, number, object, put, string, unsigned}
+use Rattle.std.specs.Prelude.{◌≡◌, ℕ, List, [], ◌∷◌, Option, None, Some, Result, Ok, Err, bytes_eq, codes, IsUtf8}
+use Rattle.std.specs.List.{find}
+use Rattle.serde_json.specs.Data.{Data, no_members, null, object, put, string}
 use Rattle.serde_json.specs.Read.{read}
 use Rattle.cells.specs.Refusals.{number_of}
 use Rattle.groups.specs.Told.{GroupValue}
@@ -10,6 +11,8 @@ use Rattle.script.specs.declared.fault.Fault.TheVariants.{Line, Part}
 use Rattle.script.specs.declared.told.Told.{Told}
 use Rattle.script.specs.declared.told.Told.TheVariants.{Kept, Nothing, Refused}
 use Rattle.shards.specs.Frames.{framed}
+use Rattle.shards.specs.declared.division.Division.{Division}
+use Rattle.shards.specs.declared.division.Division.TheVariants.{Keys, Parts}
 
 -- a word, and what stands behind it
 abbrev pub SpellsBehind : List ℕ → (Data → Type 0) → Data → Type 0
@@ -34,18 +37,30 @@ SpellsLine None d = d ≡ null
 SpellsLine (Some (Err fault)) d = SpellsBehind (codes "refused") (SpellsFault fault) d
 SpellsLine (Some (Ok sets)) d = SpellsBehind (codes "kept") (SpellsSets sets) d
 
--- a partial answer: the script, of how many shards it is, the numbers of those that told, and what they tell of each of its lines
+-- the word that names how a table is divided into shards
+abbrev pub division_word : Division → List ℕ
+division_word Keys = codes "keys"
+division_word Parts = codes "parts"
+
+-- the division that a word names
+abbrev pub division_of : List ℕ → Option Division
+division_of word = find (λ division. bytes_eq word (division_word division)) (Keys ∷ Parts ∷ [])
+
+-- a partial answer: the script, how its table is divided and into how many shards, the numbers of those that told, and what they tell of each of its lines
 pub record DocumentValue : Type 0 where
   pub script : List ℕ
+  pub division : Division
   pub count : ℕ
   pub numbers : List ℕ
   pub lines : List LineValue
 
 -- an object with these members
 pub record SpellsDocument (it : DocumentValue) (d : Data) : Type 0 where
+  pub dividing : Data
   pub shards : Data
   pub told : Data
-  pub is : d ≡ object (put (codes "told") told (put (codes "shards") shards (put (codes "script") (string it.script) (put (codes "of") (number (unsigned it.count)) no_members))))
+  pub is : d ≡ object (put (codes "told") told (put (codes "shards") shards (put (codes "script") (string it.script) (put (codes "of") dividing no_members))))
+  pub is_dividing : SpellsBehind (division_word it.division) (SpellsCount it.count) dividing
   pub is_shards : SpellsList SpellsCount it.numbers shards
   pub is_told : SpellsList SpellsLine it.lines told
 

@@ -5,7 +5,7 @@ use Rattle.sha2.specs.Sha256.{sha256}
 
 -- what it is and its version, the SHA-256 of the body (FIPS 180-4) in hexadecimal digits, and a line feed
 abbrev pub head_of : List ℕ → List ℕ
-head_of body = codes "olap partial answers 1 " ++ (encode_lower (sha256 body) ++ 10 ∷ [])
+head_of body = codes "olap partial answers 2 " ++ (encode_lower (sha256 body) ++ 10 ∷ [])
 
 abbrev pub framed : List ℕ → List ℕ
 framed body = head_of body ++ body

@@ -6,7 +6,7 @@ ghost use Rattle.script.specs.Givens.{Givens};
 ghost use Rattle.script.specs.Limits.{part_limit};
 ghost use Rattle.script.specs.Output.{IsOutput};
 ghost use Rattle.script.specs.Told.{FitAll};
-ghost use Rattle.shards.specs.Answers.{IsComplete, IsIncomplete, IsPartialAnswer};
+ghost use Rattle.shards.specs.Answers.{IsComplete, IsIncomplete, IsPartialAnswer, Sharding};
 
 use crate::document::Document;
 use crate::line::tolds_of;
@@ -38,8 +38,8 @@ pub fn output<H: KeyHash<Cell> + KeyHash<Tuple>>(
     answer: Document,
     manner: &Manner,
 ) -> Result<Vec<u8>, Incomplete>
-    ensures output { (hash : Cell → ℕ) (givens : Givens) → givens.manner ≡ manner.now → length givens.parts ≤ part_limit → FitAll givens [] (lines answer.script) →
-        IsPartialAnswer H.KeyHash-1.hash_of givens answer → IfOk result (λ text. IsOutput hash givens answer.script text.items) }
+    ensures output { (hash : Cell → ℕ) (shard_of : Sharding) (givens : Givens) → givens.manner ≡ manner.now → length givens.parts ≤ part_limit → FitAll givens [] (lines answer.script) →
+        IsPartialAnswer shard_of givens answer → IfOk result (λ text. IsOutput hash givens answer.script text.items) }
     ensures all { IfOk result (λ text. IsComplete answer) }
     ensures why { IfErr result (IsIncomplete answer) }
 {

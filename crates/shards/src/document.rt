@@ -6,6 +6,7 @@ ghost use Rattle.serde_json.specs.Read.{read};
 ghost use Rattle.serde_json.specs.View.{view};
 ghost use Rattle.shards.specs.Documents.{DocumentValue, IsTextOf, SpellsDocument};
 
+use crate::division::{Division, division_in, division_value};
 use crate::frame::{body_of, framed};
 use crate::line::Line;
 use crate::unread::Unread;
@@ -19,6 +20,8 @@ use std::marker::Model;
 pub struct Document {
     /// The script.
     pub script: String,
+    /// How the table is divided into shards.
+    pub division: Division,
     /// How many shards the table has.
     pub count: u64,
     /// The numbers of those that tell, from 1 on.
@@ -33,7 +36,7 @@ impl Model for Document {
 
     ghost Value = { DocumentValue };
 
-    ghost view = { λ d. record { script = string_bytes d.script; count = d.count; numbers = d.numbers.items; lines = d.lines.items } };
+    ghost view = { λ d. record { script = string_bytes d.script; division = d.division; count = d.count; numbers = d.numbers.items; lines = d.lines.items } };
 }
 
 /// The text of a partial answer: a line with what it is, the version of the form and a check sum, and then one value of JSON. The
@@ -94,24 +97,25 @@ fn of_value(alloc: Global, value: &Value) -> Result<Document, Unread>
 fn value_of(alloc: Global, document: &Document) -> Result<Value, AllocError>
     ensures { IfOk result (λ v. SpellsDocument document.now (view v)) }
 {
+    let dividing = division_value(alloc, document.division, document.count)?;
     let script = Value::try_from_str(alloc, document.script.as_str())?;
     let shards = values_of(alloc, document.numbers.as_slice())?;
     let told = values_of(alloc, document.lines.as_slice())?;
-    object_of(alloc, Value::from(document.count), script, shards, told)
+    object_of(alloc, dividing, script, shards, told)
 }
 
 /// The object of a partial answer's members.
 fn object_of(
     alloc: Global,
-    count: Value,
+    dividing: Value,
     script: Value,
     shards: Value,
     told: Value,
 ) -> Result<Value, AllocError>
-    ensures { IfOk result (λ v. view v ≡ object (put (codes "told") (view told) (put (codes "shards") (view shards) (put (codes "script") (view script) (put (codes "of") (view count) no_members))))) }
+    ensures { IfOk result (λ v. view v ≡ object (put (codes "told") (view told) (put (codes "shards") (view shards) (put (codes "script") (view script) (put (codes "of") (view dividing) no_members))))) }
 {
     let mut members = Map::new(alloc);
-    serde_json::put(&mut members, alloc, "of", count)?;
+    serde_json::put(&mut members, alloc, "of", dividing)?;
     serde_json::put(&mut members, alloc, "script", script)?;
     serde_json::put(&mut members, alloc, "shards", shards)?;
     serde_json::put(&mut members, alloc, "told", told)?;
@@ -122,7 +126,7 @@ fn object_of(
 fn document_of(alloc: Global, value: &Value) -> Result<Option<Document>, AllocError>
     ensures { (it : DocumentValue) → SpellsDocument it (view value.now) → IfOk result (λ o. o ≡ Some it) }
 {
-    let (Some(count), Some(script), Some(shards), Some(told)) = (
+    let (Some(dividing), Some(script), Some(shards), Some(told)) = (
         value.get("of"),
         value.get("script"),
         value.get("shards"),
@@ -130,7 +134,10 @@ fn document_of(alloc: Global, value: &Value) -> Result<Option<Document>, AllocEr
     ) else {
         return Ok(None);
     };
-    let (Some(count), Some(script)) = (count.as_u64(), script.as_str()) else {
+    let Some((division, count)) = division_in(dividing) else {
+        return Ok(None);
+    };
+    let Some(script) = script.as_str() else {
         return Ok(None);
     };
     let Some(numbers) = list_of(alloc, shards)? else {
@@ -142,6 +149,7 @@ fn document_of(alloc: Global, value: &Value) -> Result<Option<Document>, AllocEr
     let script = String::from_str(alloc, script)?;
     Ok(Some(Document {
         script,
+        division,
         count,
         numbers,
         lines,

@@ -7,7 +7,7 @@ use sha2::{Digest, Sha256};
 use std::alloc::{AllocError, Global};
 
 /// How a partial answer begins: what it is, and the version of its form.
-const MARK: &[u8] = b"olap partial answers 1 ";
+const MARK: &[u8] = b"olap partial answers 2 ";
 
 /// How many bytes the first line has, with its end.
 const HEAD_BYTES: usize = 88;

@@ -1,7 +1,7 @@
 //! Partial answers of different shards, put together.
 ghost use Rattle.std.specs.Prelude.{◌≡◌, ◌++◌, IfErr, IfOk};
 ghost use Rattle.script.specs.Givens.{Givens};
-ghost use Rattle.shards.specs.Answers.{AreApart, AreOfOne, IsPartialAnswer, IsUnjoined};
+ghost use Rattle.shards.specs.Answers.{AreApart, AreOfOne, IsPartialAnswer, IsUnjoined, Sharding};
 
 use crate::document::Document;
 use crate::line::{lines_of, tolds_of};
@@ -17,6 +17,8 @@ pub enum Unjoined {
     OutOfMemory,
     /// They are of two scripts.
     OtherScript,
+    /// The table of one is divided by keys, that of the other by parts.
+    OtherDivision,
     /// They are of tables that do not have as many shards.
     OtherCount,
     /// Both have this shard.
@@ -50,16 +52,17 @@ impl<T: Drop> From<AllocFailed<T>> for Unjoined {
 /// The partial answer of the shards of both. The order in which more than two are joined does not count for what is written in
 /// the end.
 ///
-/// The first that holds: [`Unjoined::OtherScript`], [`Unjoined::OtherCount`], [`Unjoined::Twice`] with the first shard of the first
+/// The first that holds: [`Unjoined::OtherScript`], [`Unjoined::OtherDivision`], [`Unjoined::OtherCount`], [`Unjoined::Twice`] with the first shard of the first
 /// one that the second has, too; else [`Unjoined::Unfit`] or [`Unjoined::OutOfMemory`].
 pub fn join<H: KeyHash<Cell> + KeyHash<Tuple>>(
     alloc: Global,
     first: Document,
     second: Document,
 ) -> Result<Document, Unjoined>
-    ensures told { (givens : Givens) → IsPartialAnswer H.KeyHash-1.hash_of givens first → IsPartialAnswer H.KeyHash-1.hash_of givens second →
-        IfOk result (IsPartialAnswer H.KeyHash-1.hash_of givens) }
+    ensures told { (shard_of : Sharding) (givens : Givens) → IsPartialAnswer shard_of givens first → IsPartialAnswer shard_of givens second →
+        IfOk result (IsPartialAnswer shard_of givens) }
     ensures script { IfOk result (λ it. it.script ≡ first.script) }
+    ensures division { IfOk result (λ it. it.division ≡ first.division) }
     ensures count { IfOk result (λ it. it.count ≡ first.count) }
     ensures numbers { IfOk result (λ it. it.numbers ≡ first.numbers ++ second.numbers) }
     ensures one { IfOk result (λ it. AreOfOne first second) }
@@ -67,6 +70,9 @@ pub fn join<H: KeyHash<Cell> + KeyHash<Tuple>>(
 {
     if first.script.as_str() != second.script.as_str() {
         return Err(Unjoined::OtherScript);
+    }
+    if first.division != second.division {
+        return Err(Unjoined::OtherDivision);
     }
     if first.count != second.count {
         return Err(Unjoined::OtherCount);
@@ -84,11 +90,13 @@ fn both<H: KeyHash<Cell> + KeyHash<Tuple>>(
     second: Document,
 ) -> Result<Document, Unjoined>
     requires script { first.script ≡ second.script }
+    requires division { first.division ≡ second.division }
     requires count { first.count ≡ second.count }
     requires apart { AreApart first.numbers second.numbers }
-    ensures told { (givens : Givens) → IsPartialAnswer H.KeyHash-1.hash_of givens first → IsPartialAnswer H.KeyHash-1.hash_of givens second →
-        IfOk result (IsPartialAnswer H.KeyHash-1.hash_of givens) }
+    ensures told { (shard_of : Sharding) (givens : Givens) → IsPartialAnswer shard_of givens first → IsPartialAnswer shard_of givens second →
+        IfOk result (IsPartialAnswer shard_of givens) }
     ensures script { IfOk result (λ it. it.script ≡ first.script) }
+    ensures division { IfOk result (λ it. it.division ≡ first.division) }
     ensures count { IfOk result (λ it. it.count ≡ first.count) }
     ensures numbers { IfOk result (λ it. it.numbers ≡ first.numbers ++ second.numbers) }
     ensures one { IfOk result (λ it. AreOfOne first second) }
@@ -96,6 +104,7 @@ fn both<H: KeyHash<Cell> + KeyHash<Tuple>>(
 {
     let Document {
         script,
+        division,
         count,
         mut numbers,
         lines,
@@ -114,6 +123,7 @@ fn both<H: KeyHash<Cell> + KeyHash<Tuple>>(
     let lines = lines_of(alloc, both)?;
     Ok(Document {
         script,
+        division,
         count,
         numbers,
         lines,

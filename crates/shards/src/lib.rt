@@ -3,6 +3,7 @@
 #![tactic(auto)]
 
 mod complete;
+mod division;
 mod document;
 mod fault;
 mod frame;
@@ -13,8 +14,9 @@ mod telling;
 mod unread;
 
 pub use complete::{Incomplete, output};
+pub use division::Division;
 pub use document::{Document, read, write};
 pub use joining::{Unjoined, join};
 pub use line::Line;
-pub use telling::tell;
+pub use telling::{tell, tell_own};
 pub use unread::Unread;

@@ -1,6 +1,6 @@
 use Rattle.std.proofs.Common.{List, map, string_bytes, subst, ℕ, Option, ◌∷◌, inr, sym}
 use Rattle.std.specs.Io.Buffered.{writer_buffer, writer_contents}
-use Rattle.olap.specs.Options.{AreAmong}
+use Rattle.questions.specs.Options.{AreAmong}
 use Rattle.olap.specs.Queries.{AskToAnswer, IsAnswerOfNamed}
 use Rattle.olap.proofs.QueriesLemmas.{asked, leaves_as}
 use Rattle.olap.proofs.ask.ask.Goals as goal

@@ -7,9 +7,9 @@ use Rattle.shards.proofs.ToldsLemmas.{both_answer}
 use Rattle.shards.proofs.joining.both.Goals as goal
 
 pub returns-clause-told : goal.returns-clause-told
-returns-clause-told g c = λ givens.
+returns-clause-told g c = λ shard_of givens.
     let script = c.as_bytes.ensures.value ∙ ap (λ (d : DocumentValue). d.script) c.first.view_is in
-    both_answer g.H.KeyHash-1.hash_of givens c.args.first c.args.second c.in_ok-tolds.tolds.items c.in_ok-others.others.items c.in-Some.both.items _ c.requires.script c.requires.count c.requires.apart
+    both_answer shard_of givens c.args.first c.args.second c.in_ok-tolds.tolds.items c.in_ok-others.others.items c.in-Some.both.items _ c.requires.script c.requires.count c.requires.apart
     (c.in_ok-tolds.ensures ∙ ap (λ (d : DocumentValue). d.lines) c.first.view_is) (c.in_ok-others.ensures ∙ ap (λ (d : DocumentValue). d.lines) c.second.view_is)
     (λ one two are_apart told_one told_two. subst (λ s. AreTold givens (λ key. one key || two key) [] (lines s) c.in-Some.both.items) script
     (subst (λ o. IfSome o (λ both. AreTold givens (λ key. one key || two key) [] (lines c.as_bytes.result.now) both.items)) c.in-Some.is

@@ -1,0 +1,4 @@
+pub mod CommandLineLemmas
+pub mod NamingLemmas
+pub mod SessionWordsLemmas
+pub mod ShardWordsLemmas

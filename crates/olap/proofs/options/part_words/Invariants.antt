@@ -1,9 +1,0 @@
-use Rattle.std.proofs.Common.{length}
-use Rattle.olap.proofs.OptionsLemmas.{IsParted}
-use Rattle.olap.proofs.options.part_words.Given as goal
-
-abbrev pub invariant-loop-word : goal.invariant-loop-word
-invariant-loop-word l = IsParted l.words l.rest l.parted
-
-abbrev pub decreases-loop-word : goal.decreases-loop-word
-decreases-loop-word l = length l.rest

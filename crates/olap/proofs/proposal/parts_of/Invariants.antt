@@ -1,5 +1,0 @@
-use Rattle.olap.specs.Proposals.{MadeOf}
-use Rattle.olap.proofs.proposal.parts_of.Given as goal
-
-abbrev pub invariant-loop-file : goal.invariant-loop-file
-invariant-loop-file l = MadeOf l.fn.choice l.files l.file l.parts.items l.choice

@@ -1,0 +1,3 @@
+pub mod OptionsLemmas
+pub mod ProposalsLemmas
+pub mod QuestionsLemmas

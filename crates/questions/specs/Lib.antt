@@ -1,0 +1,3 @@
+pub mod Options
+pub mod Proposals
+pub mod Questions
