@@ -73,30 +73,39 @@ def modules_of_types(crate):
     return found
 
 
-def named(crate, file, heads):
-    """What a check calls the innermost function of these heads; None where there is none."""
-    module = module_of(file)
-    names = [it for head in heads for it in re.findall(r"\bfn (\w+)", head)[-1:]]
-    if not names:
-        return None
+def implemented(heads):
+    """The type of the `impl` among these heads, and its trait, if they have one."""
     impl = next((" ".join(it.split()) for it in heads if re.search(r"\bimpl\b", it)), "")
     while "<" in impl:
         impl = re.sub(r"<[^<>]*>", "", impl)
     kind = re.search(r"\bimpl\s+(?:([\w:]+)\s+for\s+)?&?([\w:]+)", impl)
-    kinds = ["".join(it.split("::")[-1] for it in (kind[2], kind[1] or ""))] if kind else []
-    if kind and not kind[1]:
-        # (a type's own functions stand below the type, wherever they are written)
-        homes = modules_of_types(crate).get(kinds[0], [])
-        module = homes[0] if homes and module not in homes else module
+    return [it.split("::")[-1] for it in (kind[2], kind[1] or "")] if kind else ["", ""]
+
+
+def named(crate, module, heads):
+    """What a check calls the innermost function of these heads in a module; None where there is none."""
+    names = [it for head in heads for it in re.findall(r"\bfn (\w+)", head)[-1:]]
+    if not names:
+        return None
+    kinds = [it for it in ["".join(implemented(heads))] if it]
     # a body that a trait gives its function stands below the trait
     kinds += [it for head in heads for it in re.findall(r"\btrait (\w+)", head)]
     return "::".join([crate, *module, *kinds, names[-1]])
 
 
+def home_of(crate, file, heads):
+    """The module below which a check finds the innermost function of these heads: a type's own functions stand below the
+    type, wherever they are written."""
+    kind, trait = implemented(heads)
+    homes = [] if trait else modules_of_types(crate).get(kind, [])
+    return homes[0] if homes and module_of(file) not in homes else module_of(file)
+
+
 def owner(crate, file, text, at):
-    """The function around a place of a file, by the path under which a check names it; None where there is none."""
+    """The function around a place of a file, by the path under which a check names it, where a type's functions are written
+    beside the type; None where there is none."""
     code = bare(text)
-    return named(crate, file, [code[slice(*it)] for it in opened(code, at)])
+    return named(crate, module_of(file), [code[slice(*it)] for it in opened(code, at)])
 
 
 def is_for_some(head):
@@ -108,7 +117,7 @@ def is_for_some(head):
 
 
 def bodies(crate, file, text):
-    """The bodies of a file's functions that have a name of their own and that only their callers' proofs need not read."""
+    """The bodies of a file's functions but those that a check needs or names by more than their type."""
     code, last = bare(text), 0
     for place, heads in places(code):
         if not heads or heads[-1][1] != place - 1 or place < last:
@@ -118,4 +127,4 @@ def bodies(crate, file, text):
             last = end_of(code, place)
             if not any(NEEDED.search(it) or is_for_some(it) for it in said):
                 cycle = CYCLE.search(said[-1])
-                yield Body(named(crate, file, said), cycle[1] if cycle else "", heads[-1][0], place, last)
+                yield Body(named(crate, home_of(crate, file, said), said), cycle[1] if cycle else "", heads[-1][0], place, last)
