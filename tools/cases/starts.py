@@ -81,7 +81,7 @@ RUNS = [
 HELP = [
     Case("help", ["--help"], output=Text(has="Usage: olap <COMMAND>")),
     Case("help of run", ["run", "--help"], output=Text(has="Usage: olap run [OPTIONS] <SCRIPT> [PART]...")),
-    Case("the version", ["--version"], output="olap 1.14.0 (rattle-kit-13b logic dac8208d650f15bf)\n"),
+    Case("the version", ["--version"], output="olap 1.14.1 (rattle-kit-13f logic dac8208d650f15bf)\n"),
 ]
 
 REFUSED = [

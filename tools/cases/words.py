@@ -136,8 +136,8 @@ RUN = "\nUsage: olap run [OPTIONS] <SCRIPT> [PART]...\n"
 LIVE = "\nUsage: olap live [OPTIONS] --query <QUERY> <SCRIPT> [PART]...\n"
 
 HELP = [
-    case("--version", output="olap 1.14.0 (rattle-kit-13b logic dac8208d650f15bf)\n"),
-    case("-V", output="olap 1.14.0 (rattle-kit-13b logic dac8208d650f15bf)\n"),
+    case("--version", output="olap 1.14.1 (rattle-kit-13f logic dac8208d650f15bf)\n"),
+    case("-V", output="olap 1.14.1 (rattle-kit-13f logic dac8208d650f15bf)\n"),
     help("--help", TOP),
     help("-h", TOP),
     help("help", TOP),

@@ -1,5 +1,5 @@
--- The numbers of refusals, and what a call may answer.
-use Rattle.std.specs.Prelude.{◌≡◌, ◌⊎◌, ℕ, Option, Some, None, Result, Ok, Err}
+-- The numbers and names of refusals, and what a call may answer.
+use Rattle.std.specs.Prelude.{◌≡◌, ◌⊎◌, ℕ, List, codes, Option, Some, None, Result, Ok, Err}
 use Rattle.cells.specs.declared.refused.Refused.{Refused}
 use Rattle.cells.specs.declared.refused.Refused.TheVariants.{NoTable, TableAgain, BadCommand, BadSchema, NoPart, BadPart, BadRecord, BadKey, TooManyRows, QuerySyntax, Unknown, NotGrouped, WrongType, TooManySets, Limit, OutOfMemory, NoWorker, WriteFailed, NotShown}
 use Rattle.cells.specs.declared.token.TokenFault.{TokenFault}
@@ -26,6 +26,28 @@ number_of OutOfMemory = 90
 number_of NoWorker = 91
 number_of WriteFailed = 92
 number_of NotShown = 93
+
+-- the name, which stands beside the number where programs read
+abbrev pub name_of : Refused → List ℕ
+name_of NoTable = codes "NoTable"
+name_of TableAgain = codes "TableAgain"
+name_of BadCommand = codes "BadCommand"
+name_of BadSchema = codes "BadSchema"
+name_of NoPart = codes "NoPart"
+name_of BadPart = codes "BadPart"
+name_of BadRecord = codes "BadRecord"
+name_of BadKey = codes "BadKey"
+name_of TooManyRows = codes "TooManyRows"
+name_of QuerySyntax = codes "QuerySyntax"
+name_of Unknown = codes "Unknown"
+name_of NotGrouped = codes "NotGrouped"
+name_of WrongType = codes "WrongType"
+name_of TooManySets = codes "TooManySets"
+name_of Limit = codes "Limit"
+name_of OutOfMemory = codes "OutOfMemory"
+name_of NoWorker = codes "NoWorker"
+name_of WriteFailed = codes "WriteFailed"
+name_of NotShown = codes "NotShown"
 
 -- What a reader answers, beside what it is said to read. `view` is how its value is seen, and `want` the fault that comes
 -- where memory is wanting, whatever is said.

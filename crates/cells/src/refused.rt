@@ -1,9 +1,10 @@
 //! Why a line or a call is refused.
 ghost use Rattle.std.specs.Prelude.{◌≡◌};
-ghost use Rattle.cells.specs.Refusals.{number_of};
+ghost use Rattle.cells.specs.Refusals.{name_of, number_of};
 ghost use Rattle.cells.specs.declared.refused.Refused.TheVariants.{OutOfMemory};
 
 use std::alloc::{AllocError, AllocFailed};
+use std::fmt;
 use thiserror::Error;
 
 /// A refusal. Its text is its name; its number is what a report prints.
@@ -12,61 +13,42 @@ use thiserror::Error;
 #[derive(Clone, Copy, Debug, PartialEq, Eq, Drop, Error)]
 pub enum Refused {
     /// A line needs a table, and none was declared.
-    #[error("NoTable")]
     NoTable,
     /// A second `table` line after an accepted one.
-    #[error("TableAgain")]
     TableAgain,
     /// A line that is not UTF-8, has an unknown command word, or a rest that is not in the command's form.
-    #[error("BadCommand")]
     BadCommand,
     /// The text of a `table` line spells no schema.
-    #[error("BadSchema")]
     BadSchema,
     /// `load` names part 0, or a part that was not handed in.
-    #[error("NoPart")]
     NoPart,
     /// A listed part has a faulty record.
-    #[error("BadPart")]
     BadPart,
     /// The fields of a record spell no row.
-    #[error("BadRecord")]
     BadRecord,
     /// The rest of `delete` is not exactly one literal of the key's type.
-    #[error("BadKey")]
     BadKey,
     /// The draft would hold more rows than the limit.
-    #[error("TooManyRows")]
     TooManyRows,
     /// The query is not in the grammar.
-    #[error("QuerySyntax")]
     QuerySyntax,
     /// The query names another table, or a column that the schema does not have.
-    #[error("Unknown")]
     Unknown,
     /// A column stands in the select list and in no grouping set.
-    #[error("NotGrouped")]
     NotGrouped,
     /// SUM over a text column, or a comparison of an integer with a text.
-    #[error("WrongType")]
     WrongType,
     /// More than 256 grouping sets.
-    #[error("TooManySets")]
     TooManySets,
     /// A limit on the query, the script or the parts.
-    #[error("Limit")]
     Limit,
     /// A growth was really refused.
-    #[error("OutOfMemory")]
     OutOfMemory,
     /// A worker thread could not be started.
-    #[error("NoWorker")]
     NoWorker,
     /// The writer failed during the call.
-    #[error("WriteFailed")]
     WriteFailed,
     /// A reader's place was refused.
-    #[error("NotShown")]
     NotShown,
 }
 
@@ -96,6 +78,44 @@ impl Refused {
             Refused::WriteFailed => 92,
             Refused::NotShown => 93,
         }
+    }
+
+    /// The name, which programs read beside the number. It takes no memory.
+    pub fn name(&self) -> &'static str
+        ensures { result.now ≡ name_of self.now }
+    {
+        match self {
+            Refused::NoTable => "NoTable",
+            Refused::TableAgain => "TableAgain",
+            Refused::BadCommand => "BadCommand",
+            Refused::BadSchema => "BadSchema",
+            Refused::NoPart => "NoPart",
+            Refused::BadPart => "BadPart",
+            Refused::BadRecord => "BadRecord",
+            Refused::BadKey => "BadKey",
+            Refused::TooManyRows => "TooManyRows",
+            Refused::QuerySyntax => "QuerySyntax",
+            Refused::Unknown => "Unknown",
+            Refused::NotGrouped => "NotGrouped",
+            Refused::WrongType => "WrongType",
+            Refused::TooManySets => "TooManySets",
+            Refused::Limit => "Limit",
+            Refused::OutOfMemory => "OutOfMemory",
+            Refused::NoWorker => "NoWorker",
+            Refused::WriteFailed => "WriteFailed",
+            Refused::NotShown => "NotShown",
+        }
+    }
+}
+
+impl fmt::Display for Refused {
+    ghost use Rattle.std.specs.Prelude.{Some};
+    ghost use Rattle.cells.specs.Refusals.{name_of};
+
+    ghost output = { λ refused. Some (name_of refused) };
+
+    fn fmt<W: fmt::Write>(&self, f: &mut fmt::Formatter<W>) -> fmt::Result {
+        f.write_str(self.name())
     }
 }
 

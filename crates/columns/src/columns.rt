@@ -94,69 +94,85 @@ impl Columns {
             return Ok(self.column_count() as u64);
         };
         let laid = AtomicU64::new(0);
-        self.lay_out_missing(rt, alloc, piece, &kept, 2, &laid)?;
+        self.lay_out_missing(rt, alloc, piece, &kept, &laid)?;
         for place in 0..self.column_count() {
             self.take_kept_at(rt, alloc, place, piece, &kept, &laid)?;
         }
         Ok(laid.load(SeqCst))
     }
 
-    /// Lays out those of the columns that do not lie beside the piece yet, for who takes them later, unless another thread is at
-    /// the piece now. So threads that go over the same pieces share that work, and none waits. It tells how many columns were laid
-    /// out. Nothing rests on which are there then.
+    /// Asks at a piece for these columns, before any is laid out: who then lays out columns there does so in one walk for all
+    /// reports that have asked by then. Whether one of them does not lie beside the piece yet. Nothing rests on it.
+    pub fn ask_for<H: KeyHash<Cell>, R: Wait>(
+        &self,
+        rt: &R,
+        alloc: Global,
+        piece: &RowPiece<H>,
+    ) -> bool {
+        let Some(kept) = PieceColumns::beside(rt, alloc, piece) else {
+            return false;
+        };
+        self.columns
+            .iter()
+            .filter(|named| kept.ask_for(named.index))
+            .count()
+            > 0
+    }
+
+    /// Lays out the columns that do not lie beside the piece yet, of those that were asked for there, for who takes them later,
+    /// where one of these columns is among them. It tells how many columns were laid out; None where another thread is at the
+    /// piece now. So threads that go over the same pieces share that work, and none waits. Nothing rests on which are there then.
     pub fn lay_out_ahead<H: KeyHash<Cell>, R: Wait>(
         &self,
         rt: &R,
         alloc: Global,
         piece: &RowPiece<H>,
-    ) -> Result<u64, AllocError> {
+    ) -> Result<Option<u64>, AllocError> {
         let Some(kept) = PieceColumns::beside(rt, alloc, piece) else {
-            return Ok(0);
+            return Ok(Some(0));
         };
-        if !self.wants_any(&kept) || !kept.claim() {
-            return Ok(0);
+        if !self.lacks_any(&kept) {
+            return Ok(Some(0));
+        }
+        if !kept.claim() {
+            return Ok(None);
         }
         let laid = AtomicU64::new(0);
-        let done = self.lay_out_missing(rt, alloc, piece, &kept, 1, &laid);
+        let done = lay_out_asked(rt, alloc, piece, &kept, &laid);
         kept.release();
         done?;
-        Ok(laid.load(SeqCst))
+        Ok(Some(laid.load(SeqCst)))
     }
 
     /// Whether one of the columns does not lie beside the piece yet. Nothing rests on it.
-    fn wants_any(&self, kept: &PieceColumns) -> bool {
-        self.columns.iter().any(|named| kept.wants(named.index))
+    fn lacks_any(&self, kept: &PieceColumns) -> bool {
+        self.columns.iter().any(|named| kept.lacks(named.index))
     }
 
-    /// Lays out those of the columns that do not lie beside the piece yet, in one walk, in which each row is fetched once for all
-    /// of them. Fewer than so many are left to who takes them, and who waits where another thread is at it. Nothing rests on which
-    /// are there then.
+    /// Lays out those of the columns that do not lie beside the piece yet, where they are several. A single one is left to who
+    /// takes it, and who waits where another thread is at it. Nothing rests on which are there then.
     fn lay_out_missing<H: KeyHash<Cell>, R: Wait>(
         &self,
         rt: &R,
         alloc: Global,
         piece: &RowPiece<H>,
         kept: &PieceColumns,
-        fewest: usize,
         laid: &AtomicU64,
     ) -> Result<(), AllocError>
         requires { ArePlacesFor piece.now kept.now.places.items }
     {
         let missing = self.missing(alloc, kept)?;
-        if missing.len() < fewest {
+        if missing.len() < 2 {
             return Ok(());
         }
-        let mut all = Columns::of_named(alloc, missing.as_slice())?;
-        all.take(piece)?;
-        all.put_beside(rt, piece, kept, laid);
-        Ok(())
+        lay_out(rt, alloc, piece, kept, missing.as_slice(), laid)
     }
 
     /// The indexes of the columns that do not lie beside the piece yet. Nothing rests on them.
     fn missing(&self, alloc: Global, kept: &PieceColumns) -> Result<Vec<usize>, AllocError> {
         let mut missing = Vec::new(alloc);
         for named in &self.columns {
-            if kept.wants(named.index) {
+            if kept.lacks(named.index) {
                 missing.push(named.index)?;
             }
         }
@@ -268,6 +284,37 @@ impl Columns {
     {
         self.columns[place].take(cells)
     }
+}
+
+/// Lays out the columns that were asked for at the piece and do not lie beside it yet. Nothing rests on which are there then.
+fn lay_out_asked<H: KeyHash<Cell>, R: Wait>(
+    rt: &R,
+    alloc: Global,
+    piece: &RowPiece<H>,
+    kept: &PieceColumns,
+    laid: &AtomicU64,
+) -> Result<(), AllocError>
+    requires { ArePlacesFor piece.now kept.now.places.items }
+{
+    let asked = kept.asked_for(alloc)?;
+    lay_out(rt, alloc, piece, kept, asked.as_slice(), laid)
+}
+
+/// Lays out the columns of these indexes beside the piece, in one walk, in which each row is fetched once for all of them.
+fn lay_out<H: KeyHash<Cell>, R: Wait>(
+    rt: &R,
+    alloc: Global,
+    piece: &RowPiece<H>,
+    kept: &PieceColumns,
+    indexes: &[usize],
+    laid: &AtomicU64,
+) -> Result<(), AllocError>
+    requires { ArePlacesFor piece.now kept.now.places.items }
+{
+    let mut all = Columns::of_named(alloc, indexes)?;
+    all.take(piece)?;
+    all.put_beside(rt, piece, kept, laid);
+    Ok(())
 }
 
 impl Visitor<Cell, Row> for Columns {

@@ -8,8 +8,8 @@ use crate::named_column::NamedColumn;
 use cells::{Cell, KeyHash, Row};
 use shelf::{Shelf, Shows, Told};
 use std::alloc::{AllocError, Global};
-use std::sync::atomic::AtomicU64;
 use std::sync::atomic::Ordering::SeqCst;
+use std::sync::atomic::{AtomicBool, AtomicU64};
 use std::sync::{Arc, Wait};
 use std::thread::Promise;
 use trie::{Piece, Summary, Summed, Trie, Visitor};
@@ -46,6 +46,8 @@ impl<H: KeyHash<Cell>> Shows<RowPiece<H>, (Cell, Row)> for ItsEntries {
 pub(crate) struct Place {
     index: usize,
     shelf: Shelf<CodeColumn, CellsAt>,
+    // whether a report has asked for the column; nothing rests on it
+    is_asked_for: AtomicBool,
 }
 
 impl Place {
@@ -62,6 +64,7 @@ impl Place {
         Ok(Place {
             index,
             shelf: Shelf::new(alloc, &promise)?,
+            is_asked_for: AtomicBool::new(false),
         })
     }
 
@@ -202,11 +205,34 @@ impl PieceColumns {
     }
 
     /// Whether the rows have a column of the index that is not laid out yet. Nothing rests on it.
-    pub(crate) fn wants(&self, index: usize) -> bool {
+    pub(crate) fn lacks(&self, index: usize) -> bool {
         match self.places.get(index) {
             Some(place) => place.is_empty(),
             None => false,
         }
+    }
+
+    /// Asks for the column of the index. Whether the rows have one that is not laid out yet. Nothing rests on it.
+    pub(crate) fn ask_for(&self, index: usize) -> bool {
+        let Some(place) = self.places.get(index) else {
+            return false;
+        };
+        if !place.is_empty() {
+            return false;
+        }
+        place.is_asked_for.store(true, SeqCst);
+        true
+    }
+
+    /// The indexes of the columns that were asked for and are not laid out yet. Nothing rests on them.
+    pub(crate) fn asked_for(&self, alloc: Global) -> Result<Vec<usize>, AllocError> {
+        let mut asked = Vec::new(alloc);
+        for place in &self.places {
+            if place.is_asked_for.load(SeqCst) && place.is_empty() {
+                asked.push(place.index)?;
+            }
+        }
+        Ok(asked)
     }
 
     /// Puts a column of the index, which has the cells of the piece's rows, beside the piece, unless there is one by then. `laid`

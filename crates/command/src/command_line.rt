@@ -53,7 +53,7 @@ The status is 0 where the whole output was written, 1 where a strict run stopped
 2 where the words are refused or a file cannot be read, and 3 where the run ended early.";
 
 /// The version of the program, and the toolchain that proved and built it: what `olap --version` prints.
-pub const VERSION: &str = "1.14.0 (rattle-kit-13b logic dac8208d650f15bf)";
+pub const VERSION: &str = "1.14.1 (rattle-kit-13f logic dac8208d650f15bf)";
 
 /// What `clap` finds in the words after the program's name.
 pub fn matches<'a>(alloc: Global, words: &'a [&'a str]) -> Result<ArgMatches<'a>, Error>

@@ -17,7 +17,7 @@ use crate::listing::gather_rows;
 use crate::sharing::share_out;
 use crate::task::Task;
 use cells::{Cell, KeyHash, Refused, Tuple};
-use columns::RowPiece;
+use columns::{Columns, RowPiece};
 use groups::{Folding, Partial, any_order};
 use query::Plan;
 use std::alloc::{AllocError, Global};
@@ -25,7 +25,7 @@ use std::marker::Model;
 use std::sync::Wait;
 use std::thread::Threads;
 
-// How often a worker goes over the pieces to lay out what is wanting, before it draws the first.
+// How often at most a worker goes over the pieces to lay out what is wanting, before it draws the first.
 const ROUNDS: u64 = 2;
 
 /// The partial result of the rows of all pieces, of which there are at most [`MAX_PIECES`](crate::MAX_PIECES), for
@@ -211,6 +211,17 @@ impl<'a, 'p, H: KeyHash<Cell>, G, R> Gathering<'a, 'p, H, G, R> {
     }
 }
 
+impl<'a, 'p, H: KeyHash<Cell>, G, R: Wait> Gathering<'a, 'p, H, G, R> {
+    /// Asks for the columns at all pieces. Whether one of them is not laid out yet. Nothing rests on it.
+    fn ask_for(&self, alloc: Global, columns: &Columns) -> bool {
+        self.pieces
+            .iter()
+            .filter(|piece| columns.ask_for(self.rt, alloc, piece))
+            .count()
+            > 0
+    }
+}
+
 impl<'a, 'p, H: KeyHash<Cell> + KeyHash<Tuple> + Send + Sync, G: Gate, R: Wait + Sync> Task
     for Gathering<'a, 'p, H, G, R> {
     ghost use Rattle.std.specs.Prelude.{length};
@@ -223,15 +234,25 @@ impl<'a, 'p, H: KeyHash<Cell> + KeyHash<Tuple> + Send + Sync, G: Gate, R: Wait +
 
     ghost makes = { λ g places made. Gathers g.plan (rows_at g.pieces places) made };
 
+    // Reports that run beside each other come to the same pieces at the same time. So each asks for its columns at all pieces before
+    // it lays out any, passes by pieces at which another one is, and comes to them once more. Nothing rests on it: who takes a piece
+    // lays out what is wanting, or is refused.
     fn begin(&self, alloc: Global) -> Result<Gathered<'a, H>, AllocError> {
         let made = Gathered::new(alloc, self.plan)?;
-        // Reports that run beside each other would come to the same pieces at the same time, and each lay out their columns. Here
-        // each passes by pieces at which another one is, and comes to them once more. Nothing rests on it: who takes a piece lays
-        // out what is wanting, or is refused.
+        if !self.ask_for(alloc, &made.columns) {
+            return Ok(made);
+        }
         for _round in 0..ROUNDS {
+            let mut was_passed_by = false;
             for (place, piece) in self.pieces.iter().enumerate() {
-                let laid = made.columns.lay_out_ahead(self.rt, alloc, piece);
-                self.gate.laid_out(place as u64, laid.unwrap_or(0));
+                match made.columns.lay_out_ahead(self.rt, alloc, piece) {
+                    Ok(Some(laid)) => self.gate.laid_out(place as u64, laid),
+                    Ok(None) => was_passed_by = true,
+                    Err(_) => {}
+                }
+            }
+            if !was_passed_by {
+                break;
             }
         }
         Ok(made)

@@ -1,12 +1,11 @@
 -- What lines and viewers say in records of CSV. Each record begins with what the line is about.
 use Rattle.std.specs.Prelude.{ℕ, List, ◌++◌, codes, decimal}
 use Rattle.std.specs.List.{flat_map}
-use Rattle.cells.specs.Refusals.{number_of}
+use Rattle.cells.specs.Refusals.{name_of, number_of}
 use Rattle.cells.specs.declared.refused.Refused.{Refused}
 use Rattle.cells.specs.declared.refused.Refused.TheVariants.{BadPart}
 use Rattle.trie.specs.Shapes.{prefix_text}
 use Rattle.script.specs.ClassicSpelling.{newline}
-use Rattle.script.specs.Refusals.{name_of}
 use Rattle.script.specs.declared.fault.Fault.{Fault}
 use Rattle.script.specs.declared.fault.Fault.TheVariants.{Line, Part}
 

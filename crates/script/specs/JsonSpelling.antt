@@ -1,11 +1,10 @@
 -- What lines and viewers say in JSON: an object for each, in a line. The object of a report is closed by the report itself.
 use Rattle.std.specs.Prelude.{ℕ, List, [], ◌∷◌, ◌++◌, codes, decimal}
 use Rattle.std.specs.List.{join_by}
-use Rattle.cells.specs.Refusals.{number_of}
+use Rattle.cells.specs.Refusals.{name_of, number_of}
 use Rattle.cells.specs.declared.refused.Refused.{Refused}
 use Rattle.cells.specs.declared.refused.Refused.TheVariants.{BadPart}
 use Rattle.trie.specs.Shapes.{prefix_text}
-use Rattle.script.specs.Refusals.{name_of}
 use Rattle.script.specs.declared.fault.Fault.{Fault}
 use Rattle.script.specs.declared.fault.Fault.TheVariants.{Line, Part}
 

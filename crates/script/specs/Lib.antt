@@ -18,7 +18,6 @@ pub mod Manners
 pub mod Output
 pub mod Own
 pub mod Parameters
-pub mod Refusals
 pub mod Retelling
 pub mod Says
 pub mod Sessions

@@ -4,7 +4,6 @@ ghost use Rattle.std.specs.List.{flat_map};
 ghost use Rattle.script.specs.CsvSpelling.{fault_fields, heading, refusal, rule_fields, shape_body, shape_line, view_heading, viewers_refused};
 
 use crate::fault::Fault;
-use crate::refusal_name::name_of;
 use cells::Refused;
 use std::alloc::{AllocError, Global};
 use std::fmt;
@@ -21,7 +20,7 @@ impl fmt::Display for RuleFields {
 
     fn fmt<W: fmt::Write>(&self, f: &mut fmt::Formatter<W>) -> fmt::Result {
         let number = self.rule.number();
-        let name = name_of(self.rule);
+        let name = self.rule.name();
         write!(f, "{number},{name}")
     }
 }

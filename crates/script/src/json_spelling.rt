@@ -4,7 +4,6 @@ ghost use Rattle.std.specs.List.{flat_map, join_by};
 ghost use Rattle.script.specs.JsonSpelling.{fault_members, heading, refusal, rule_members, shape_body, shape_pair, view_heading, viewers_refused};
 
 use crate::fault::Fault;
-use crate::refusal_name::name_of;
 use cells::Refused;
 use std::alloc::{AllocError, Global};
 use std::fmt;
@@ -21,7 +20,7 @@ impl fmt::Display for RuleMembers {
 
     fn fmt<W: fmt::Write>(&self, f: &mut fmt::Formatter<W>) -> fmt::Result {
         let number = self.rule.number();
-        let name = name_of(self.rule);
+        let name = self.rule.name();
         write!(f, "\"refused\":{number},\"name\":\"{name}\"")
     }
 }

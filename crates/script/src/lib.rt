@@ -31,7 +31,6 @@ mod on_refusal;
 mod own;
 mod owned;
 mod parameters;
-mod refusal_name;
 mod reporting;
 mod retelling;
 mod running;
