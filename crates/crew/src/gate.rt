@@ -15,8 +15,8 @@ pub trait Gate: Sync {
     fn left(&self, _piece: u64) {}
 
     /// So many columns of the piece of this number were laid out, in one walk over its rows or one for each: none where they lay
-    /// beside it. Called by each worker before it draws its first piece, for the pieces at which it finds no other thread, unless
-    /// nothing is wanting at any, and by the worker that has left the piece.
+    /// beside it. Called by each worker before it draws its first piece, for the pieces at which something is wanting and no other
+    /// thread is found, and by the worker that has left the piece.
     fn laid_out(&self, _piece: u64, _columns: u64) {}
 
     /// The edition of this number, counted from 1, is the last published one now, and has so many rows. Called after each

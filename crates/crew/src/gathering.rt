@@ -25,7 +25,7 @@ use std::marker::Model;
 use std::sync::Wait;
 use std::thread::Threads;
 
-// How often at most a worker goes over the pieces to lay out what is wanting, before it draws the first.
+// How often at most a worker goes over the pieces at which columns are wanting, to lay them out, before it draws the first.
 const ROUNDS: u64 = 2;
 
 /// The partial result of the rows of all pieces, of which there are at most [`MAX_PIECES`](crate::MAX_PIECES), for
@@ -212,13 +212,15 @@ impl<'a, 'p, H: KeyHash<Cell>, G, R> Gathering<'a, 'p, H, G, R> {
 }
 
 impl<'a, 'p, H: KeyHash<Cell>, G, R: Wait> Gathering<'a, 'p, H, G, R> {
-    /// Asks for the columns at all pieces. Whether one of them is not laid out yet. Nothing rests on it.
-    fn ask_for(&self, alloc: Global, columns: &Columns) -> bool {
-        self.pieces
-            .iter()
-            .filter(|piece| columns.ask_for(self.rt, alloc, piece))
-            .count()
-            > 0
+    /// Asks for the columns at all pieces. The places of those at which one of them is not laid out yet. Nothing rests on them.
+    fn wanting(&self, alloc: Global, columns: &Columns) -> Result<Vec<usize>, AllocError> {
+        let mut wanting = Vec::new(alloc);
+        for (place, piece) in self.pieces.iter().enumerate() {
+            if columns.ask_for(self.rt, alloc, piece) {
+                wanting.push(place)?;
+            }
+        }
+        Ok(wanting)
     }
 }
 
@@ -239,14 +241,15 @@ impl<'a, 'p, H: KeyHash<Cell> + KeyHash<Tuple> + Send + Sync, G: Gate, R: Wait +
     // lays out what is wanting, or is refused.
     fn begin(&self, alloc: Global) -> Result<Gathered<'a, H>, AllocError> {
         let made = Gathered::new(alloc, self.plan)?;
-        if !self.ask_for(alloc, &made.columns) {
-            return Ok(made);
-        }
+        let wanting = self.wanting(alloc, &made.columns)?;
         for _round in 0..ROUNDS {
             let mut was_passed_by = false;
-            for (place, piece) in self.pieces.iter().enumerate() {
+            for place in &wanting {
+                let Some(piece) = self.pieces.get(*place) else {
+                    continue;
+                };
                 match made.columns.lay_out_ahead(self.rt, alloc, piece) {
-                    Ok(Some(laid)) => self.gate.laid_out(place as u64, laid),
+                    Ok(Some(laid)) => self.gate.laid_out(*place as u64, laid),
                     Ok(None) => was_passed_by = true,
                     Err(_) => {}
                 }
