@@ -1,2 +1,3 @@
 pub mod AccsLemmas
+pub mod GatheredLemmas
 pub mod OneRowLemmas

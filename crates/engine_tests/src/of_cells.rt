@@ -1,9 +1,8 @@
-//! Cells and tuples, their order and their hashes, and the names of refusals. The hashes of the table were computed by a
-//! program outside the project.
+//! Cells and tuples, their order and their hashes. The hashes of the table were computed by a program outside the project.
 
 use crate::written::Written::{self, Int, Null, Text};
 use crate::written::cells_of;
-use cells::{Cell, Fnv, KeyHash, Plain, Refused, Tuple, worked_hashes};
+use cells::{Cell, Fnv, KeyHash, Plain, Tuple, worked_hashes};
 use std::alloc::{AllocError, Global};
 use std::test::Fail;
 
@@ -140,42 +139,6 @@ fn keys_have_hashes(rt: HostRuntime) -> Result<(), Fail> {
         if let Some(found) = cell_hashes(&key) {
             assert_eq!(rt; found, *wanted);
         }
-    }
-    Ok(())
-}
-
-const NAMES: [(Refused, &str); 19] = [
-    (Refused::NoTable, "1 NoTable"),
-    (Refused::TableAgain, "2 TableAgain"),
-    (Refused::BadCommand, "3 BadCommand"),
-    (Refused::BadSchema, "4 BadSchema"),
-    (Refused::NoPart, "5 NoPart"),
-    (Refused::BadPart, "6 BadPart"),
-    (Refused::BadRecord, "7 BadRecord"),
-    (Refused::BadKey, "8 BadKey"),
-    (Refused::TooManyRows, "9 TooManyRows"),
-    (Refused::QuerySyntax, "10 QuerySyntax"),
-    (Refused::Unknown, "11 Unknown"),
-    (Refused::NotGrouped, "12 NotGrouped"),
-    (Refused::WrongType, "13 WrongType"),
-    (Refused::TooManySets, "14 TooManySets"),
-    (Refused::Limit, "15 Limit"),
-    (Refused::OutOfMemory, "90 OutOfMemory"),
-    (Refused::NoWorker, "91 NoWorker"),
-    (Refused::WriteFailed, "92 WriteFailed"),
-    (Refused::NotShown, "93 NotShown"),
-];
-
-/// Whether the refusal has this number and this name.
-fn is_named(alloc: Global, refused: &Refused, wanted: &str) -> Result<bool, AllocError> {
-    let shown = format!(in alloc; "{} {refused}", refused.number())?;
-    Ok(shown.as_str() == wanted)
-}
-
-#[test]
-fn refusals_have_numbers_and_names(rt: HostRuntime) -> Result<(), Fail> {
-    for (refused, wanted) in &NAMES {
-        assert!(rt; is_named(rt.alloc(), refused, wanted)?);
     }
     Ok(())
 }

@@ -1,5 +1,5 @@
-use Rattle.table_tests.proofs.AccsLemmas.{all_taken, one_further}
-use Rattle.table_tests.proofs.of_aggs.over.Goals as goal
+use Rattle.engine_tests.proofs.AccsLemmas.{all_taken, one_further}
+use Rattle.engine_tests.proofs.of_aggs.over.Goals as goal
 
 pub loop-i-init : goal.loop-i-init
 loop-i-init g c = c.empty-acc.ensures

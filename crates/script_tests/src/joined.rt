@@ -1,4 +1,5 @@
-//! What all shards of a table tell of a script, joined.
+//! What every shard of a table tells of a script, joined in either order, written as text and read again, is what one run over all
+//! rows writes; and what is not whole, or not of one script, is refused.
 
 use cells::Plain;
 use forms::Form;

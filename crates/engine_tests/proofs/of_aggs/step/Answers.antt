@@ -1,6 +1,6 @@
 use Rattle.std.proofs.Common.{arith}
-use Rattle.table_tests.proofs.AccsLemmas.{can_step, has_stepped}
-use Rattle.table_tests.proofs.of_aggs.step.Goals as goal
+use Rattle.engine_tests.proofs.AccsLemmas.{can_step, has_stepped}
+use Rattle.engine_tests.proofs.of_aggs.step.Goals as goal
 
 pub step-requires : goal.step-requires
 step-requires g c = can_step c.args.kind c.args.cells.now c.args.acc.now c.requires c.args.cell.now (omega arith)

@@ -1,6 +1,6 @@
 use Rattle.std.proofs.Common.{◌≤◌, ◌+◌, arith, length, rules, subst}
-use Rattle.table_tests.proofs.OneRowLemmas.{HasTaken, may_join, taken_more}
-use Rattle.table_tests.proofs.of_groups.groups_of.Goals as goal
+use Rattle.engine_tests.proofs.OneRowLemmas.{HasTaken, may_join, taken_more}
+use Rattle.engine_tests.proofs.of_groups.groups_of.Goals as goal
 
 pub join-requires : goal.join-requires
 join-requires c =

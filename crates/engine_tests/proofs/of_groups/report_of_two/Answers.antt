@@ -1,6 +1,6 @@
 use Rattle.std.proofs.Common.{◌≤◌, length, rules}
-use Rattle.table_tests.proofs.OneRowLemmas.{may_meet}
-use Rattle.table_tests.proofs.of_groups.report_of_two.Goals as goal
+use Rattle.engine_tests.proofs.OneRowLemmas.{may_meet}
+use Rattle.engine_tests.proofs.of_groups.report_of_two.Goals as goal
 
 pub finished-requires : goal.finished-requires
 finished-requires g c =

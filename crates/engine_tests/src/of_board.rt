@@ -9,6 +9,7 @@ use std::alloc::Global;
 use std::sync::Wait;
 
 mod places;
+mod refusals;
 mod stress;
 
 /// The key of the row that an edition is the first to have: a number of five digits.
