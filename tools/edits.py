@@ -11,10 +11,10 @@ from tree import TOP
 MOST = 40
 
 
-# What a check tries by itself at a goal that has no answer.
-TRIED = "first_of (search rules, grind (arith, common_steps))"
-# The modules that have the names in it.
-LISTED = {"rules": "Common", "arith": "Common", "common_steps": "lemmas.Grind"}
+# What a check tries by itself at a goal that has no answer, and what fails at once at a goal that fails.
+TRIED, AT_ONCE = "first_of (search rules, grind (arith, common_steps))", "refl"
+# The modules that have the names in them.
+LISTED = {"rules": "Common", "arith": "Common", "refl": "Common", "common_steps": "lemmas.Grind"}
 
 
 class BadEdit(Exception):
@@ -32,7 +32,7 @@ class Edit:
     pairs: list = field(default_factory=list)
     function: str = ""
     touched: set = field(default_factory=set)
-    # The goals that refuse it, each with the names that an answer binds, as `returns g c`.
+    # The goals that refuse it, each with the names that an answer binds, as `returns g c`. The first is the one that judges.
     goals: list = field(default_factory=list)
     # It changes a constant or a type, which many functions may rest on.
     is_wide: bool = False
@@ -62,8 +62,9 @@ def proofs_of(top, crate, function):
 
 
 def answer(room, edit):
-    """Writes into a room that at the goals which refuse an edit a check is to try what it tries by itself. A goal that has
-    an answer which fails is reported as it is; for one that has none, all would be read once more to print what it lacks."""
+    """Writes into a room that at the first goal which refuses an edit a check is to try what it tries by itself, and at further
+    ones, which need not be tried, what fails at once. A goal that has an answer which fails is reported as it is; for one that has
+    none, all would be read once more to print what it lacks."""
     if not edit.goals:
         return
     folder = proofs_of(room, edit.crate, edit.judged)
@@ -76,12 +77,14 @@ def answer(room, edit):
     if not re.search(r"^use \S+ as goal$", text, re.M):
         module = ".".join(["Rattle", edit.crate, *folder.relative_to(room / "crates" / edit.crate).parts])
         uses.append(f"use {module}.Goals as goal")
-    answers = [f"pub {name} : goal.{name}\n{name}{names} = {TRIED}\n" for name, names in edit.named_goals]
+    tried = [TRIED, *[AT_ONCE] * len(edit.goals)]
+    answers = [f"pub {name} : goal.{name}\n{name}{names} = {it}\n" for (name, names), it in zip(edit.named_goals, tried)]
     file.write_text("\n".join([*uses, text, *answers]))
 
 
 def offered(said, edit):
-    """The goals of an edit's own function for which a check says that it has no answer, each as a line `goal:` has it."""
+    """The goals of an edit's own function for which a check says that it has no answer, each as a line `goal:` has it; first one
+    of what the function promises, which says more than what it needs on its way."""
     found, is_own = [], False
     for line in said:
         head = re.match(r"help: add these lines to (?:\./)?proofs/(\S+)/Answers\.antt", line)
@@ -91,7 +94,7 @@ def offered(said, edit):
             is_own = False
         elif is_own and (goal := re.fullmatch(r"    (\S.*) = \?", line)):
             found.append(goal[1])
-    return found
+    return sorted(found, key=lambda it: not it.startswith("returns"))
 
 
 def name_goals(edit, goals):
