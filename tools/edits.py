@@ -10,7 +10,6 @@ from tree import TOP
 # How many edits one check judges.
 MOST = 40
 
-
 # What a check tries by itself at a goal that has no answer, and what fails at once at a goal that fails.
 TRIED, AT_ONCE = "first_of (search rules, grind (arith, common_steps))", "refl"
 # The modules that have the names in them.
