@@ -1,4 +1,4 @@
-"""The edits of crates/NAME/refused/: what each changes, which goals refuse it, and which of them one check can judge
+"""The edits of crates/NAME/refused/: what each changes, which goal refuses it, and which of them one check can judge
 (tools/refused)."""
 
 import re
@@ -8,12 +8,14 @@ from functions import bare, end_of, opened, owner
 from tree import TOP
 
 # How many edits one check judges.
-MOST = 40
+MOST = 60
 
-# What a check tries by itself at a goal that has no answer, and what fails at once at a goal that fails.
-TRIED, AT_ONCE = "first_of (search rules, grind (arith, common_steps))", "refl"
-# The modules that have the names in them.
-LISTED = {"rules": "Common", "arith": "Common", "refl": "Common", "common_steps": "lemmas.Grind"}
+# What a check tries by itself at a goal that has no answer, and where the names in it stand.
+TRIED = ["search rules", "grind (arith, common_steps)"]
+LISTED = {"rules": "Rattle.std.proofs.Common", "arith": "Rattle.std.proofs.Common", "common_steps": "Rattle.std.proofs.lemmas.Grind"}
+# Where an answer begins, and a function.
+ANSWER = re.compile(r"pub (\S+) : goal\.")
+HEAD = r"(?m)^([ \t]*)((?:pub(?:\(\w+\))? )?(?:const )?fn {}\b)"
 
 
 class BadEdit(Exception):
@@ -31,12 +33,14 @@ class Edit:
     pairs: list = field(default_factory=list)
     function: str = ""
     touched: set = field(default_factory=set)
-    # The goals that refuse it, each with the names that an answer binds, as `returns g c`. The first is the one that judges.
-    goals: list = field(default_factory=list)
+    # The goal that refuses it, with the names that an answer binds, as `returns g c`.
+    goal: str = ""
     # It changes a constant or a type, which many functions may rest on.
     is_wide: bool = False
-    # The text of the function, where a copy of it is edited, and that of the copy, which has the name of the edit.
+    # The text of the function, where it stands once, and what the edit makes of it; and that as a copy, which has the name of
+    # the edit, where one can stand beside the function.
     whole: str = ""
+    changed: str = ""
     copy: str = ""
 
     @property
@@ -45,9 +49,21 @@ class Edit:
         return TOP / "crates" / self.crate / "refused" / f"{self.name}.edit"
 
     @property
-    def named_goals(self):
-        """The goals that refuse it, each by its name and the names that an answer binds."""
-        return [(name, f" {names}" if names else "") for name, _, names in (it.partition(" ") for it in self.goals)]
+    def named(self):
+        """The name of the goal that refuses it."""
+        return self.goal.partition(" ")[0]
+
+    @property
+    def texts(self):
+        """What takes the place of what in which file, and how much of that is the edit's own."""
+        path, name = self.pairs[0][0], self.function.rpartition("::")[2]
+        if self.copy:
+            copy = quiet(self.copy, self.name) if self.goal else self.copy
+            return [(path, self.whole, self.whole + copy, copy)]
+        if self.goal and self.whole:
+            changed = quiet(self.changed, name)
+            return [(path, self.whole, changed, changed)]
+        return [(path, old, new, new) for path, old, new in self.pairs]
 
     @property
     def judged(self):
@@ -60,51 +76,95 @@ def proofs_of(top, crate, function):
     return top.joinpath("crates", crate, "proofs", *function.split("::")[1:])
 
 
+def answers_of(top, crate, function):
+    """The file of a function's answers. One that calls itself has it in a folder '+NAME'."""
+    folder = proofs_of(top, crate, function)
+    own = folder.parent / f"+{folder.name}"
+    return (own if own.is_dir() else folder) / "Answers.antt"
+
+
+def quiet(text, name):
+    """The text of a function where a check tries nothing at the goals that have no answer."""
+    text = re.sub(r"(?m)^[ \t]*#\[tactic\(auto\b.*\)\]\n", "", text)
+    return re.sub(HEAD.format(name), r"\1#[tactic(none)]\n\1\2", text, count=1)
+
+
+def own_tactic(edit):
+    """What a tactic of the function's own brings to each of its goals: lemmas, and definitions that it opens, by where they stand."""
+    said = "".join(re.findall(r"#\[tactic\(auto, (.*)\)\]", edit.whole.partition("fn ")[0]))
+    found = []
+    for word in ("using", "unfolding"):
+        paths = [it.strip().split("::") for lists in re.findall(rf"\b{word}\(([^)]*)\)", said) for it in lists.split(",")]
+        found.append({it[-1]: ".".join(["Rattle", edit.crate if it[0] == "crate" else it[0], *it[1:-1]]) for it in paths})
+    return found
+
+
+def answered(edit):
+    """The goals of an edit's function that have an answer which stands written."""
+    file = answers_of(TOP, edit.crate, edit.function)
+    return set(ANSWER.findall(file.read_text())) if file.is_file() else set()
+
+
+def only(text, goal):
+    """A file of answers without those to other goals."""
+    kept, of = [], None
+    for line in text.splitlines():
+        begins = ANSWER.match(line)
+        if begins:
+            of = begins[1]
+        elif of and re.match(r"[^\s\])}]", line) and line.split()[0] not in (of, "unfolding"):
+            of = None
+        if of in (None, goal):
+            kept.append(line)
+    return "\n".join(kept)
+
+
 def answer(room, edit):
-    """Writes into a room that at the first goal which refuses an edit a check is to try what it tries by itself, and at further
-    ones, which need not be tried, what fails at once. A goal that has an answer which fails is reported as it is; for one that has
-    none, all would be read once more to print what it lacks."""
-    if not edit.goals:
+    """Writes into a room that of an edit's function nothing but the goal that the edit names is tried: by the answer that it has,
+    or by what a check tries by itself. Where an answer fails a check says no more of the function. Where all have failed that it
+    tried by itself it reads all once more, to print what is missing."""
+    if not edit.goal:
         return
-    folder = proofs_of(room, edit.crate, edit.judged)
-    folder.mkdir(parents=True, exist_ok=True)
-    file, text = folder / "Answers.antt", ""
-    if file.is_file():
-        text = file.read_text()
-    brought = {name for it in re.findall(r"^use [^{\n]*\{([^}]*)\}", text, re.M) for name in re.split(r"[,\s]+", it)}
-    uses = [f"use Rattle.std.proofs.{at}.{{{name}}}" for name, at in LISTED.items() if name not in brought]
-    if not re.search(r"^use \S+ as goal$", text, re.M):
-        module = ".".join(["Rattle", edit.crate, *folder.relative_to(room / "crates" / edit.crate).parts])
-        uses.append(f"use {module}.Goals as goal")
-    tried = [TRIED, *[AT_ONCE] * len(edit.goals)]
-    answers = [f"pub {name} : goal.{name}\n{name}{names} = {it}\n" for (name, names), it in zip(edit.named_goals, tried)]
-    file.write_text("\n".join([*uses, text, *answers]))
+    file, (name, _, names) = answers_of(room, edit.crate, edit.judged), edit.goal.partition(" ")
+    file.parent.mkdir(parents=True, exist_ok=True)
+    text = only(file.read_text(), name) if file.is_file() else ""
+    if name not in ANSWER.findall(text):
+        brought = {name for it in re.findall(r"^use [^{\n]*\{([^}]*)\}", text, re.M) for name in re.split(r"[,\s]+", it)}
+        using, unfolding = own_tactic(edit)
+        listed = {**LISTED, **using, **unfolding}
+        uses = [f"use {at}.{{{name}}}" for name, at in listed.items() if name not in brought]
+        if not re.search(r"^use \S+ as goal$", text, re.M):
+            module = ".".join(["Rattle", edit.crate, *file.parent.relative_to(room / "crates" / edit.crate).parts])
+            uses.append(f"use {module}.Goals as goal")
+        opened = [f"unfolding {' '.join(unfolding)}"] if unfolding else []
+        tried = [*TRIED, *[f"grind ({', '.join(['arith', *using])})"] * bool(using)]
+        said = f"{' '.join([name, *names.split()])} = first_of ({', '.join(tried)})"
+        text = "\n".join([*uses, text, f"pub {name} : goal.{name}", *opened, said, ""])
+    file.write_text(text)
 
 
 def offered(said, edit):
-    """The goals of an edit's own function for which a check says that it has no answer, each as a line `goal:` has it; first one
-    of what the function promises, which says more than what it needs on its way."""
+    """The goals of an edit's own function for which a check says that it has no answer, each as a line `goal:` has it."""
     found, is_own = [], False
     for line in said:
-        head = re.match(r"help: add these lines to (?:\./)?proofs/(\S+)/Answers\.antt", line)
+        head = re.match(r"help: (?:add these lines to|write) (?:\./)?proofs/(\S+)/Answers\.antt", line)
         if head:
-            is_own = head[1].split("/") == edit.judged.split("::")[1:]
+            is_own = head[1].replace("+", "").split("/") == edit.judged.split("::")[1:]
         elif not line.startswith("    "):
             is_own = False
         elif is_own and (goal := re.fullmatch(r"    (\S.*) = \?", line)):
             found.append(goal[1])
-    return sorted(found, key=lambda it: not it.startswith("returns"))
+    return found
 
 
-def name_goals(edit, goals):
-    """Writes the goals into the file of an edit, in the place of those that it named. A function with a tactic of its own
-    has none: there a check tries more."""
-    text = edit.whole or "".join((TOP / "crates" / edit.crate / it[0]).read_text() for it in edit.pairs)
-    if "tactic(auto," in text:
-        goals = []
+def name_goal(edit, failed, said):
+    """Writes the goal into the file of an edit by which a check of all its goals refused it: one at which the check tried what it
+    tries by itself, or one that has an answer; first one of what the function promises, which says more than what it needs on its
+    way."""
+    goals = (edit.whole and offered(said, edit)) or [it for it in failed if it in answered(edit)]
     lines = [it for it in edit.text.splitlines() if not it.startswith("goal:")]
     at = next(number for number, it in enumerate(lines) if it.startswith("old:"))
-    lines[at:at] = [f"goal: {it}" for it in goals]
+    lines[at:at] = [f"goal: {it}" for it in sorted(goals, key=lambda it: not it.startswith("returns"))[:1]]
     edit.file.write_text("\n".join(lines) + "\n")
 
 
@@ -118,15 +178,17 @@ def take_copy(edit):
     begin, brace = next(it for it in reversed(heads) if re.search(r"\bfn \w", code[slice(*it)]))
     whole = text[begin : end_of(code, brace + 1) + 1]
     name = edit.function.rpartition("::")[2]
-    copy = whole
+    changed = whole
     for _, old, new in edit.pairs:
-        copy = copy.replace(old, new)
-    copy = re.sub(rf"\bfn {name}\b", f"fn {edit.name}", copy, count=1)
+        changed = changed.replace(old, new)
     is_of_trait = any(re.search(r"\btrait\b|\bimpl\b[^{]*\bfor\b", code[slice(*it)]) for it in heads)
-    is_in_cycle = "#[cycle(" in whole or (proofs_of(TOP, edit.crate, edit.function).parent / f"+{name}").is_dir()
+    is_in_cycle = "#[cycle(" in whole
+    calls_itself = answers_of(TOP, edit.crate, edit.function).parent.name.startswith("+")
     is_whole = all(it[0] == path for it in edit.pairs) and "//!" not in whole and text.count(whole) == 1
-    if is_whole and not is_of_trait and not is_in_cycle and not re.search(rf"\b{edit.name}\b", text):
-        edit.whole, edit.copy = whole, copy
+    if is_whole and not is_in_cycle:
+        edit.whole, edit.changed = whole, changed
+    if edit.whole and not is_of_trait and not calls_itself and not re.search(rf"\b{edit.name}\b", text):
+        edit.copy = re.sub(rf"\bfn {name}\b", f"fn {edit.name}", changed, count=1)
         edit.touched = {edit.judged}
 
 
@@ -141,7 +203,7 @@ def read_edit(file, crate, is_trial):
         elif word == "function":
             named = f"{crate}::{rest.strip()}"
         elif word == "goal":
-            edit.goals.append(rest.strip())
+            edit.goal = rest.strip()
         elif word == "old":
             old = rest
         elif word == "new" and path and old:
