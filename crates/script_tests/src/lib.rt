@@ -1,5 +1,5 @@
-//! Tests of `script` by its public items: gates and what runs at the same time, failing writers, and want of memory; and of
-//! `shards`. What a script alone can say is told by the cases of `tools/program`.
+//! Tests of `script` by its public items: gates and what runs at the same time, failing writers, and want of memory. What a
+//! script alone can say is told by the cases of `tools/program`.
 #![tactic(auto)]
 
 #[cfg(test)]
@@ -8,8 +8,6 @@ mod beside;
 mod faults;
 #[cfg(test)]
 mod gates;
-#[cfg(test)]
-mod joined;
 #[cfg(test)]
 mod large;
 #[cfg(test)]
