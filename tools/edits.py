@@ -189,7 +189,7 @@ def take_copy(edit):
         edit.whole, edit.changed = whole, changed
     if edit.whole and not is_of_trait and not calls_itself and not re.search(rf"\b{edit.name}\b", text):
         edit.copy = re.sub(rf"\bfn {name}\b", f"fn {edit.name}", changed, count=1)
-        edit.touched = {edit.judged}
+        edit.touched = {f"{it.rpartition('::')[0]}::{edit.name}" for it in edit.touched}
 
 
 def read_edit(file, crate, is_trial):
@@ -221,7 +221,8 @@ def read_edit(file, crate, is_trial):
         raise BadEdit("a line 'function:' is to name the function that refuses it")
     edit.function = named or min(edit.touched)
     edit.touched.add(edit.function)
-    if len(edit.touched) == 1 and not edit.is_wide:
+    # (a check may have another path for the function around a text, by its types or by where its type stands)
+    if len({it.rpartition("::")[2] for it in edit.touched}) == 1 and not edit.is_wide:
         take_copy(edit)
     return edit
 
