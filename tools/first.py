@@ -7,18 +7,12 @@ written for those above. A check that keeps its work, as that of `rt lib`, takes
 clock. What is built has the stamp by which `rt` knows later that it is up to date.
 """
 
-import importlib
 import os
 import pathlib
-import shutil
 import sys
 import tempfile
 
-
-def kit():
-    """The kit's own module."""
-    sys.path.insert(0, os.path.dirname(os.path.realpath(shutil.which("rt"))))
-    return importlib.import_module("rtlib")
+import tree
 
 
 def build_library(rt, crate, jobs):
@@ -59,7 +53,7 @@ def build_program(rt, crate, jobs):
 
 
 def main(name, jobs):
-    rt, top = kit(), pathlib.Path.cwd().parents[1]
+    rt, top = tree.kit(), pathlib.Path.cwd().parents[1]
     crate = next(it for it in rt.crates_below(str(top)) if it.name == name)
     return (build_program if crate.is_program else build_library)(rt, crate, jobs)
 

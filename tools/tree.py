@@ -1,8 +1,11 @@
 """The crates of this tree, and how many checks of them run side by side."""
 
+import importlib
 import os
 import pathlib
 import re
+import shutil
+import sys
 
 TOP = pathlib.Path(__file__).resolve().parent.parent
 PROGRAM = "olap"
@@ -10,6 +13,12 @@ PROGRAM = "olap"
 LOG = "build.log"
 # What a check of one crate is likely to take at most, in bytes.
 MEMORY = 3_500_000_000
+
+
+def kit():
+    """The kit's own module, which `rt` is made of."""
+    sys.path.insert(0, os.path.dirname(os.path.realpath(shutil.which("rt"))))
+    return importlib.import_module("rtlib")
 
 
 def lines():
