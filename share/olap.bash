@@ -39,8 +39,8 @@ _olap() {
             ;;
         live) options+=" --query --viewers --shots --as-they-come" ;;
         session) options="--workers --depth --small --hash --rows --format --strict --help" ;;
-        query) options="--columns --delimiter --number --null --trim --order --limit --workers --rows --format --progress --help" ;;
-        schema) options="--columns --delimiter --number --null --trim --help" ;;
+        query) options="--columns --delimiter --number --null --trim --lenient-quotes --order --limit --workers --rows --format --progress --help" ;;
+        schema) options="--columns --delimiter --number --null --trim --lenient-quotes --help" ;;
         check) options="--part --help" ;;
         join) options="--format --partials --help" ;;
         run)

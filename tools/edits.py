@@ -33,8 +33,12 @@ class Edit:
     pairs: list = field(default_factory=list)
     function: str = ""
     touched: set = field(default_factory=set)
-    # The goal that refuses it, with the names that an answer binds, as `returns g c`.
+    # The goal that refuses it, with the names that an answer binds, as `returns g c`; and whether the answer that stands written for
+    # it judges the edit, and no search.
     goal: str = ""
+    is_written: bool = False
+    # What is to be said of a trial.
+    verdict: str = ""
     # It changes a constant or a type, which many functions may rest on.
     is_wide: bool = False
     # The text of the function, where it stands once, and what the edit makes of it; and that as a copy, which has the name of
@@ -89,6 +93,21 @@ def quiet(text, name):
     return re.sub(HEAD.format(name), r"\1#[tactic(none)]\n\1\2", text, count=1)
 
 
+def binders(text, goal):
+    """The names that an answer which stands written binds, or None."""
+    found = re.search(rf"(?m)^pub {re.escape(goal)} : goal\.[^\n]*\n(?:unfolding [^\n]*\n)?{re.escape(goal)}((?: [^\s=]+)*) =", text)
+    return found and found[1].strip()
+
+
+def cited(text, goal):
+    """The lemmas that the answer to a goal cites: a search that tries these judges a body, whatever its steps are called."""
+    own = set(only(text, goal).splitlines()) - set(only(text, "").splitlines())
+    said = {word for line in own for word in re.findall(r"[^\s(){}\[\],;]+", line)}
+    brought = re.findall(r"(?ms)^use (\S+)\.\{([^}]*)\}", text)
+    lemmas = [it for at, names in brought if ".proofs." in at and not at.endswith((".Common", ".Goals")) for it in re.split(r"[,\s]+", names)]
+    return [it for it in lemmas if it in said]
+
+
 def own_tactic(edit):
     """What a tactic of the function's own brings to each of its goals: lemmas, and definitions that it opens, by where they stand."""
     said = "".join(re.findall(r"#\[tactic\(auto, (.*)\)\]", edit.whole.partition("fn ")[0]))
@@ -120,15 +139,18 @@ def only(text, goal):
 
 
 def answer(room, edit):
-    """Writes into a room that of an edit's function nothing but the goal that the edit names is tried: by the answer that it has,
-    or by what a check tries by itself. Where an answer fails a check says no more of the function. Where all have failed that it
-    tried by itself it reads all once more, to print what is missing."""
+    """Writes into a room that of an edit's function nothing but the goal that the edit names is tried: by what a check tries by
+    itself, and by the lemmas that the answer cites which stands written for it; or by that answer, where the edit says so. Where an
+    answer fails a check says no more of the function. Where all have failed that it tried by itself it reads all once more, to
+    print what is missing."""
     if not edit.goal:
         return
     file, (name, _, names) = answers_of(room, edit.crate, edit.judged), edit.goal.partition(" ")
     file.parent.mkdir(parents=True, exist_ok=True)
-    text = only(file.read_text(), name) if file.is_file() else ""
-    if name not in ANSWER.findall(text):
+    text = file.read_text() if file.is_file() else ""
+    lemmas, names = cited(text, name), binders(text, name) or names
+    text = only(text, name if edit.is_written else "")
+    if not edit.is_written:
         brought = {name for it in re.findall(r"^use [^{\n]*\{([^}]*)\}", text, re.M) for name in re.split(r"[,\s]+", it)}
         using, unfolding = own_tactic(edit)
         listed = {**LISTED, **using, **unfolding}
@@ -137,7 +159,8 @@ def answer(room, edit):
             module = ".".join(["Rattle", edit.crate, *file.parent.relative_to(room / "crates" / edit.crate).parts])
             uses.append(f"use {module}.Goals as goal")
         opened = [f"unfolding {' '.join(unfolding)}"] if unfolding else []
-        tried = [*TRIED, *[f"grind ({', '.join(['arith', *using])})"] * bool(using)]
+        more = [f"{how} ({', '.join([first, *lemmas])})" for how, first in (("search", "rules"), ("grind", "arith, common_steps"))]
+        tried = [*TRIED, *[f"grind ({', '.join(['arith', *using])})"] * bool(using), *more * bool(lemmas)]
         said = f"{' '.join([name, *names.split()])} = first_of ({', '.join(tried)})"
         text = "\n".join([*uses, text, f"pub {name} : goal.{name}", *opened, said, ""])
     file.write_text(text)
@@ -192,8 +215,8 @@ def take_copy(edit):
         edit.touched = {f"{it.rpartition('::')[0]}::{edit.name}" for it in edit.touched}
 
 
-def read_edit(file, crate, is_trial):
-    """Reads an edit, and sees that its texts stand where it says."""
+def read_edit(file, crate, is_trial, changes_nothing=False):
+    """Reads an edit, and sees that its texts stand where it says. It may be turned into one that changes nothing."""
     edit, path, old, named, texts = Edit(crate, file.stem, is_trial, file.read_text()), None, None, None, {}
     for line in edit.text.split("\n"):
         word, _, rest = line.partition(":")
@@ -204,6 +227,10 @@ def read_edit(file, crate, is_trial):
             named = f"{crate}::{rest.strip()}"
         elif word == "goal":
             edit.goal = rest.strip()
+        elif word == "answer":
+            edit.is_written = rest.strip() == "written"
+        elif word == "verdict":
+            edit.verdict = rest.strip()
         elif word == "old":
             old = rest
         elif word == "new" and path and old:
@@ -211,7 +238,9 @@ def read_edit(file, crate, is_trial):
             if text.count(old) != 1:
                 raise BadEdit(f"an old text stands in {path} {text.count(old)} times, and not once")
             edit.touched.add(owner(crate, path, text, text.index(old) + len(old.rstrip())))
-            edit.pairs.append((path, old, rest))
+            # (what an earlier pair made does not stand where nothing is changed)
+            if not changes_nothing or old in (TOP / "crates" / crate / path).read_text():
+                edit.pairs.append((path, old, old if changes_nothing else rest))
             texts[path], old = text.replace(old, rest), None
     if not edit.pairs:
         raise BadEdit("it has no pair of lines 'old:' and 'new:' behind a line 'file:'")
@@ -227,14 +256,15 @@ def read_edit(file, crate, is_trial):
     return edit
 
 
-def read_edits(folder, crate, is_trial):
+def read_edits(folder, crate, is_trial, changes_nothing=False):
     """The edits of a folder, and what came of those that can't be tried."""
     edits, bad = [], []
     for file in sorted(folder.glob("*.edit")):
         try:
-            edits.append(read_edit(file, crate, is_trial))
+            edits.append(read_edit(file, crate, is_trial, changes_nothing))
         except (BadEdit, OSError) as why:
-            bad.append((Edit(crate, file.stem, is_trial), False, f"BAD EDIT: {why}"))
+            verdict = re.search(r"(?m)^verdict: (.*)$", file.read_text())
+            bad.append((Edit(crate, file.stem, is_trial, verdict=verdict[1] if verdict else ""), False, f"BAD EDIT: {why}"))
     return edits, bad
 
 

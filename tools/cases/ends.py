@@ -26,7 +26,17 @@ def ends(title, text, kilobytes, streams="2> errors", output=FIRST_WRITES, error
     return case, f'(ulimit -v {kilobytes}; "$@" {streams}); echo $? > status'
 
 
+def untaken(words, streams="> /dev/full 2> errors", errors="olap: ended 92\n"):
+    """Help that can't be written."""
+    return Case(f"{words}, {streams}", words.split(" "), {"errors": ""}, errors=errors, status=3), f'"$@" {streams}; echo $? > status'
+
+
+HELP = ("--help", "--version", "help", "run --help", "live --help", "session --help", "join --help", "help run", "help session", "help shard", "help join", "help 12", "query --help", "schema --help", "check --help")
+
+
 WRITTEN_TO = [
+    *[untaken(words) for words in HELP],
+    untaken("--help", "> /dev/full 2> /dev/full", ""),
     ends("no memory", MANY, 10_000, errors="olap: ended 90\n"),
     ends("no thread", REPORT, 6_000, errors="olap: ended 91\n"),
     # Nothing was to be written to the full disk, or else it is met first, since each block is written at once.

@@ -1,5 +1,7 @@
 """Input that is made to be a burden: lines, names, texts, parts and queries at their limits, and keys of one hash."""
 
+from itertools import product
+
 from cases.live import counts, live
 from cases.table import Case, block, lines, lines_by, of_lines, script
 
@@ -234,6 +236,80 @@ def one_hash(last):
     return script, [part(keys(0, half), 1), part(keys(0, last), 2), part(keys(half, last), 3)]
 
 
+# So many keys of one hash that their square is more than a run has time for.
+MANY = 400_000
+
+
+def crowd():
+    """A load of so many keys, a load of as many that lies over half of them, one put and one delete, and reports."""
+    half = MANY // 2
+    names = [f"k{number:06}" for number in range(MANY + half)]
+    script = [
+        "table T (K TEXT KEY, V INT)",
+        "load 1",
+        "publish",
+        (
+            "report SELECT COUNT(*), SUM(V), MIN(K), MAX(K) FROM T",
+            block(1, "COUNT(*) | SUM(V) | MIN(K) | MAX(K)", f"{MANY} | {MANY} | '{names[0]}' | '{names[MANY - 1]}'"),
+        ),
+        "load 2",
+        f"put {names[1]},5",
+        f"delete '{names[0]}'",
+        "publish",
+        (
+            "report SELECT V, COUNT(DISTINCT K) FROM T GROUP BY ROLLUP(V)",
+            block(2, "V | COUNT(DISTINCT K)", f"1 | {half - 2}", f"2 | {MANY}", "5 | 1", f"NULL | {MANY + half - 1}"),
+        ),
+    ]
+    return script, [part(names[:MANY], 1), part(names[:half - 1:-1], 2)]
+
+
+# Nine letters each, which FNV-1a takes to one state from any whose lowest byte is 0, and the lowest byte of that is 0, too.
+TWINS = ("eItP20f59", "1980aZLBs")
+LETTERS = b"abcdefghijklmnopqrstuvwxyz"
+
+
+def fnv(state, octets):
+    """The state of FNV-1a after these bytes."""
+    for octet in octets:
+        state = (state ^ octet) * 1_099_511_628_211 % 2**64
+    return state
+
+
+def twin_texts(blocks):
+    """Texts of one FNV-1a hash, rising: two letters that lead to the lowest byte 0, and then so many twins in each choice."""
+    state = fnv(14_695_981_039_346_656_037, [2, *(2 + 9 * blocks).to_bytes(8, "little")])
+    first = next(letter for letter in LETTERS if fnv(state, [letter]) % 256 in LETTERS)
+    start = chr(first) + chr(fnv(state, [first]) % 256)
+    return sorted(start + "".join(chosen) for chosen in product(TWINS, repeat=blocks))
+
+
+def shape_of_twins(names):
+    """A shape in which these texts share each prefix of the digits of one hash."""
+    hash = fnv(14_695_981_039_346_656_037, [2, *len(names[0]).to_bytes(8, "little"), *names[0].encode()])
+    digits = "".join("0123456789abcdefghijklmnopqrstuv"[hash >> 5 * depth & 31] for depth in range(13))
+    return [f"{digits[:depth] or '-'} {len(names)}" for depth in range(14)]
+
+
+def twins():
+    """Texts of one hash in a table: loaded twice, put, deleted and counted."""
+    names = twin_texts(7)
+    script = [
+        "table T (K TEXT KEY, V INT)",
+        "load 1",
+        f"put {names[0]},9",
+        f"delete '{names[-1]}'",
+        f"delete '{names[1][:-1]}x'",
+        "publish",
+        (
+            "report SELECT COUNT(*), COUNT(DISTINCT K), SUM(V), MIN(K), MAX(K) FROM T",
+            block(1, "COUNT(*) | COUNT(DISTINCT K) | SUM(V) | MIN(K) | MAX(K)", f"127 | 127 | 135 | '{names[0]}' | '{names[-2]}'"),
+        ),
+        ("shape", block(1, *shape_of_twins(names[:-1]))),
+    ]
+    return script, [part(names[::-1] + names[:64], 1)]
+
+
 # A query of 65,536 bytes, and one of a byte more.
 LONG_QUERY = f"SELECT COUNT(*) FROM T{65_514 * ' '}"
 
@@ -243,6 +319,8 @@ WAYS = [
     for hash in ("fnv", "plain")
 ]
 OF_ONE_HASH, OF_ONE_HASH_PARTS = one_hash(500)
+CROWD, CROWD_PARTS = crowd()
+TWIN, TWIN_PARTS = twins()
 
 CASES = [
     *[full(*line) for line in FULL_LINES],
@@ -259,4 +337,6 @@ CASES = [
     live("viewers with a query of 65,536 bytes", [TABLE], LONG_QUERY, counts(1, (0, 0), (0, 0))),
     live("viewers with a query of a byte more", [TABLE], LONG_QUERY + " ", "viewers refused 15\n"),
     *lines_by("500 keys of one hash", OF_ONE_HASH, OF_ONE_HASH_PARTS, WAYS),
+    lines(f"{MANY:,} keys of one hash", CROWD, CROWD_PARTS, ("--hash", "plain")),
+    lines("128 texts of one FNV-1a hash", TWIN, TWIN_PARTS),
 ]

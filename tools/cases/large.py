@@ -73,6 +73,9 @@ QUOTED = rows_of(TEXTS)
 PLAIN = rows_of(["plain", "text"])
 SMALL = [(1, 1, "small"), (1_000_001, 8, "small")]
 
+# A record whose last field opens quotes that nothing closes: it goes to the end of the part.
+CUT_OFF = '8000000,3,"cut off'
+
 # A record that is none, and later ones; and how many records are before it.
 DEEP = 2 * len(QUOTED) // 3
 FAULTY = QUOTED[:DEEP] + [("x", 1, "no number")] + QUOTED[DEEP:] + [("y", 1, "nor this")]
@@ -80,6 +83,11 @@ FAULTY = QUOTED[:DEEP] + [("x", 1, "no number")] + QUOTED[DEEP:] + [("y", 1, "no
 # A mark at the front of a text is none of a key that begins as it does.
 MARKED = [f"{mark}{key}" for key in range(200_000) for mark in ("", "\ufeff")]
 MARKED_PART = "K,V\n" + "".join(f"{key},1\n" for key in MARKED)
+
+# Rows of so many groups that they are dealt to several lists, of which each has 131,072 rows and more.
+DEALT = 300_000
+DEALT_PART = "K,A\n" + "".join(f"{key},{key // 2}\n" for key in range(DEALT))
+DEALT_TOLD = "".join(f"\n{group} | 2 | {4 * group + 1}" for group in range(DEALT // 2))
 
 FIRST = [TABLE, ("load 1", "refused 6 part 1 record 0")]
 FAULTS = [TABLE, ("load 1 2 3", f"refused 6 part 2 record {DEEP + 1}")]
@@ -92,6 +100,8 @@ CASES = [
     *loaded("lines that end by carriage returns alone", [part(PLAIN, "\r")], PLAIN),
     *loaded("a mark and a header between quotes", [part(QUOTED, front='\ufeff"K","V","S"')], QUOTED),
     *loaded("no quotes behind a mark", [part(PLAIN, front="\ufeffK,V,S")], PLAIN),
+    *loaded("a last field whose quotes the end cuts off", [part(QUOTED) + CUT_OFF], QUOTED + [(8_000_000, 3, "cut off")]),
+    *loaded("the same in a small part", [part(SMALL) + CUT_OFF], SMALL + [(8_000_000, 3, "cut off")]),
     *loaded("empty lines before the header", ["\n" * BYTES + part(SMALL)], SMALL),
     *loaded("small parts beside two large ones", [part(QUOTED), part(SMALL), part(PLAIN)], QUOTED + SMALL + PLAIN),
     *lines_by(
@@ -103,6 +113,17 @@ CASES = [
             ("report SELECT COUNT(*) FROM T", f"edition 1\nCOUNT(*)\n{len(MARKED)}"),
         ],
         [MARKED_PART],
+        BY_WORKERS,
+    ),
+    *lines_by(
+        "groups of rows that are dealt to several lists",
+        [
+            "table T (K INT KEY, A INT)",
+            "load 1",
+            "publish",
+            ("report SELECT A, COUNT(*), SUM(K) FROM T GROUP BY A", f"edition 1\nA | COUNT(*) | SUM(K){DEALT_TOLD}"),
+        ],
+        [DEALT_PART],
         BY_WORKERS,
     ),
     *lines_by("a faulty record behind others", FAULTS, [part(SMALL), part(FAULTY), part([("z", 1, "")])], BY_WORKERS),

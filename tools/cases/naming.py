@@ -108,6 +108,6 @@ CASES = [
     refused("a check of no name", NAME.format("south"), ["--part", "south"], ("check",), "help check"),
     refused("a check of two parts of one name", "two parts have the name a", ["--part", "a=one.csv", "--part=a=two.csv"], ("check",), "help check"),
     refused("a check without a value", "'--part' takes a value", ["--part"], ("check",), "help check"),
-    script("a file of a name that is not there", [TABLE], "", ["--part", "a=gone.csv"], "olap: cannot read gone.csv: no such file\n", 2),
+    script("a file of a name that is not there", [TABLE], "", ["--part", "a=gone.csv"], "olap: cannot read gone.csv\n", 2),
     Case("an option without a value", ["run", SCRIPT, "--part"], {SCRIPT: ""}, errors=Text(begins="error: "), status=2),
 ]

@@ -9,6 +9,7 @@ from cases.table import Case, Like, Text
 MORE = "\n\nFor more information, try 'olap {} --help'.\n"
 STOPPED = "olap: stopped after a refused line\n"
 PART = "(6 BadPart, 7 BadRecord)"
+TWO = "; rename one, or write its name exactly where they differ in case\n"
 SALES = "ID,REGION,UNITS\n1,north,10\n2,north,\n3,,5\n4,south,-2\n"
 BY_REGION = "SELECT REGION, COUNT(*), SUM(UNITS) FROM SALES GROUP BY REGION"
 TABLE = "table SALES (ID INT KEY, REGION TEXT, UNITS INT)\n"
@@ -216,7 +217,21 @@ FILES = [
     *both("one column", "one.csv", "k\n3\n1\n2\n", "table ONE (K INT KEY)", "SELECT COUNT(*), SUM(K) FROM ONE", ["COUNT(*) | SUM(K)", "3 | 6"]),
     *both("a header alone", "sales.csv", "id,units\n", "table SALES (ID INT KEY, UNITS INT)", "SELECT COUNT(*), SUM(UNITS) FROM SALES", ["COUNT(*) | SUM(UNITS)", "0 | NULL"]),
     schema("a key that has no value twice", "a,b,c\n1,,1\n1,2,2\n", "table SALES (A INT, B INT, C INT KEY)"),
-    schema("integers that are one by their value", "a,b\n7,x\n07,y\n", "table SALES (A INT, B TEXT KEY)"),
+    schema("integers that are one by their value, and texts by their bytes", "a,b\n7,x\n07,y\n", "table SALES (A TEXT KEY, B TEXT)"),
+    *[schema(f"the field {field}, which is no integer as it is printed", f"a\n1\n{field}\n", "table SALES (A TEXT KEY)") for field in ("00501", "00", "-0", "-01", "+7", "-", "9223372036854775808")],
+    *[schema(f"the field {field}, which is an integer as it is printed", f"a\n1\n{field}\n", "table SALES (A INT KEY)") for field in ("0", "10", "-10", "-9223372036854775808")],
+    query("zeros in front, which are kept", {"z4.csv": "zip,n\n00501,1\n501,2\n"}, "SELECT ZIP, SUM(N) FROM Z4 GROUP BY ZIP", ["ZIP | SUM(N)", "'00501' | 1", "'501' | 2"]),
+    query("a column of exactly the name, after one in another case", {"c1.csv": "id,V\n1,2\n", "c2.csv": "id,v,V\n2,100,3\n"}, "SELECT SUM(V) FROM C1", ["SUM(V)", "5"]),
+    query("a column in another case, where it is the only one", {"c1.csv": "id,V\n1,2\n", "c2.csv": "v,id\n3,2\n"}, "SELECT SUM(V) FROM C1", ["SUM(V)", "5"]),
+    query("three columns that differ in case alone, listed", {"ids.csv": "Id,id,ID\n1,2,3\n"}, "SELECT MIN(A), MIN(B), MIN(C) FROM IDS", ["MIN(A) | MIN(B) | MIN(C)", "1 | 2 | 3"], ["--columns", "A=Id,B=id,C=ID"]),
+    query("two columns of one name, of which no name is asked for", {"x1.csv": "id,v\n1,2\n", "x2.csv": "id,w,v,w\n2,3,4,5\n"}, "SELECT SUM(V) FROM X1", ["SUM(V)", "6"]),
+    query(
+        "40 columns, of which two differ in case from the one that is named",
+        {"wide.csv": FORTY, "more.csv": FORTY.replace("c1,", "C2,", 1)},
+        "SELECT COUNT(C2), SUM(C40) FROM WIDE",
+        # (the rows of each file have at c40 5, 3, 1, 6 and 4)
+        ["COUNT(C2) | SUM(C40)", "10 | 38"],
+    ),
     schema("texts that differ by their bytes", "a\n7\n07\nx\n", "table SALES (A TEXT KEY)"),
     schema("integers of 64 bits", "a,b\n9223372036854775807,9223372036854775808\n-9223372036854775808,1\n", "table SALES (A INT KEY, B TEXT)"),
     schema("a name of the language", "a\n1\n", "table T (A INT KEY)", name="select.csv"),
@@ -243,6 +258,53 @@ FILES = [
     query("names behind --", {"-x.csv": "a\n1\n"}, "SELECT COUNT(*) FROM T", ["COUNT(*)", "1"], ["--workers=2", "--rows=1", "--"]),
 ]
 
+MEND = "; mend it (a field with a quote in it stands in quotes, that quote twice), or read the file as it is with --lenient-quotes\n"
+OPEN, FOLLOWED, STRAY = "a quote is opened and never closed", "a text stands after a closing quote", "a quote stands in a field that does not begin with one"
+COUNT_Q = "SELECT COUNT(*) FROM Q"
+
+
+def misquoted(title, text, line, why, options=(), more=None):
+    """A file whose quotes are refused, for `query` and, alone, for `schema`."""
+    files = {**(more or {}), "q.csv": text}
+    errors = f"q.csv:{line}: {why}{MEND}"
+    told = [fault(f"quotes: {title}", files, errors, options, text=COUNT_Q)]
+    return told if more else [*told, Case(f"schema: quotes: {title}", ["schema", *options, "q.csv"], files, errors=errors, status=1)]
+
+
+def lenient(title, text, rows, options=()):
+    """The texts of a file whose quotes are read as they stand."""
+    return query(f"quotes as they stand: {title}", {"q.csv": text}, "SELECT V, COUNT(*) FROM Q GROUP BY V", ["V | COUNT(*)", *rows], ["--lenient-quotes", *options])
+
+
+QUOTES = [
+    *misquoted("one that is never closed", 'id,v\n1,2\n2,6\n3,"oops\n4,5\n', 4, OPEN),
+    *misquoted("one that is the last byte", 'id,v\n1,"', 2, OPEN),
+    *misquoted("one that is never closed, with a doubled one after it", 'id,v\n1,"a""\n2,b\n', 2, OPEN),
+    *misquoted("one that is never closed, in the header", 'id,"v\n1,2\n', 1, OPEN),
+    *misquoted("two that take the records between them", 'id,v\n1,"oops\n2,7\n3,"oops\n4,8\n', 4, FOLLOWED),
+    *misquoted("a text after a closing one", 'id,v\n1,2\n2,"a"b\n', 3, FOLLOWED),
+    *misquoted("a blank after a closing one", 'id,v\n1,"a" \n', 2, FOLLOWED, ["--trim"]),
+    *misquoted("a comma after a closing one, where fields stand apart by semicolons", 'id;v\n1;"a",b\n', 2, FOLLOWED, ["--delimiter", ";"]),
+    *misquoted("one within a field", 'id,v\n1,a"b\n', 2, STRAY),
+    *misquoted("a blank before a field in quotes", 'id,v\n1, "a"\n', 2, STRAY, ["--trim"]),
+    *misquoted("one within a field, after a field on two lines", 'id,v\n1,"x\ny"\n2,a"\n', 4, STRAY),
+    *misquoted("one within a field, after empty lines, by tabs", 'id\tv\n\n\n1\t5"\n', 4, STRAY, ["--delimiter", "tab"]),
+    *misquoted("after a byte order mark and CRLF", b'\xef\xbb\xbfid;v\r\n1;"x;y"\r\n2;a"b\r\n', 3, STRAY, ["--delimiter", ";"]),
+    *misquoted("the first of two faults", 'id,v\n1,a"b\n2,"c\n', 2, STRAY),
+    *misquoted("a fault of quotes before one of the header", 'id,w\n1,a"b\n', 2, STRAY, ["--columns", "V"]),
+    *misquoted("one in the second file", 'id,v\n2,a"b\n', 2, STRAY, more={"a.csv": "id,v\n1,2\n"}),
+    query(
+        "quotes that are right",
+        {"q.csv": 'id,"v"\r\n1,"a ""b"""\r\n2,""\r\n3,"x,\r\ny"\r\n4,""""\r\n5,"c"'},
+        "SELECT V, COUNT(*) FROM Q GROUP BY V",
+        ["V | COUNT(*)", "NULL | 1", "'\"' | 1", "'a \"b\"' | 1", "'c' | 1", "'x,\r\ny' | 1"],
+    ),
+    query("a file of one field in quotes", {"q.csv": '"v"'}, COUNT_Q, ["COUNT(*)", "0"]),
+    lenient("one that is never closed", 'id,v\n1,2\n2,6\n3,"oops\n4,5\n', ["'2' | 1", "'6' | 1", "'oops\n4,5\n' | 1"]),
+    lenient("a text after a closing one, and one within a field", 'id,v\n1,"a"b\n2,c"d\n', ["'ab' | 1", "'c\"d' | 1"]),
+    words("--lenient-quotes with a value", "query", ["--lenient-quotes=1", BY_REGION, "sales.csv"], "'--lenient-quotes=1' takes no value"),
+]
+
 LATIN = b"id,city\n1,K\xf6ln\n"
 LONG = "x" * 1025
 
@@ -255,6 +317,9 @@ FAULTS = [
     fault("a column that is not there in the second file", {"a.csv": "id,v\n1,1\n", "b.csv": "id\n2\n"}, "b.csv:1: the header has no column 'v'\n"),
     fault("a name in another coding", {"sales.csv": b"id,Gr\xf6\xdfe\n1,2\n"}, "sales.csv:1: the name of column 2 is not UTF-8\n"),
     fault("two columns of one name", {"sales.csv": "a b,A_B\n1,2\n"}, "sales.csv:1: two columns make the name A_B; --columns chooses columns and names them, as in --columns 'A,B=Other Name'\n"),
+    *[fault(f"two columns that fit a name equally, in {name}", {"x1.csv": "id,v\n1,2\n", name: text}, f"{name}:1: columns {places} both have the name 'v'{TWO}") for name, text, places in [("x2.csv", "id,v,v\n2,3,4\n", "2 and 3"), ("x3.csv", "V,id,x,V\n2,3,4,5\n", "1 and 4"), ("x4.csv", "V,id,v,v,v\n2,3,4,5,6\n", "3 and 4")]],
+    fault("one name listed twice, of two columns", {"dup.csv": "id,a,a\n1,2,3\n"}, f"dup.csv:1: columns 2 and 3 both have the name 'a'{TWO}", ["--columns", "A=a,B=a"]),
+    fault("a listed name that two columns have in another case", {"ids.csv": "Id,x,ID\n1,2,3\n"}, f"ids.csv:1: columns 1 and 3 both have the name 'iD'{TWO}", ["--columns", "A=iD"]),
     fault("17 columns that are listed", {"wide.csv": FORTY}, "wide.csv:1: 17 columns are wanted, and a table has 16 at most; --columns chooses some\n", ["--columns", ",".join(f"c{number}" for number in range(1, 18))]),
     fault("16 columns and one that counts", {"wide.csv": FORTY}, "wide.csv:1: 17 columns are wanted, and a table has 16 at most; --columns chooses some\n", ["--number", "N", "--columns", ",".join(f"c{number}" for number in range(1, 17))]),
     fault("16 columns without a key", {"wide.csv": ",".join("abcdefghijklmnop") + "\n" + ",".join("1" * 16) + "\n" + ",".join("1" * 16) + "\n"}, "wide.csv:1: no column is a key, and 16 columns leave no room for one that counts records; --columns chooses some\n"),
@@ -273,8 +338,10 @@ FAULTS = [
     refused(13, "SELECT COUNT(*) FROM SALES WHERE UNITS > 1 AND REGION < 7", "7", "7: an integer is compared with a text", text_at("north")),
     refused(13, "SELECT COUNT(*) FROM SALES WHERE 7 < REGION", "REGION", "REGION: a text is compared with an integer", text_at("north")),
     refused(13, "SELECT COUNT(*) FROM SALES WHERE UNITS = '7'", "'7'", "'7': a text is compared with an integer"),
+    fault("a sum of numbers with zeros in front", {"z4.csv": "zip,n\n00501,1\n501,2\n"}, f"query:12: ZIP: a column of texts has no sum (13 WrongType)\nz4.csv:2: ZIP is text here: '00501'\n{STOPPED}", text="SELECT SUM(ZIP) FROM Z4", output="line,4,refused,13,WrongType\n"),
     typed("a number with a comma", "id,amount\n1,7\n2,\n3,\"12,50\"\n4,x\n", 4, "12,50"),
     typed("the first text in the second file", "id,amount\n1,7\n", 3, "+5", {"more.csv": "amount,id\n-3,2\n+5,3\n"}),
+    typed("lines that end by both, and one of them empty", "id,amount\r\n1,7\r\n\r\n3,1.5\r\n", 4, "1.5"),
     typed("a text after records on several lines", 'note,amount\n"a\nb",1\n\n"c",1.5\n', 5, "1.5"),
     typed("a text with a line end", 'id,amount\n1,"a\nb"\n', 2, None),
     typed("a long text", f"id,amount\n1,{'x' * 61}\n", 2, None),
@@ -297,8 +364,8 @@ WORDS = [
     words("a flag with a value", "query", ["--trim=no", "Q", "sales.csv"], "'--trim=no' takes no value"),
     words("an option that comes twice", "query", ["--null", "a", "--null", "b", "Q", "sales.csv"], "'--null' is given twice"),
     *[
-        words(f"the delimiter {text!r}", "query", ["--delimiter", text, "Q", "sales.csv"], f"'--delimiter' takes one character of ASCII, but no quote and no line end, or the word tab: {text}")
-        for text in ("", ";;", "ö", '"', "\n", "TAB")
+        words(f"the delimiter {text!r}", "query", ["--delimiter", text, "Q", "sales.csv"], f"'--delimiter' takes one character of ASCII, but no quote and no line end, or the word tab: {shown}")
+        for text, shown in [*((it, it) for it in ("", ";;", "ö", '"', "TAB")), ("\n", "\\n"), ("\r", "\\r")]
     ],
     *[
         words(f"the counted column {text!r}", "query", ["--number", text, "Q", "sales.csv"], f"'--number' takes a name for the column that counts, a letter or _ and then letters, digits and _, but no word of the language: {text}")
@@ -307,7 +374,10 @@ WORDS = [
     *[words(f"{text} workers", "query", [f"--workers={text}", "Q", "sales.csv"], "'--workers' takes a number from 1 to 64") for text in ("0", "65", "-1", "x")],
     words("no rows", "query", ["--rows", "0", "Q", "sales.csv"], "'--rows' takes a number from 1 to 4294967296"),
     words("65 files", "query", ["Q", *["sales.csv"] * 65], "at most 64 files are read, and 65 were given"),
-    words("a line break in a text", "query", ["SELECT COUNT(*) FROM T WHERE A = 'x\ny'", "sales.csv"], "a text of the query has a line break, which a script can't have"),
+    *[
+        words(f"{end!r} in a text", "query", [f"SELECT COUNT(*) FROM T WHERE A = 'x{end}y'", "sales.csv"], "a text of the query has a line break, which a script can't have")
+        for end in ("\n", "\r", "\r\n")
+    ],
     Case("query --help", ["query", "--help"], output=Text(has="\nUsage: olap query [OPTIONS] 'SELECT ..' FILE...\n")),
     Case("query -h, behind other words", ["query", "Q", "-h"], output=Text(has="\nUsage: olap query [OPTIONS] 'SELECT ..' FILE...\n")),
     Case("help query", ["help", "query"], output=Text(begins="Answers one query over CSV files\n\n")),
@@ -381,6 +451,7 @@ UNITS = "SELECT SUM(UNITS) FROM SALES"
 PROGRESS = [
     told_progress("columns that are not chosen", {"sales.csv": SALES}, UNITS, "SUM(UNITS)", "13", {"sales.csv": "REGION"}, [4], ["--columns", "id,units"]),
     told_progress("columns of the first file alone", {"sales.csv": SALES, "more.csv": MORE_SALES}, UNITS, "SUM(UNITS)", "20", {"more.csv": "Note, column 4, id"}, [4, 5]),
+    told_progress("columns that differ in case from those that are read", {"c1.csv": "id,V\n1,2\n", "c2.csv": "id,v,V,x\n2,100,3,4\n"}, "SELECT SUM(V) FROM C1", "SUM(V)", "5", {"c2.csv": "v, x"}, [1, 2]),
     told_progress("columns of no file", {"sales.csv": SALES}, UNITS, "SUM(UNITS)", "13", {}, [4]),
     told_progress(
         "columns that a query of forty names",
@@ -413,7 +484,7 @@ PROGRESS = [
     words("progress of a schema", "schema", ["--progress", "sales.csv"], "there is no option '--progress'"),
 ]
 
-CASES = [*FILES, *FORMS, *FAULTS, *WORDS, *ORDERS, *PROGRESS]
+CASES = [*FILES, *FORMS, *QUOTES, *FAULTS, *WORDS, *ORDERS, *PROGRESS]
 
 # Where standard output is a terminal, the answer is a table; what is looked at is what the terminal shows.
 ON_SCREEN = [

@@ -47,6 +47,9 @@ OTHER = "it is no partial answer of this version"
 SPOILT = "it is spoilt: its check sum differs, or it ends too soon"
 MALFORMED = "its check sum is right, but not its form"
 UNFIT = "what it tells does not fit what the files before it tell"
+NO_FILE = "it is no regular file, and the file would replace it: name another one"
+LINK = "it is a link, which the file would replace: name the file that it leads to, or another one"
+READ = "it is the script or a part, which the file would replace: name another one"
 DIVIDED = "--own-parts was given for it and not for the files before it, or the other way round"
 
 # A second file, and why it is refused.
@@ -430,7 +433,10 @@ OF_FILES = [
     files("own parts, and a shard that has no row", 'for k in 1 2; do "$olap" run --own-parts --shard $k/2 --partials p$k s part$k; done; "$olap" join p1 p2', "line 4 edition 1\nCOUNT(*) | MAX(K)\n2 | 7\n", s=TABLE + "load 1\npublish\nreport SELECT COUNT(*), MAX(K) FROM T\n", part1="K\n5\n7\n", part2="K\n"),
     files("own parts by their names", 'for k in 1 2; do "$olap" run --own-parts --shard $k/2 --partials p$k --part south=part$k s; done; "$olap" join p2 p1', "line 5 edition 1\nK\n1\n2\n", s=TABLE + "load south\ndelete 3\npublish\nreport SELECT K FROM T GROUP BY K\n", part1="K\n1\n", part2="K\n2\n3\n"),
     files("a shard by numbers with zeros", '"$olap" run s --partials=p --shard=0001/02; cmp p p1'),
-    files("a file that is replaced", f"echo old > p; echo old > p.new; {RUN} p s; cmp p p1; ls p*", "p\np1\np2\n"),
+    files("a file that is replaced", f"echo old > p; echo old > p.new; {RUN} p s; cmp p p1; ls p*; cat p.new", "p\np.new\np1\np2\nold\n"),
+    files("a link that somebody put beside it", f"ln -s s p.new; {RUN} p s; cmp p p1; cat s", "publish\n"),
+    files("the first names beside it are taken", f'bash -c \'for n in 1 2 3; do ln -s s p.$$-$n.new; done; exec "$@"\' - {RUN} p s; cmp p p1; cat s; ls | grep -c new', "publish\n3\n"),
+    files("sixteen writers of one file", f"for n in $(seq 16); do {RUN} p s & done; wait; cmp p p1; ls p*", "p\np1\np2\n"),
     files("a file in a folder", f"mkdir d; {RUN} d/p s; cmp d/p p1; ls d", "p\n"),
     files("a script through a pipe", f"cat s | {RUN} p /dev/stdin; cmp p p1"),
     files("a shard that needs no standard output", f"{RUN} p s > /dev/full; cmp p p1"),
@@ -443,8 +449,35 @@ OF_FILES = [
     files("a folder that is not there", f"{RUN} d/p s", "", "olap: cannot write d/p: no such file\n", 3),
     files("a file in the place of the folder", f"{RUN} s/p s", Text(), Text("olap: cannot write s/p: "), 3),
     files("join: a folder that is not there", '"$olap" join --partials d/p p1 p2', "", "olap: cannot write d/p: no such file\n", 3),
-    kept("a folder in the place of the file", f"mkdir d; {RUN} d s", "olap: cannot write d: it is a folder\n", "3\nold\nd\np\n"),
-    kept("join: a folder in the place of the file", 'mkdir d; "$olap" join --partials d p1 p2', "olap: cannot write d: it is a folder\n", "3\nold\nd\np\n"),
+    kept("a folder in the place of the file", f"mkdir d; {RUN} d s", "olap: cannot write d: it is a folder\n", "2\nold\nd\np\n"),
+    kept("join: a folder in the place of the file", 'mkdir d; "$olap" join --partials d p1 p2', "olap: cannot write d: it is a folder\n", "2\nold\nd\np\n"),
+    # What would be lost stays as it was, and nothing is read: the script that is named last is not there.
+    *[
+        case
+        for command, last in ((f"{RUN} FILE none", ""), ('"$olap" join --partials FILE none', "join: "))
+        for case in (
+            kept(f"{last}a device", command.replace("FILE", "/dev/null"), f"olap: cannot write /dev/null: {NO_FILE}\n"),
+            kept(f"{last}a pipe", f'mkfifo f; {command.replace("FILE", "f")}', f"olap: cannot write f: {NO_FILE}\n", "2\nold\nf\np\n"),
+            kept(f"{last}standard output by its name", command.replace("FILE", "/dev/stdout"), f"olap: cannot write /dev/stdout: {LINK}\n"),
+            kept(f"{last}a link to a file", f'ln -s old l; {command.replace("FILE", "l")} || (readlink l; exit 2)', f"olap: cannot write l: {LINK}\n", "old\n2\nold\nl\np\n"),
+            kept(f"{last}a link that leads nowhere", f'ln -s gone l; {command.replace("FILE", "l")}', f"olap: cannot write l: {LINK}\n", "2\nold\nl\np\n"),
+        )
+    ],
+    *[
+        kept(f"the file is {title}", f"{before}{RUN} {names}", f"olap: cannot write {name}: {READ}\n", left)
+        for title, before, names, name, left in (
+            ("the script", "", "p p", "p", "2\nold\np\n"),
+            ("the script by another name", "", "./p p", "./p", "2\nold\np\n"),
+            ("the script by a second name", "ln p q; ", "q p none", "q", "2\nold\np\nq\n"),
+            ("where a link leads that is the script", "ln -s p l; ", "p l", "p", "2\nold\nl\np\n"),
+            ("the first part", "", "p s p none", "p", "2\nold\np\n"),
+            ("the last part", "", "p s old p", "p", "2\nold\np\n"),
+            ("a part that has a name", "", "p --part a=p s", "p", "2\nold\np\n"),
+            ("standard input", "", "p s /dev/stdin < p", "p", "2\nold\np\n"),
+        )
+    ],
+    kept("a device, and the words are refused", '"$olap" run --shard 3/2 --partials /dev/null s', f"error: '--shard' takes K/N, the shard K of N, from 1/1 on{MORE}"),
+    files("a file of a name of two lines", f"mkdir d; {RUN} $'d/a\\nb\\e' s; {RUN} $'e/a\\nb\\e' s", "", "olap: cannot write e/a\\nb\\u001b: no such file\n", 3),
     kept("an old file beside refused words", '"$olap" run --shard 3/2 --partials p s', f"error: '--shard' takes K/N, the shard K of N, from 1/1 on{MORE}"),
     kept("an old file beside a script that is not there", f"{RUN} p t", "olap: cannot read t: no such file\n"),
     kept("an old file beside a shape", f"{RUN} p s", f"olap: s:2: {SHAPE}\n", s=TABLE + "shape\n"),
@@ -456,7 +489,7 @@ OF_FILES = [
     kept("an old file beside one that is not there", '"$olap" join --partials p p1 p3', "olap: cannot read p3: no such file\n"),
     kept("an old file that is read and does not fit", '"$olap" join --partials p p1 p', f"olap: p: {OTHER}\n"),
     files("a full disk", '"$olap" join p1 p2 > /dev/full', "", "olap: ended 92\n", 3),
-    files("a closed pipe", '(sleep 1; "$olap" join p1 p2 || echo $? > ended) | true; cat ended', "3\n", "olap: ended 92\n"),
+    files("a closed pipe", '(sleep 1; "$olap" join p1 p2 || echo $? > ended) | true; cat ended', "3\n"),
     files("a full disk, and nobody reads why", '"$olap" join p1 p2 > /dev/full 2> /dev/full', "", "", 3),
     files("a full disk that is not asked for", '"$olap" join --partials p p1 p2 > /dev/full; "$olap" join p', "line 1 refused 1\n"),
 ]

@@ -113,29 +113,41 @@ REFUSED = [
 ]
 
 UNREAD = [
-    refused("a script that is not there", ["run", "none.olap"], "olap: cannot read none.olap: no such file\n"),
-    run("a script that is a folder", ["folder"], {"folder": None}, status=2, errors="olap: cannot read folder: it is a folder\n"),
+    refused("a script that is not there", ["run", "none.olap"], "olap: cannot read none.olap\n"),
+    run("a script that is a folder", ["folder"], {"folder": None}, status=2, errors="olap: cannot read folder\n"),
     run(
         "a part that is not there",
         ["two.olap", "part1", "none", "part2"],
         {"two.olap": TWO, **PARTS},
         status=2,
-        errors="olap: cannot read none: no such file\n",
+        errors="olap: cannot read none\n",
     ),
     run(
         "a part in a file that is no folder",
         ["two.olap", "two.olap/part"],
         {"two.olap": TWO},
         status=2,
-        errors="olap: cannot read two.olap/part: not a directory\n",
+        errors="olap: cannot read two.olap/part\n",
     ),
+    # The reason is on a line of its own, and only where the run explains.
+    refused("an explained script that is not there", ["run", "--explain", "none.olap"], "olap: cannot read none.olap\nolap: none.olap: no such file\n"),
+    refused("an explained part that is a folder", ["run", "two.olap", ".", "--explain"], "olap: cannot read .\nolap: .: it is a folder\n"),
+    refused("a live script that is not there", ["live", "--query", "Q", "none.olap"], "olap: cannot read none.olap\n"),
+    refused("an explained live script that is not there", ["live", "--explain", "--query", "Q", "none.olap"], "olap: cannot read none.olap\nolap: none.olap: no such file\n"),
+    # The first line ends with the name as it is.
+    refused("an explained file of a name of two lines", ["run", "--explain", "a\nolap: b\u202e"], "olap: cannot read a\nolap: b\u202e\nolap: a\\nolap: b\\u202e: no such file\n"),
+    # Of an error that has no name it is told what the system says.
+    refused("a file that no opening can read, explained", ["run", "--explain", "/proc/self/mem"], "olap: cannot read /proc/self/mem\nolap: /proc/self/mem: Input/output error (os error 5)\n"),
+    refused("a session over such a file", ["session", "/proc/self/mem"], "olap: cannot read /proc/self/mem: Input/output error (os error 5)\n"),
+    refused("a session over a file of a name of two lines", ["session", "a\nb\x7f\u0085"], "olap: cannot read a\\nb\\u007f\\u0085: no such file\n"),
+    refused("a page of a name of two lines", ["help", "a\nb"], Text("error: no help of 'a\\nb'\n")),
     Case(
         "standard input that is a folder",
         [],
         {"folder": None},
         "folder",
         status=2,
-        errors="olap: cannot read -: it is a folder\n",
+        errors="olap: cannot read -\n",
     ),
 ]
 
@@ -159,7 +171,7 @@ STREAMS = [
         {"two.olap": TWO},
         "two.olap",
         status=2,
-        errors="olap: cannot read -: no such file\n",
+        errors="olap: cannot read -\n",
     ),
 ]
 

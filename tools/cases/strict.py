@@ -5,6 +5,7 @@ import pathlib
 from cases.table import Case, SCRIPT, Viewed, as_bytes, block, of_lines, script
 
 STOPPED = "olap: stopped after a refused line\n"
+TURNED_AWAY = "olap: the query of the viewers is refused\n"
 TABLE = "table T (K INT KEY)"
 COUNT = "report SELECT COUNT(*) FROM T"
 EXAMPLES = pathlib.Path(__file__).resolve().parent.parent.parent / "examples"
@@ -158,18 +159,54 @@ def viewed(output):
     return Viewed(output=output, viewers=2, shots=1, editions={0: ["COUNT(*)", "0"], 1: ["COUNT(*)", "1"]})
 
 
+def turned_away(title, query, number, *options, end="\n"):
+    """A strict run of which each line is accepted, and the query of the viewers is not."""
+    text = f"table T (K INT KEY, V TEXT){end}put 1,a{end}publish{end}{COUNT}{end}"
+    output = f"line 4 {counts(1, 1)}\nviewers refused {number}\n"
+    return Case(title, ["live", "--strict", *options, "--query", query, SCRIPT], {SCRIPT: text}, output=output, errors=TURNED_AWAY, status=1)
+
+
 LIVE = [
     live("viewers of a strict run", [TABLE, "put 1", "publish", (COUNT, counts(1, 1))], viewed),
     live("viewers of a strict run that stops", [TABLE, "put 1", "publish", ("put x", 7), (COUNT, counts(1, 1))], None, status=1, errors=STOPPED),
     live("viewers of a strict run that stops before its table", [("publish", 1), TABLE], None, status=1, errors=STOPPED),
-    live("viewers of a strict script without lines", [], lambda output: f"{output}viewers refused 1\n"),
-    live("viewers of a strict script of comments alone", ["# nothing", ""], lambda output: f"{output}viewers refused 1\n"),
-    # A query of viewers that is refused is no line of the script.
+    # All lines are answered, and the viewers have no answer.
+    live("viewers of a strict script without lines", [], lambda output: f"{output}viewers refused 1\n", status=1, errors=TURNED_AWAY),
+    live("viewers of a strict script of comments alone", ["# nothing", ""], lambda output: f"{output}viewers refused 1\n", status=1, errors=TURNED_AWAY),
+    *[
+        turned_away(f"viewers of a strict run of {query!r}{more}", query, number, *options)
+        for query, number in (
+            ("SELECT COUNT(*) FROM U", 11),
+            ("SELECT COUNT(* FROM T", 10),
+            ("", 10),
+            ("SELECT X FROM T", 11),
+            ("SELECT K, COUNT(*) FROM T", 12),
+            ("SELECT SUM(V) FROM T", 13),
+            ("SELECT COUNT(*) FROM T GROUP BY CUBE(K, K, K, K, K, K, K, K, K)", 14),
+            ("SELECT COUNT(*) FROM T" + " " * 65_536, 15),
+        )
+        for more, options in (("", ()), (" as they come", ("--as-they-come",)))
+    ],
+    turned_away("viewers of a strict run whose lines end in a carriage return", "SELECT COUNT(*) FROM U", 11, end="\r\n"),
     Case(
-        "a refused query of the viewers of a strict run",
-        ["live", "--strict", "--query", "SELECT COUNT(*) FROM U", SCRIPT],
+        "viewers of a strict run whose reason is told",
+        ["live", "--strict", "--explain", "--query", "SELECT COUNT(*) FROM U", SCRIPT],
         {SCRIPT: f"{TABLE}\n"},
         output="viewers refused 11\n",
+        errors=f"--query: the query is refused (11 Unknown)\n{TURNED_AWAY}",
+        status=1,
+    ),
+    Case(
+        "viewers of a run that is not strict",
+        ["live", "--query", "SELECT COUNT(*) FROM U", SCRIPT],
+        {SCRIPT: f"{TABLE}\n"},
+        output="viewers refused 11\n",
+    ),
+    Case(
+        "viewers of a strict run whose table ends in a carriage return",
+        ["live", "--strict", "--viewers", "1", "--query", "SELECT COUNT(*) FROM T", SCRIPT],
+        {SCRIPT: f"# first\r\n{TABLE}\r\n"},
+        output="viewer 1 edition 0\nCOUNT(*)\n0\n" * 2,
     ),
     Case(
         "viewers of a strict run of one byte too many",

@@ -1,14 +1,11 @@
 -- The entries of a trie of cells as a set of cells, and the steps of that set.
-use Rattle.std.specs.Prelude.{is_some}
 use Rattle.std.specs.List.{fold, list_any}
 use Rattle.std.proofs.lemmas.List.{append_assoc, append-nil, map-append}
-use Rattle.std.proofs.Common.{Bor, ◌≡◌, ◌≢◌, ◌||◌, ◌+◌, ℕ, Bool, true, false, cond, Option, Some, None, List, [], ◌∷◌, ◌++◌, refl, sym, ap, ap₂, ◌∙◌}
+use Rattle.std.proofs.Common.{Bor, ◌≡◌, ◌≢◌, ◌||◌, ◌+◌, ℕ, Bool, true, false, cond, Option, Some, None, List, [], ◌∷◌, ◌++◌, refl, sym, ap, ap₂, ◌∙◌, is_some, option_copied, Ordering}
 use Rattle.std.specs.FinMap as map
 use Rattle.std.specs.FinMap.Entries.{is_some-find}
 use Rattle.std.specs.FinSet.{contains, contains-empty, contains-from_list, contains-insert, contains-union, empty, from_list, insert, len, len-empty, len-insert, same_set, union}
 use Rattle.std.specs.Map.{keys_of}
-use Rattle.std.specs.Option.{option_copied}
-use Rattle.std.specs.declared.cmp.Ordering.{Ordering}
 use Rattle.aggs.specs.Counts.{present_append}
 use Rattle.aggs.specs.Differing.{Cells, contains_different, different, nothing_second, union_turns}
 use Rattle.aggs.specs.Values.{is_null, present}

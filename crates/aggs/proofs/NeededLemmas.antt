@@ -1,11 +1,8 @@
 -- A step that keeps a cell changes the accumulator.
-use Rattle.std.specs.Prelude.{◌↔◌, IsTrue, if◌then◌else◌}
 use Rattle.std.specs.List.{reduce}
 use Rattle.std.specs.Ordering.{is_ge, is_lt, ordering_reverse}
 use Rattle.std.specs.Result.{OnErr}
-use Rattle.std.specs.declared.cmp.Ordering.{Ordering}
-use Rattle.std.specs.declared.cmp.Ordering.TheVariants.{Less, Equal, Greater}
-use Rattle.std.proofs.Common.{◌≡◌, ◌≢◌, Bool, true, false, [], ◌∷◌, Option, Some, None, Result, Ok, Err, refl, sym, ap, ◌∙◌}
+use Rattle.std.proofs.Common.{◌≡◌, ◌≢◌, Bool, true, false, [], ◌∷◌, Option, Some, None, Result, Ok, Err, refl, sym, ap, ◌∙◌, ◌↔◌, IsTrue, if◌then◌else◌, Ordering, Less, Equal, Greater}
 use Rattle.aggs.specs.Reducing.{merged}
 use Rattle.aggs.specs.Values.{greater, lesser, present}
 use Rattle.cells.specs.CellOrder.{cell_cmp, cell_cmp-total}

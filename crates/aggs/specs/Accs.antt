@@ -79,11 +79,7 @@ module _ {H : Type 0} where
 
 pub acc_kind : (H : Type 0) (k : Kind) (xs : List Cell) → kind_of (acc_of {H = H} k xs) ≡ k
 acc_kind H kind.CountRows xs = refl
-acc_kind H kind.Count xs = refl
-acc_kind H kind.CountDistinct xs = refl
-acc_kind H kind.Sum xs = refl
-acc_kind H kind.Min xs = refl
-acc_kind H kind.Max xs = refl
+acc_kind H other xs = refl
 
 pub acc_joins : {H : Type 0} (k : Kind) (xs ys : List Cell) → acc_of {H = H} k (xs ++ ys) ≡ acc_together (acc_of k xs) (acc_of k ys)
 acc_joins kind.CountRows xs ys = ap acc.CountRows (rows_join xs ys)

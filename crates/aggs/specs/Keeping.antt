@@ -49,27 +49,10 @@ module _ {H : Type 0} where
   -- what is kept of a list makes its accumulator
   pub kept_again : (k : Kind) (xs : List Cell) (e : Kept) → IsKept k xs e → acc_of_kept k e ≡ Some (acc_of k xs)
   kept_again kind.CountRows xs (kept.Count n) is = ap (λ m. Some (acc.CountRows (rows m))) is
-  kept_again kind.CountRows xs (kept.Different cells) is = absurd is
-  kept_again kind.CountRows xs (kept.Sum sum integers) is = absurd is
-  kept_again kind.CountRows xs (kept.Extreme c) is = absurd is
   kept_again kind.Count xs (kept.Count n) is = ap (λ m. Some (acc.Count (counted m))) is
-  kept_again kind.Count xs (kept.Different cells) is = absurd is
-  kept_again kind.Count xs (kept.Sum sum integers) is = absurd is
-  kept_again kind.Count xs (kept.Extreme c) is = absurd is
-  kept_again kind.CountDistinct xs (kept.Count n) is = absurd is
   kept_again kind.CountDistinct xs (kept.Different cells) is = ap (λ s. Some (acc.CountDistinct s)) is
-  kept_again kind.CountDistinct xs (kept.Sum sum integers) is = absurd is
-  kept_again kind.CountDistinct xs (kept.Extreme c) is = absurd is
-  kept_again kind.Sum xs (kept.Count n) is = absurd is
-  kept_again kind.Sum xs (kept.Different cells) is = absurd is
   kept_again kind.Sum xs (kept.Sum sum integers) is =
       ap (λ b. if b then Some (acc.Sum (record { sum = sum; integers = integers })) else None) is.1 ∙ ap (λ s. Some (acc.Sum s)) is.0
-  kept_again kind.Sum xs (kept.Extreme c) is = absurd is
-  kept_again kind.Min xs (kept.Count n) is = absurd is
-  kept_again kind.Min xs (kept.Different cells) is = absurd is
-  kept_again kind.Min xs (kept.Sum sum integers) is = absurd is
   kept_again kind.Min xs (kept.Extreme c) is = ap (λ o. Some (acc.Min (least_kept o))) is
-  kept_again kind.Max xs (kept.Count n) is = absurd is
-  kept_again kind.Max xs (kept.Different cells) is = absurd is
-  kept_again kind.Max xs (kept.Sum sum integers) is = absurd is
   kept_again kind.Max xs (kept.Extreme c) is = ap (λ o. Some (acc.Max (greatest_kept o))) is
+  kept_again k xs e is = absurd is

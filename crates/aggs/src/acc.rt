@@ -57,7 +57,7 @@ impl<H: KeyHash<Cell>> Clone for Acc<H> {
 }
 
 impl<H: KeyHash<Cell>> Acc<H> {
-    /// The accumulator of no cells. It takes no memory.
+    /// The accumulator of no cells.
     pub fn empty(kind: Kind) -> Acc<H>
         ensures { result ≡ acc_of kind [] }
     {

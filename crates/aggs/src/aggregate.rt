@@ -29,7 +29,7 @@ pub trait Aggregate {
     /// The value of the aggregate over a list (ISO/IEC 9075-2:1999, 6.16).
     ghost value: { List Cell → Total };
 
-    /// The accumulator of no cells. It takes no memory.
+    /// The accumulator of no cells.
     fn empty() -> Self
         ensures { result ≡ of [] };
 

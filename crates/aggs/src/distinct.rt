@@ -84,7 +84,7 @@ impl<H: KeyHash<Cell>> CountDistinct<H> {
     }
 
     /// The trie that holds the cells: its keys are the different cells of the list without NULL, each
-    /// once. It takes no memory.
+    /// once.
     pub fn cells(&self) -> &Trie<Cell, (), H>
         ensures set { from_list (keys_of result.now) ≡ self.now }
         ensures keys { (xs : List Cell) → self.now ≡ different xs → HaveSameKeys cell_cmp (keys_of result.now) (present xs) }
@@ -128,7 +128,7 @@ impl<H: KeyHash<Cell>> CountDistinct<H> {
         Ok(CountDistinct::holding(cells))
     }
 
-    /// How many cells there are. It takes no memory.
+    /// How many cells there are.
     pub fn len(&self) -> u64
         ensures { result ≡ len self.now }
     {

@@ -68,7 +68,7 @@ impl<H: KeyHash<Cell>> Acc<H> {
         }
     }
 
-    /// Whether both can be put together: they stand for few enough cells, as far as they know. It takes no memory.
+    /// Whether both can be put together: they stand for few enough cells, as far as they know.
     pub fn fits(&self, other: &Acc<H>) -> bool
         ensures room { result ≡ true → AccsFit self.now other.now }
         ensures only { AccsFit self.now other.now → result ≡ true }

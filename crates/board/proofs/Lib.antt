@@ -3,6 +3,7 @@ pub mod CopiesLemmas
 pub mod CrossingLemmas
 pub mod EditionsLemmas
 pub mod HistoryLemmas
+pub mod OpeningLemmas
 pub mod OverLemmas
 pub mod RowsLemmas
 pub mod RuleLemmas

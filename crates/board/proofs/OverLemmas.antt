@@ -1,8 +1,7 @@
 -- The rows of one trie laid over those of another.
-use Rattle.std.proofs.Common.{◌≡◌, Option, Some, None, List, refl, ap₂, sym, ◌∙◌}
+use Rattle.std.proofs.Common.{◌≡◌, Option, Some, None, List, refl, ap₂, sym, ◌∙◌, Ordering}
 use Rattle.std.specs.FinMap.{get, same_map}
 use Rattle.std.specs.Option.{option_or}
-use Rattle.std.specs.declared.cmp.Ordering.{Ordering}
 use Rattle.cells.specs.CellOrder.{cell_cmp, cell_cmp-total}
 use Rattle.cells.specs.SameKeys.{exact_cells}
 use Rattle.cells.specs.Tables.{Rows, laid_over}

@@ -1,6 +1,5 @@
 -- The rows of an edition as a list.
-use Rattle.std.proofs.Common.{◌≡◌, Bool, true, false, cond, Some, List, [], ◌∷◌, ◌++◌, refl, sym, ap, ◌∙◌, subst}
-use Rattle.std.specs.Prelude.{T}
+use Rattle.std.proofs.Common.{◌≡◌, Bool, true, false, cond, Some, List, [], ◌∷◌, ◌++◌, refl, sym, ap, ◌∙◌, subst, T}
 use Rattle.std.specs.FinMap.{entries, find, get, get-empty, get-entries, get-insert, same_map}
 use Rattle.cells.specs.CellOrder.{cell_cmp, cell_cmp-total, cell_eq}
 use Rattle.cells.specs.Laws.{table_rows_put}

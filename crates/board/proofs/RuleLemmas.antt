@@ -1,21 +1,20 @@
 -- Each step keeps the rule of the board.
-use Rattle.std.proofs.Common.{◌≡◌, ◌≢◌, ℕ, zero, suc, ◌+◌, ◌-◌, ◌*◌, ◌%◌, ◌^◌, ◌<◌, ◌≤◌, eqb, List, [], ◌∷◌, ◌++◌, map, length, replicate, get_or, set, sym, refl, ap, ◌∙◌, subst, ⊎_elim, arith, Option, Some, None, length-set, length-append, get_or-set_other, get_or-set_same, eq-eqb}
+use Rattle.std.proofs.Common.{◌≡◌, ◌≢◌, ℕ, ◌+◌, ◌-◌, ◌*◌, ◌%◌, ◌^◌, ◌<◌, ◌≤◌, eqb, List, [], ◌∷◌, ◌++◌, length, get_or, set, sym, refl, ap, ◌∙◌, subst, ⊎_elim, arith, Option, Some, length-set, length-append, get_or-set_other, get_or-set_same, eq-eqb}
 use Rattle.std.proofs.lemmas.List.Elements.{All-append, All-cons, All-nil}
 use Rattle.std.specs.FinMap as finmap
 use mathlib.Core.Logic.{dite}
-use mathlib.Core.Option.{none, some, some-ne-none}
+use mathlib.Core.Option.{none, some}
 use mathlib.Core.List.{IsPrefix}
 use native.Mathlib.Decide.{ℕ_discrete, dec_le}
-use lib.ListN.{get_elem?, length-map, length-replicate}
+use lib.ListN.{get_elem?}
 use lib.Seq.{set-get_or}
 use prog.Atomic.{either}
 use Rattle.std.specs.Int.Bits.{bit_xor}
-use Rattle.atomic_table.specs.Table.{State, Me, step, Act, keeps, takes, gives, stepped, rest, Allows, Splits, Joins}
-use Rattle.atomic_table.specs.Table as tables
+use Rattle.atomic_table.specs.Table.{State, step, keeps, takes, gives, stepped, rest, Allows, Splits, Joins}
 use Rattle.atomic_table.proofs.Lists.{at_set, set_here, set_else, set_again}
 use Rattle.cells.specs.Values.{Table}
 use Rattle.board.specs.Editions.{Edition, History}
-use Rattle.board.specs.Law.{Appended, Board, Entered, Fits, Flipped, Grabbed, Homes, IsBox, IsEnd, IsLaid, IsShown, Kept, Knows, Left, Sat, Saw, Shows, guest, host, informed, inside, keeping, no_progress, nobody, note, opening, outside, progress_of}
+use Rattle.board.specs.Law.{Appended, Board, Entered, Fits, Flipped, Grabbed, Homes, IsBox, IsEnd, IsLaid, IsShown, Kept, Knows, Left, Sat, Saw, Shows, guest, host, informed, inside, keeping, nobody, note, outside, progress_of}
 use Rattle.board.specs.declared.law.Progress.{Progress}
 use Rattle.board.specs.declared.law.Role.{Role}
 use Rattle.board.specs.declared.law.Role.TheVariants.{Noted, Keeping, Outside, Inside}
@@ -92,42 +91,6 @@ module _ (n : ℕ) (table : Table) where
             (λ j d other at. fits_else n table b b' j (prefix_self b.history) (λ _. omega arith) (omega arith) (λ w a c. absurd (omega (arith, a, c))) d (λ _ z. z)
             (λ w a c o m. (o, there w (λ e. other (sym o ∙ (ap b.owner e ∙ mine))), λ _ _ i. (i, refl))) (r.each j d at));
       }
-
-  all_vacant : {A : Type 0} (m i : ℕ) (a : A) → i < m → get_elem? (map some (replicate m a)) i ≡ some (some a)
-  all_vacant zero i a h = absurd (omega arith)
-  all_vacant (suc m) zero a h = refl
-  all_vacant (suc m) (suc i) a h = all_vacant m i a (omega arith)
-
-  abbrev first_board : Board
-  first_board = record { history = finmap.empty ∷ []; progress = no_progress; keeper = 0; owner = λ _. 0; par = λ _. 0; held = λ _. 0; shown = λ _. 0 }
-
-  pub starts : (words : List ℕ) (slots : ℕ) → length words ≡ n + 1 → slots ≡ 2 * n + 2 → ((i : ℕ) → get_or words i 0 ≡ 0) → Rule (tables.opening words (replicate slots None) (opening table))
-  starts words slots wide deep blank = record {
-    board = first_board;
-    laid = record {
-      wide = wide;
-      deep = length-map (replicate slots None) (λ (x : Option Edition). some x) ∙ (length-replicate slots None ∙ deep);
-      begun = record { later = []; is = refl };
-      count = ap (λ (x : ℕ). x + 1) (blank 0);
-      boxes = λ w a b. record {
-        bits = (omega arith, omega arith);
-        idle = λ _. blank w;
-        busy = λ z. absurd (z refl);
-        low = omega arith;
-        active = λ _. (None, all_vacant slots (2 * w + 0) None (omega arith), refl);
-        spare = λ _ _. (None, all_vacant slots (2 * w + 1) None (omega arith));
-      };
-      done = λ w a b c. absurd (omega (arith, a, c));
-      side = λ w a b e. absurd (omega (arith, a, e));
-      unmade = λ _ _. refl;
-    };
-    each = λ j d e. ⊎_elim (λ (t : (j ≡ 0) × (opening table ≡ d)). subst (λ (z : ℕ × View). Fits n table first_board z.0 z.1) (λ i. (sym t.0 i, t.1 i))
-        record { role = (refl, refl, refl, refl); seen = prefix_self (finmap.empty ∷ []); told = All-nil _ }) (λ (t : (j ≢ 0) × (get_elem? (opening table ∷ []) j ≡ some d)). absurd (beyond j d t.0 t.1)) (at_set (opening table ∷ []) 0 j (opening table) d e);
-  }
-    where
-      beyond : (j : ℕ) (d : View) → j ≢ 0 → get_elem? (opening table ∷ []) j ≡ some d → ⊥
-      beyond zero d other e = other refl
-      beyond (suc j) d other e = some-ne-none d (sym e)
 
   pub publishes : (slots id : ℕ) (me : Sat) (p₀ : Progress) (e : Edition) (old new : ℕ) → new ≡ old + 1 → me.0.role ≡ Keeping p₀ → length me.0.seen ≡ old + 1
       → Allows Rule slots id me 0 (λ x. either (eqb x old) new x) (Appended (step slots 0 old new (some (Some e))) me)

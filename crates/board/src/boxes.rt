@@ -57,7 +57,8 @@ fn turn<H: KeyHash<Cell>>(
     side: usize,
     edition: Snapshot<H>,
 )
-    requires table { (seat.old.table_id ≡ boxes.now.table_id) × (word < boxes.now.table_id.words) × (0 < word) × (word ≤ boxes.now.key.places) × (word < 1024) }
+    requires table { (seat.old.table_id ≡ boxes.now.table_id) × (word < boxes.now.table_id.words) × (0 < word)
+        × (word ≤ boxes.now.key.places) × (word < 1024) }
     requires taken { HasSide word side seat.old }
     requires last { IsEnd seat.old.me.0.seen seat.old.me.0.schema edition }
     ensures { GoesOn word seat.old seat.new }
@@ -73,7 +74,8 @@ pub(crate) fn fill_new<H: KeyHash<Cell>>(
     word: usize,
     edition: Snapshot<H>,
 )
-    requires table { (seat.old.table_id ≡ boxes.now.table_id) × (word < boxes.now.table_id.words) × (0 < word) × (word ≤ boxes.now.key.places) × (word < 1024) }
+    requires table { (seat.old.table_id ≡ boxes.now.table_id) × (word < boxes.now.table_id.words) × (0 < word)
+        × (word ≤ boxes.now.key.places) × (word < 1024) }
     requires ready { IsAt (word - 1) seat.old }
     requires new { (progress_at seat.old).made < word }
     requires last { IsEnd seat.old.me.0.seen seat.old.me.0.schema edition }

@@ -45,7 +45,8 @@ impl<H: KeyHash<Cell>> Model for Keeper<H> {
 
     ghost view = { λ k. editions_of k.draft k.limit k.last k.writer.seat.me.0.seen k.writer.seat.table_id };
 
-    ghost invariant = { λ k. IsKept (editions_of k.draft k.limit k.last k.writer.seat.me.0.seen k.writer.seat.table_id) × (k.writer.seat.me.0.schema ≡ k.last.schema) };
+    ghost invariant = { λ k. IsKept (editions_of k.draft k.limit k.last k.writer.seat.me.0.seen k.writer.seat.table_id)
+        × (k.writer.seat.me.0.schema ≡ k.last.schema) };
 }
 
 impl<H: KeyHash<Cell>> Keeper<H> {
@@ -134,7 +135,7 @@ impl<H: KeyHash<Cell>> Keeper<H> {
         Ok(self.tell())
     }
 
-    /// Tells what the keeper knows. It takes no memory.
+    /// Tells what the keeper knows.
     pub fn tell(&mut self) -> Told
         ensures same { self.new ≡ self.old }
         ensures told { KnowsAllOf self.old result }
@@ -162,7 +163,7 @@ impl<H: KeyHash<Cell>> Keeper<H> {
         Ok(Viewer { reader })
     }
 
-    /// Ends the keeper. Snapshots stay as they are, and viewers go on seeing the last edition. It takes no memory.
+    /// Ends the keeper. Snapshots stay as they are, and viewers go on seeing the last edition.
     pub fn close(self) {
         drop(self);
     }
@@ -178,14 +179,14 @@ impl<H: KeyHash<Cell>> Keeper<H> {
         Ok(self.last.share()?)
     }
 
-    /// The last published edition, lent. It takes no memory.
+    /// The last published edition, lent.
     pub fn last(&self) -> &Snapshot<H>
         ensures { result.now ≡ self.now.last }
     {
         &self.last
     }
 
-    /// The schema of the table. It takes no memory.
+    /// The schema of the table.
     pub fn schema(&self) -> &Schema
         ensures { result.now ≡ schema self.now }
     {
@@ -203,14 +204,14 @@ impl<H: KeyHash<Cell>> Keeper<H> {
         let _ = &self.draft;
     }
 
-    /// The number of the last published edition. It takes no memory.
+    /// The number of the last published edition.
     pub fn edition(&self) -> u64
         ensures { result ≡ edition self.now }
     {
         self.last.edition()
     }
 
-    /// How many rows the last published edition has. It takes no memory.
+    /// How many rows the last published edition has.
     pub fn rows(&self) -> u64
         ensures { result ≡ map.len (published self.now) }
     {

@@ -164,14 +164,14 @@ impl<H: KeyHash<Cell>> Ledger<H> {
         Ok(())
     }
 
-    /// The schema of the table. It takes no memory.
+    /// The schema of the table.
     pub fn schema(&self) -> &Schema
         ensures { result.now ≡ schema self.now }
     {
         self.last.schema()
     }
 
-    /// The last published edition, lent. It takes no memory.
+    /// The last published edition, lent.
     pub fn last(&self) -> &Snapshot<H>
         ensures { result.now ≡ self.now.last }
     {

@@ -20,7 +20,8 @@ pub(crate) struct Reader<H: KeyHash<Cell>> {
     pub(crate) badge: Badge<View>,
     pub(crate) index: usize,
     ghost seated: { badge.table_id ≡ (arc_value table).shared.table_id },
-    ghost sized: { (0 < index) × (index ≤ (arc_value table).shared.key.places) × (badge.table_id.words ≡ (arc_value table).shared.key.places + 1) × (index < 1024) },
+    ghost sized: { (0 < index) × (index ≤ (arc_value table).shared.key.places)
+        × (badge.table_id.words ≡ (arc_value table).shared.key.places + 1) × (index < 1024) },
     ghost out: { (badge.views ≡ known badge ∷ []) × ((known badge).role ≡ Outside index) },
 }
 
@@ -60,7 +61,8 @@ impl<H: KeyHash<Cell>> Reader<H> {
         requires own { told.table_id ≡ self.old.badge.table_id }
         requires note { (told.views ≡ known told ∷ []) × ((known told).role ≡ Noted) }
         ensures board { self.new.badge.table_id ≡ self.old.badge.table_id }
-        ensures told { ((known self.new.badge).seen ≡ (known self.old.badge).seen) × ((known self.new.badge).told ≡ (known self.old.badge).told ++ (known told).seen ∷ []) }
+        ensures told { ((known self.new.badge).seen ≡ (known self.old.badge).seen)
+            × ((known self.new.badge).told ≡ (known self.old.badge).told ++ (known told).seen ∷ []) }
         ensures schema { (known self.new.badge).schema ≡ (known self.old.badge).schema }
     {
         let mut seat: Place<H> = replace(&mut self.badge, Badge::blank()).into_seat();

@@ -50,14 +50,14 @@ impl<H: KeyHash<Cell>> Root<H> {
         Root { alloc, rows }
     }
 
-    /// No rows. It takes no memory.
+    /// No rows.
     pub(crate) fn empty(alloc: Global) -> Root<H>
         ensures { result ≡ map.empty }
     {
         Root::of(alloc, Trie::empty())
     }
 
-    /// How many rows there are. It takes no memory.
+    /// How many rows there are.
     pub fn len(&self) -> u64
         ensures { result ≡ map.len self.now }
     {
@@ -65,7 +65,7 @@ impl<H: KeyHash<Cell>> Root<H> {
         self.rows.len()
     }
 
-    /// The row of the key. It takes no memory.
+    /// The row of the key.
     pub fn get(&self, key: &Cell) -> Option<&Row>
         ensures { option_copied result ≡ map.get self.now key.now }
     {
@@ -118,7 +118,7 @@ impl<H: KeyHash<Cell>> Root<H> {
         Ok(Root::of(self.alloc, rows))
     }
 
-    /// The trie that holds the rows, for those who go through all of them. It takes no memory.
+    /// The trie that holds the rows, for those who go through all of them.
     pub fn rows(&self) -> &RowTrie<H>
         ensures map { map_of cell_cmp result.now ≡ self.now }
         ensures rise { RiseByHash H.hash_of cell_cmp (keys_of result.now) }

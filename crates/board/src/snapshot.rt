@@ -82,15 +82,14 @@ impl<H: KeyHash<Cell>> Snapshot<H> {
         Arc::try_clone(&self.schema)
     }
 
-    /// The edition's number. It takes no memory.
+    /// The edition's number.
     pub fn edition(&self) -> u64
         ensures { result ≡ self.now.number }
     {
         self.edition
     }
 
-    /// The edition's rows, which are rows of its schema, and at most [`MAX_ROWS`](crate::MAX_ROWS). It takes no
-    /// memory.
+    /// The edition's rows, which are rows of its schema, and at most [`MAX_ROWS`](crate::MAX_ROWS).
     pub fn root(&self) -> &Root<H>
         ensures rows { result.now ≡ self.now.rows }
         ensures fit { AreRowsOf self.now.schema result.now }
@@ -99,7 +98,7 @@ impl<H: KeyHash<Cell>> Snapshot<H> {
         &self.root
     }
 
-    /// The schema of the table. It takes no memory.
+    /// The schema of the table.
     pub fn schema(&self) -> &Schema
         ensures { result.now ≡ self.now.schema }
     {

@@ -23,11 +23,16 @@ impl<H: KeyHash<Cell>> Model for Viewer<H> {
 
     ghost coded = { coded_known };
 
-    ghost view = { λ v. record { history = (known v.reader.badge).seen; told = (known v.reader.badge).told; board = v.reader.badge.table_id; schema = (known v.reader.badge).schema } };
+    ghost view = { λ v. record {
+      history = (known v.reader.badge).seen;
+      told = (known v.reader.badge).told;
+      board = v.reader.badge.table_id;
+      schema = (known v.reader.badge).schema;
+    } };
 }
 
 impl<H: KeyHash<Cell>> Viewer<H> {
-    /// Takes in what the keeper of the same board told. It takes no memory, and never waits.
+    /// Takes in what the keeper of the same board told. It never waits.
     pub fn learn(&mut self, told: Told)
         requires { told.board ≡ self.old.board }
         ensures { Learns self.old told self.new }

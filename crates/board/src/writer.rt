@@ -39,7 +39,8 @@ fn append<H: KeyHash<Cell>>(
     requires ready { IsAt (progress_at seat.old).done seat.old }
     requires next { (length seat.old.me.0.seen ≡ edition.number) × (0 < edition.number) }
     ensures result { result ≡ edition }
-    ensures same { (seat.new.table_id ≡ seat.old.table_id) × IsAt 0 seat.new × ((progress_at seat.new).made ≡ (progress_at seat.old).made) × (seat.new.me.0.schema ≡ seat.old.me.0.schema) }
+    ensures same { (seat.new.table_id ≡ seat.old.table_id) × IsAt 0 seat.new
+        × ((progress_at seat.new).made ≡ (progress_at seat.old).made) × (seat.new.me.0.schema ≡ seat.old.me.0.schema) }
     ensures seen { seat.new.me.0.seen ≡ seat.old.me.0.seen ++ edition.rows ∷ [] }
 {
     let number = edition.edition();
@@ -122,7 +123,8 @@ impl<H: KeyHash<Cell>> Writer<H> {
     /// What the keeper has seen, told.
     pub(crate) fn tell(&mut self) -> Badge<View>
         ensures kept { (self.new.seat.me ≡ self.old.seat.me) × (self.new.seat.table_id ≡ self.old.seat.table_id) }
-        ensures told { (result.table_id ≡ self.old.seat.table_id) × (result.views ≡ known result ∷ []) × ((known result).role ≡ Noted) × ((known result).seen ≡ self.old.seat.me.0.seen) }
+        ensures told { (result.table_id ≡ self.old.seat.table_id) × (result.views ≡ known result ∷ []) × ((known result).role ≡ Noted)
+            × ((known result).seen ≡ self.old.seat.me.0.seen) }
     {
         let table = &self.table;
         let boxes = &table.shared;
@@ -134,8 +136,10 @@ impl<H: KeyHash<Cell>> Writer<H> {
     /// board was refused. `last` is the last edition.
     pub(crate) fn reader(&mut self, last: Snapshot<H>) -> Option<Reader<H>>
         requires { IsEnd self.old.seat.me.0.seen self.old.seat.me.0.schema last }
-        ensures kept { (self.new.seat.me.0.seen ≡ self.old.seat.me.0.seen) × (self.new.seat.table_id ≡ self.old.seat.table_id) × (self.new.seat.me.0.schema ≡ self.old.seat.me.0.schema) }
-        ensures reader { IfSome result (λ r. (r.badge.table_id ≡ self.old.seat.table_id) × ((known r.badge).seen ≡ self.old.seat.me.0.seen) × ((known r.badge).told ≡ []) × ((known r.badge).schema ≡ self.old.seat.me.0.schema)) }
+        ensures kept { (self.new.seat.me.0.seen ≡ self.old.seat.me.0.seen) × (self.new.seat.table_id ≡ self.old.seat.table_id)
+            × (self.new.seat.me.0.schema ≡ self.old.seat.me.0.schema) }
+        ensures reader { IfSome result (λ r. (r.badge.table_id ≡ self.old.seat.table_id)
+            × ((known r.badge).seen ≡ self.old.seat.me.0.seen) × ((known r.badge).told ≡ []) × ((known r.badge).schema ≡ self.old.seat.me.0.schema)) }
     {
         if self.made >= self.places {
             return None;

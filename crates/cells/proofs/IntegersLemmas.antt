@@ -1,12 +1,10 @@
 -- The integers that `parse` reads are those that a field spells.
-use Rattle.std.proofs.Common.{arith, refl, ◌≡◌, ◌≢◌, ◌<◌, ◌^◌, ap, sym, ◌∙◌, inl, inr, slice_index}
+use Rattle.std.proofs.Common.{arith, refl, ◌≡◌, ◌≢◌, ◌<◌, ◌^◌, ap, sym, ◌∙◌, inl, inr, slice_index, ℕ, zero, suc, pos, neg_ℤ, List, [], ◌∷◌, true, false, drop, Option, Some, None, option_and_then, nat_le, nat_lt, FitsSigned, Result, Ok, Err, ◌==◌, SomeIff}
 use Rattle.std.proofs.lemmas.Bool.{cases_Bool}
 use Rattle.std.proofs.lemmas.Bool.Decides.{nat_tests}
-use Rattle.std.specs.Prelude.{ℕ, zero, suc, pos, neg_ℤ, List, [], ◌∷◌, true, false, drop, Option, Some, None, option_and_then, nat_le, nat_lt, FitsSigned, Result, Ok, Err, ◌==◌}
 use Rattle.std.specs.Char.{digit_value, is_ascii_digit}
 use Rattle.std.specs.Int.{w64}
 use Rattle.std.specs.List.{list_all}
-use Rattle.std.specs.Option.{SomeIff}
 use Rattle.std.specs.Result.{OkIff, result_ok}
 use Rattle.std.specs.Str.Parse.{AllDigits, IsNumeral, digits_value, signed_digits_value, starts_with_minus, without_leading_plus, without_leading_sign}
 use Rattle.cells.specs.Integers.{integer_of, natural_of, negative, positive, unsigned, whole_number_of}

@@ -60,27 +60,11 @@ is_sign_byte b = nat_lt 0 b && nat_lt b 128
 
 sign_bytes : (m : Sign) → list_all is_sign_byte (sign m) ≡ true
 sign_bytes LeftParen = refl
-sign_bytes RightParen = refl
-sign_bytes Comma = refl
-sign_bytes Asterisk = refl
-sign_bytes Equals = refl
-sign_bytes NotEquals = refl
-sign_bytes LessThanOrEquals = refl
-sign_bytes GreaterThanOrEquals = refl
-sign_bytes LessThan = refl
-sign_bytes GreaterThan = refl
+sign_bytes other = refl
 
 pub sign_nonempty : (m : Sign) → 0 < length (sign m)
 sign_nonempty LeftParen = lit< tt
-sign_nonempty RightParen = lit< tt
-sign_nonempty Comma = lit< tt
-sign_nonempty Asterisk = lit< tt
-sign_nonempty Equals = lit< tt
-sign_nonempty NotEquals = lit< tt
-sign_nonempty LessThanOrEquals = lit< tt
-sign_nonempty GreaterThanOrEquals = lit< tt
-sign_nonempty LessThan = lit< tt
-sign_nonempty GreaterThan = lit< tt
+sign_nonempty other = lit< tt
 
 small : (b : ℕ) → is_sign_byte b ≡ true → b < 128
 small b h = grind (arith, nat_tests)
@@ -134,13 +118,6 @@ mark_begins text t rest e = mark_here text rest t (mark_of (slice_index text 0) 
 -- a sign that stands at the front, with nothing that makes it longer, is read
 pub mark_read : (m : Sign) (rest : List ℕ) → is_joined (Mark m) (slice_index rest 0) ≡ false → mark_at (sign m ++ rest) ≡ Some (Mark m, rest)
 unfolding mark_at
-mark_read LeftParen rest apart = refl
-mark_read RightParen rest apart = refl
-mark_read Comma rest apart = refl
-mark_read Asterisk rest apart = refl
-mark_read Equals rest apart = refl
-mark_read NotEquals rest apart = refl
-mark_read LessThanOrEquals rest apart = refl
-mark_read GreaterThanOrEquals rest apart = refl
 mark_read LessThan rest apart = let neither = or_parts (slice_index rest 0 == 61) (slice_index rest 0 == 62) apart in rw (neither.0, neither.1) refl
 mark_read GreaterThan rest apart = rw apart refl
+mark_read other rest apart = refl

@@ -1,5 +1,5 @@
 -- Cells in bytes: what stands first, what is left behind it, and one cell more.
-use Rattle.std.proofs.Common.{◌≡◌, ℕ, zero, suc, ◌+◌, ◌-◌, ◌<◌, ◌≤◌, ◌^◌, ◌==◌, false, cond, List, [], ◌∷◌, ◌++◌, length, take, drop, get_or, refl, sym, ap, ◌∙◌, subst, arith, length-append, length-drop}
+use Rattle.std.proofs.Common.{◌≡◌, ℕ, zero, suc, ◌+◌, ◌-◌, ◌<◌, ◌≤◌, ◌^◌, ◌==◌, false, cond, List, [], ◌∷◌, ◌++◌, length, take, drop, get_or, refl, sym, ap, ◌∙◌, subst, arith, length-append, length-drop, ℤ, FitsSigned, IsUtf8, OnOk, Result, Ok, Err, is_ok, slice_index_or}
 use Rattle.std.proofs.Math.Facts.{Fits-of_z}
 use Rattle.std.proofs.Math.Bridge.{le_prop}
 use Rattle.std.proofs.Math.Nat.{ℕ_set}
@@ -11,7 +11,6 @@ use Rattle.std.proofs.lemmas.Grind.{merely}
 use Rattle.std.proofs.lemmas.List.{drop-append-le, take-append-le, drop-drop, get_or-drop, nil_from_length, take_all, take_more}
 use Rattle.std.proofs.lemmas.Nat.{from_le_bytes-to_le_bytes_2, from_le_bytes-to_le_bytes_4, from_le_bytes-to_le_bytes_8}
 use Rattle.std.proofs.lemmas.Int.{to_z-of_z}
-use Rattle.std.specs.Prelude.{ℤ, FitsSigned, IsUtf8, OnOk, Result, Ok, Err, is_ok, slice_index_or}
 use Rattle.std.specs.Coded.{codes}
 use Rattle.std.specs.Int.{cast_signed, Width, cast_unsigned, from_le_bytes, to_le_bytes, w16, w32, w64}
 use Rattle.cells.specs.declared.cell.Cell.{Cell}
@@ -54,11 +53,8 @@ long_len-append (low ∷ []) own h = absurd (omega arith)
 long_len-append (low ∷ high ∷ rest) own h = refl
 
 size_behind-append : (form : CellForm) (behind own : List ℕ) → size_behind form behind ≤ length behind → size_behind form (behind ++ own) ≡ size_behind form behind
-size_behind-append Null behind own h = refl
-size_behind-append Int32 behind own h = refl
-size_behind-append Int64 behind own h = refl
-size_behind-append (ShortText len) behind own h = refl
 size_behind-append LongText behind own h = ap (λ n. 2 + n) (long_len-append behind own (omega arith))
+size_behind-append other behind own h = refl
 
 cell_behind-append : (form : CellForm) (behind own : List ℕ) → size_behind form behind ≤ length behind → cell_behind form (behind ++ own) ≡ cell_behind form behind
 cell_behind-append Null behind own h = refl
@@ -97,8 +93,7 @@ module _ (own : List ℕ) where
 
 IsSpelt-prop : (x : Cell) → IsProp (IsSpelt x)
 IsSpelt-prop cell.Null = hlevel
-IsSpelt-prop (cell.Int n) = hlevel
-IsSpelt-prop (cell.Text t) = hlevel
+IsSpelt-prop other = hlevel
 
 IsFirst-prop : (bytes : List ℕ) → IsProp (IsFirst bytes)
 IsFirst-prop bytes = hlevel (IsSpelt-prop, le_prop)

@@ -1,10 +1,8 @@
 -- The cells that a field spells, and the row that the fields of a record spell.
-use Rattle.std.proofs.Common.{refl, ◌+◌, ◌≡◌, ◌≢◌, ◌<◌, ◌≤◌, ap, subst, sym, ◌∙◌, ◌⊎◌, inl, inr, arith, append_assoc, length-append}
+use Rattle.std.proofs.Common.{refl, ◌+◌, ◌≡◌, ◌≢◌, ◌<◌, ◌≤◌, ap, subst, sym, ◌∙◌, ◌⊎◌, inl, inr, arith, append_assoc, length-append, ℕ, zero, suc, List, [], ◌∷◌, ◌++◌, drop, get_or, length, map, slice_index_or, take, IsUtf8, Some, None, Err, Option, option_and_then, option_map, Bor}
 use Rattle.std.proofs.lemmas.Bool.{cases_Bool}
 use Rattle.std.proofs.lemmas.List.{append-nil, drop_all, drop_more, length-drop}
 use Rattle.std.proofs.lemmas.Str.{IsUtf8-from_is_utf8, is_utf8-from_IsUtf8}
-use Rattle.std.specs.Prelude.{ℕ, zero, suc, List, [], ◌∷◌, ◌++◌, drop, get_or, length, map, slice_index_or, take, IsUtf8, Some, None, Err, Option, option_and_then, option_map}
-use Rattle.std.specs.Borrow.{Bor}
 use Rattle.std.specs.Str.{is_utf8}
 use Rattle.cells.specs.declared.cell.Cell.{Cell}
 use Rattle.cells.specs.declared.cell.Cell.TheVariants as cell

@@ -1,6 +1,5 @@
 -- Runs of a class of bytes at the front of a text.
-use Rattle.std.proofs.Common.{◌≡◌, ℕ, suc, zero, ◌+◌, ◌<◌, ◌≤◌, Bool, true, false, List, [], ◌∷◌, ◌++◌, length, get_or, take, drop, cond, IsUtf8, refl, ap, ◌∙◌, subst, arith, length-append}
-use Rattle.std.specs.Prelude.{slice_index}
+use Rattle.std.proofs.Common.{◌≡◌, ℕ, suc, zero, ◌+◌, ◌<◌, ◌≤◌, Bool, true, false, List, [], ◌∷◌, ◌++◌, length, get_or, take, drop, cond, IsUtf8, refl, ap, ◌∙◌, subst, arith, length-append, slice_index}
 use Rattle.std.specs.List.{list_all, prefix_len}
 use Rattle.std.specs.Str.{IsCharBoundary}
 use Rattle.std.proofs.lemmas.Str.{IsCharBoundary-start, IsCharBoundary-after_ascii}
@@ -61,9 +60,7 @@ boundary_at text (suc k) utf8 le small =
 
 class_ascii : (c : Class) (b : ℕ) → class_test c b ≡ true → b < 128
 class_ascii Blank b h = grind (arith, nat_tests)
-class_ascii Letter b h = grind (arith, nat_tests)
-class_ascii InWord b h = grind (arith, nat_tests)
-class_ascii Digit b h = grind (arith, nat_tests)
+class_ascii other b h = grind (arith, nat_tests)
 
 pub run_ascii : (c : Class) (text : List ℕ) (k : ℕ) → k < prefix_len (class_test c) text → get_or text k 0 < 128
 run_ascii c text k h = class_ascii c _ (prefix_len_passes _ text k 0 h)

@@ -42,15 +42,7 @@ token_mark text no_word no_number no_quote = rw (no_word, no_number, no_quote_in
 token_sign : (m : Sign) (rest : List ℕ) → token_at (sign m ++ rest) ≡ mark_at (sign m ++ rest)
 unfolding token_at
 token_sign LeftParen rest = refl
-token_sign RightParen rest = refl
-token_sign Comma rest = refl
-token_sign Asterisk rest = refl
-token_sign Equals rest = refl
-token_sign NotEquals rest = refl
-token_sign LessThanOrEquals rest = refl
-token_sign GreaterThanOrEquals rest = refl
-token_sign LessThan rest = refl
-token_sign GreaterThan rest = refl
+token_sign other rest = refl
 
 -- a token that is read stands at the front
 pub token_begins : (text : List ℕ) (t : Token) (rest : List ℕ) → token_at text ≡ Some (t, rest) → Begins text t rest

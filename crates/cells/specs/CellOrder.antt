@@ -50,8 +50,7 @@ by_keys-total = then_total (on_total kind_of nat_cmp_total) (then_total (on_tota
 -- a tie last decides nothing
 then_equal : (o : Ordering) → ordering_then o Equal ≡ o
 then_equal Less = refl
-then_equal Equal = refl
-then_equal Greater = refl
+then_equal other = refl
 
 cell_cmp-by_keys : (x y : Cell) → by_keys x y ≡ cell_cmp x y
 unfolding kind_of number_of bytes_of

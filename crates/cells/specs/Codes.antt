@@ -22,8 +22,7 @@ cell_stored (Some (inr t)) = Text t
 
 abbrev pub cell_stored_again : (c : Cell) → cell_stored (stored_cell c) ≡ c
 cell_stored_again Null = refl
-cell_stored_again (Int n) = refl
-cell_stored_again (Text t) = refl
+cell_stored_again other = refl
 
 abbrev pub coded_cell : Coded Cell
 coded_cell = code_by (Option (ℤ ⊎ List ℕ)) (coded_option (coded⊎ coded_ℤ (coded_list coded_ℕ))) stored_cell cell_stored cell_stored_again

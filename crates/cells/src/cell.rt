@@ -21,7 +21,7 @@ pub enum Cell {
 }
 
 impl Cell {
-    /// Whether the cell is NULL. It takes no memory.
+    /// Whether the cell is NULL.
     pub fn is_null(&self) -> bool
         ensures { IsTrue result ↔ (self.now ≡ Cell.Null) }
     {

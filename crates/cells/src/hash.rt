@@ -12,7 +12,7 @@ pub trait KeyHash<K: Eq> {
     /// The hash of a key, as contracts name it: what it is depends on the key alone.
     ghost hash_of: { K → ℕ };
 
-    /// The hash of the key, of 64 bits. It takes no memory.
+    /// The hash of the key, of 64 bits.
     fn hash(key: &K) -> u64
         ensures { result ≡ hash_of key.now };
 

@@ -14,7 +14,7 @@ pub(crate) fn integer_of(text: &str) -> Option<i64>
 
 /// The number that the text spells by one or more digits and no sign, where it has 64 bits: 0 to
 /// 18,446,744,073,709,551,615. Leading zeros count for nothing. None exactly where there is no such
-/// number. It takes no memory.
+/// number.
 pub fn whole_number_of(text: &str) -> Option<u64>
     ensures { result ≡ whole_number_of text.now }
 {

@@ -16,7 +16,7 @@ pub enum LentCell<'a> {
 }
 
 impl<'a> LentCell<'a> {
-    /// The cell, lent. It takes no memory.
+    /// The cell, lent.
     pub fn of(cell: &'a Cell) -> LentCell<'a>
         ensures { lent_cell result ≡ cell.entry.now }
     {
@@ -27,7 +27,7 @@ impl<'a> LentCell<'a> {
         }
     }
 
-    /// Whether the cell is NULL. It takes no memory.
+    /// Whether the cell is NULL.
     pub(crate) fn is_null(self) -> bool
         ensures { IsTrue result ↔ (lent_cell self.entry ≡ Null) }
     {
@@ -45,7 +45,7 @@ impl<'a> LentCell<'a> {
         }
     }
 
-    /// Whether it is the same cell. It takes no memory.
+    /// Whether it is the same cell.
     pub fn is(self, cell: &Cell) -> bool
         ensures { IsTrue result ↔ (lent_cell self.entry ≡ cell.now) }
     {

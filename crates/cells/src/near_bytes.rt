@@ -27,7 +27,7 @@ impl Model for NearBytes {
 }
 
 impl NearBytes {
-    /// No bytes. It takes no memory.
+    /// No bytes.
     pub(crate) fn new() -> NearBytes
         ensures { result ≡ [] }
     {
@@ -37,7 +37,7 @@ impl NearBytes {
         }
     }
 
-    /// The bytes. It takes no memory.
+    /// The bytes.
     pub(crate) fn as_slice(&self) -> &[u8]
         ensures value { result.now ≡ self.now }
         ensures few { length result.now ≤ 28 }
@@ -45,14 +45,14 @@ impl NearBytes {
         &self.bytes[..self.len as usize]
     }
 
-    /// Whether so many bytes more have a place here. It takes no memory.
+    /// Whether so many bytes more have a place here.
     pub(crate) fn has_room(&self, size: usize) -> bool
         ensures { Decides result (length self.now + size ≤ 28) }
     {
         size <= NEAR_BYTES - self.len as usize
     }
 
-    /// Appends the bytes, which have a place here. It takes no memory.
+    /// Appends the bytes, which have a place here.
     pub(crate) fn push(&mut self, piece: &[u8])
         requires { length self.old + length piece.now ≤ 28 }
         ensures { self.new ≡ self.old ++ piece.now }

@@ -93,7 +93,7 @@ pub(crate) fn behind_first(bytes: &[u8]) -> &[u8]
     rest
 }
 
-/// The cell whose bytes stand first. It takes no memory.
+/// The cell whose bytes stand first.
 pub(crate) fn first_cell(bytes: &[u8]) -> LentCell<'_>
     requires { IsFirst bytes.now }
     ensures { lent_cell result ≡ first_cell bytes.now }
@@ -140,7 +140,7 @@ fn long_text(behind: &[u8]) -> &[u8]
     &behind[2..2 + long_len(behind) as usize]
 }
 
-/// The cell at an index of so many cells; NULL where there is none. It takes no memory.
+/// The cell at an index of so many cells; NULL where there is none.
 pub(crate) fn cell_at(bytes: &[u8], count: usize, index: usize) -> LentCell<'_>
     requires { Fills count bytes.now }
     ensures { lent_cell result ≡ slice_index_or (cells_in count bytes.now) index Null }
@@ -151,7 +151,7 @@ pub(crate) fn cell_at(bytes: &[u8], count: usize, index: usize) -> LentCell<'_>
     first_cell(behind(bytes, count, index))
 }
 
-/// What is left of so many cells behind the first ones. It takes no memory.
+/// What is left of so many cells behind the first ones.
 pub(crate) fn behind(bytes: &[u8], count: usize, first: usize) -> &[u8]
     requires fills { Fills count bytes.now }
     requires few { first ≤ count }

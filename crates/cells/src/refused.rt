@@ -53,7 +53,7 @@ pub enum Refused {
 }
 
 impl Refused {
-    /// The number that a report prints: 1 to 15, or 90 to 93. It takes no memory.
+    /// The number that a report prints: 1 to 15, or 90 to 93.
     pub fn number(&self) -> u32
         ensures { result ≡ number_of self.now }
     {
@@ -80,7 +80,7 @@ impl Refused {
         }
     }
 
-    /// The name, which programs read beside the number. It takes no memory.
+    /// The name, which programs read beside the number.
     pub fn name(&self) -> &'static str
         ensures { result.now ≡ name_of self.now }
     {

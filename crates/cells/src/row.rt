@@ -125,21 +125,21 @@ impl Row {
         row.finish()
     }
 
-    /// The cell at an index, lent; NULL where the row has none there. It takes no memory.
+    /// The cell at an index, lent; NULL where the row has none there.
     pub fn cell(&self, index: usize) -> LentCell<'_>
         ensures { lent_cell result ≡ slice_index_or self.now.cells index Null }
     {
         cell_at(self.form.bytes(), self.form.count(), index)
     }
 
-    /// Its cells, lent by their indexes to who goes over several of them. It takes no memory.
+    /// Its cells, lent by their indexes to who goes over several of them.
     pub fn walk(&self) -> RowWalk<'_>
         ensures { result ≡ self.now.cells }
     {
         RowWalk::new(self.form.bytes(), self.form.count())
     }
 
-    /// How many cells it has. It takes no memory.
+    /// How many cells it has.
     pub fn width(&self) -> usize
         ensures { result ≡ length self.now.cells }
     {
@@ -160,7 +160,7 @@ impl Row {
         Ok(cells)
     }
 
-    /// The cell at the key, lent. It takes no memory.
+    /// The cell at the key, lent.
     pub fn key(&self) -> LentCell<'_>
         ensures { lent_cell result ≡ self.now.key }
     {
@@ -242,7 +242,8 @@ impl<'a> RowReader<'a> {
     pub fn read(&mut self, field: &[u8]) -> Result<(), Refused>
         ensures table { self.new.table ≡ self.old.table }
         ensures read { OnOk result ((fields : List (List ℕ)) → HasRead fields self.old → HasRead (fields ++ field.now ∷ []) self.new) }
-        ensures bad { IsErrOf result Refused.BadRecord → (fields more : List (List ℕ)) → HasRead fields self.old → row_of self.old.table (fields ++ field.now ∷ more) ≡ None }
+        ensures bad { IsErrOf result Refused.BadRecord → (fields more : List (List ℕ)) → HasRead fields self.old →
+            row_of self.old.table (fields ++ field.now ∷ more) ≡ None }
         ensures refused { IfErr result (λ e. (e ≡ Refused.BadRecord) ⊎ (e ≡ Refused.OutOfMemory)) }
     {
         if self.count >= self.schema.width() {
@@ -257,7 +258,7 @@ impl<'a> RowReader<'a> {
         Ok(())
     }
 
-    /// The row of the fields that were read. It takes no memory.
+    /// The row of the fields that were read.
     ///
     /// [`Refused::BadRecord`] exactly where they spell no row: there are too few of them, or the key is NULL.
     pub fn finish(self) -> Result<Row, Refused>
@@ -284,7 +285,7 @@ impl<'a> RowReader<'a> {
     }
 }
 
-/// The cell that a field of a column spells, lent by the field. It takes no memory.
+/// The cell that a field of a column spells, lent by the field.
 #[tactic(auto, using(crate::proofs::RecordsLemmas::cell_of_text, crate::proofs::RecordsLemmas::cell_of_other))]
 fn read_cell(kind: ColumnType, field: &[u8]) -> Option<LentCell<'_>>
     ensures exact { option_map lent_cell result ≡ cell_of kind field.now }
@@ -299,7 +300,7 @@ fn read_cell(kind: ColumnType, field: &[u8]) -> Option<LentCell<'_>>
     }
 }
 
-/// The cell that a text of a column spells, lent by the text. It takes no memory.
+/// The cell that a text of a column spells, lent by the text.
 fn read_text(kind: ColumnType, text: &str) -> Option<LentCell<'_>>
     ensures exact { option_map lent_cell result ≡ text_cell kind text.now }
     ensures short { IfSome result (λ cell. IsShort (lent_cell cell)) }

@@ -16,14 +16,14 @@ pub(crate) enum RowBytes {
 }
 
 impl RowBytes {
-    /// No bytes. It takes no memory.
+    /// No bytes.
     pub(crate) fn new() -> RowBytes
         ensures { row_bytes result ≡ [] }
     {
         RowBytes::Near(NearBytes::new())
     }
 
-    /// The bytes. It takes no memory.
+    /// The bytes.
     pub(crate) fn as_slice(&self) -> &[u8]
         ensures { result.now ≡ row_bytes self.now }
     {

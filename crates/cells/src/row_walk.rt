@@ -30,7 +30,8 @@ impl<'a> Model for RowWalk<'a> {
 
     ghost view = { λ w. cells_in w.count w.bytes.now };
 
-    ghost invariant = { λ w. ∥ Fills w.count w.bytes.now ∥₁ × (∥ IsLeft w.count w.index (cells_in w.count w.bytes.now) w.rest.now ∥₁ × (w.index ≤ w.count)) };
+    ghost invariant = { λ w. ∥ Fills w.count w.bytes.now ∥₁ × (∥ IsLeft w.count w.index (cells_in w.count w.bytes.now) w.rest.now ∥₁
+        × (w.index ≤ w.count)) };
 }
 
 impl<'a> RowWalk<'a> {
@@ -47,7 +48,7 @@ impl<'a> RowWalk<'a> {
         }
     }
 
-    /// The cell at an index, lent; NULL where the row has none there. It takes no memory.
+    /// The cell at an index, lent; NULL where the row has none there.
     pub fn cell(&mut self, index: usize) -> LentCell<'a>
         ensures cell { lent_cell result ≡ slice_index_or self.old index Null }
         ensures same { self.new ≡ self.old }

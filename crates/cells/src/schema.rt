@@ -79,21 +79,21 @@ impl Schema {
         schema_of(alloc, found.as_slice())
     }
 
-    /// The table's name, in upper case. It takes no memory.
+    /// The table's name, in upper case.
     pub fn name(&self) -> &str
         ensures { result.now ≡ self.now.name }
     {
         self.name.as_str()
     }
 
-    /// The columns, in the order of their definitions. It takes no memory.
+    /// The columns, in the order of their definitions.
     pub fn columns(&self) -> &[Column]
         ensures { result.now ≡ self.now.columns }
     {
         self.columns.as_slice()
     }
 
-    /// How many columns it has: at most [`MAX_COLUMNS`]. It takes no memory.
+    /// How many columns it has: at most [`MAX_COLUMNS`].
     pub(crate) fn width(&self) -> usize
         ensures value { result ≡ length self.now.columns }
         ensures few { result ≤ column_limit }
@@ -101,7 +101,7 @@ impl Schema {
         self.columns.len()
     }
 
-    /// The place of the key column among [`columns`](Schema::columns), counted from 0. It takes no memory.
+    /// The place of the key column among [`columns`](Schema::columns), counted from 0.
     pub fn key(&self) -> usize
         ensures place { result ≡ self.now.key }
         ensures within { result < length self.now.columns }

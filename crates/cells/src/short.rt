@@ -26,7 +26,7 @@ impl Model for ShortText {
 }
 
 impl ShortText {
-    /// The text of the characters, which are at most 14 bytes. It takes no memory.
+    /// The text of the characters, which are at most 14 bytes.
     pub fn of(characters: &str) -> ShortText
         requires { length characters.now ≤ 14 }
         ensures { result ≡ characters.now }
@@ -40,7 +40,7 @@ impl ShortText {
         }
     }
 
-    /// Its characters. It takes no memory.
+    /// Its characters.
     pub fn as_str(&self) -> &str
         ensures { result.now ≡ self.now }
     {
@@ -50,7 +50,7 @@ impl ShortText {
         characters
     }
 
-    /// Its bytes, which are at hand without a look at what they spell. It takes no memory.
+    /// Its bytes, which are at hand without a look at what they spell.
     pub fn as_bytes(&self) -> &[u8]
         ensures bytes { result.now ≡ self.now }
         ensures text { IsUtf8 result.now }

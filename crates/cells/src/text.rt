@@ -67,7 +67,7 @@ impl Text {
         })
     }
 
-    /// Its characters. It takes no memory.
+    /// Its characters.
     pub fn as_str(&self) -> &str
         ensures { result.now ≡ self.now }
     {
@@ -77,7 +77,7 @@ impl Text {
         }
     }
 
-    /// Its bytes, which are at hand without a look at what they spell. It takes no memory.
+    /// Its bytes, which are at hand without a look at what they spell.
     pub fn as_bytes(&self) -> &[u8]
         ensures { result.now ≡ self.now }
     {
@@ -89,7 +89,7 @@ impl Text {
 }
 
 impl Text {
-    /// The text, lent. It takes no memory.
+    /// The text, lent.
     pub fn lent(&self) -> LentText<'_>
         ensures { result.bytes.now ≡ self.now }
     {

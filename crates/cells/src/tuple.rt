@@ -26,14 +26,14 @@ impl Model for Tuple {
 }
 
 impl Tuple {
-    /// The tuple of these cells, which it takes over. It takes no memory.
+    /// The tuple of these cells, which it takes over.
     pub fn new(cells: Vec<Cell>) -> Tuple
         ensures { result ≡ cells.items }
     {
         Tuple { cells }
     }
 
-    /// Its cells, in order. It takes no memory.
+    /// Its cells, in order.
     pub fn cells(&self) -> &[Cell]
         ensures { result.now ≡ self.now }
     {

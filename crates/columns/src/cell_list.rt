@@ -43,7 +43,7 @@ impl Model for CellList {
 }
 
 impl CellList {
-    /// No cells. It takes no memory.
+    /// No cells.
     pub fn new(alloc: Global) -> CellList
         ensures { result ≡ [] }
     {
@@ -53,7 +53,7 @@ impl CellList {
         }
     }
 
-    /// The cells: that of a code has the code as its index. It takes no memory.
+    /// The cells: that of a code has the code as its index.
     pub fn cells(&self) -> &[Cell]
         ensures { result.now ≡ self.now }
     {
@@ -106,7 +106,7 @@ impl CellList {
         Ok(code)
     }
 
-    /// The code of the cell, if a hint shows it; else the slot for its hint. It takes no memory.
+    /// The code of the cell, if a hint shows it; else the slot for its hint.
     fn code_or_slot(&self, cell: &LentCell<'_>) -> Result<u32, usize>
         ensures within { IfOk result (λ code. code < length self.now) }
         ensures found { IfOk result (λ code. slice_index_or self.now code Null ≡ lent_cell cell.now) }
@@ -124,7 +124,7 @@ impl CellList {
         Err(slot)
     }
 
-    /// The code in the slot, if it is the cell's. It takes no memory.
+    /// The code in the slot, if it is the cell's.
     fn shown(&self, slot: usize, cell: &LentCell<'_>) -> Option<u32>
         ensures within { IfSome result (λ code. code < length self.now) }
         ensures found { IfSome result (λ code. slice_index_or self.now code Null ≡ lent_cell cell.now) }

@@ -39,7 +39,7 @@ impl Model for CodeColumn {
 }
 
 impl CodeColumn {
-    /// No cells. It takes no memory.
+    /// No cells.
     pub fn new(alloc: Global) -> CodeColumn
         ensures { result ≡ record { cells = None; by_row = [] } }
     {
@@ -52,7 +52,7 @@ impl CodeColumn {
     }
 
     /// The different cells: that of a code has the code as its index. None where the codes are those of
-    /// [`number_cell`](crate::number_cell). It takes no memory.
+    /// [`number_cell`](crate::number_cell).
     pub fn cells(&self) -> Option<&[Cell]>
         ensures { option_copied result ≡ self.now.cells }
     {
@@ -62,7 +62,7 @@ impl CodeColumn {
         }
     }
 
-    /// The codes, one for each row. It takes no memory.
+    /// The codes, one for each row.
     pub fn codes(&self) -> &[u32]
         ensures codes { result.now ≡ self.now.by_row }
         ensures within { AreCodes self.now.cells result.now }

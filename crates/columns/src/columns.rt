@@ -51,7 +51,7 @@ impl Columns {
         Ok(columns)
     }
 
-    /// The column of the index; None where it was left out. It takes no memory.
+    /// The column of the index; None where it was left out.
     pub fn at(&self, index: usize) -> Option<&CodeColumn>
         ensures there { is_some result ≡ has self.now index }
         ensures cells { (rows : List RowValue) → Hold rows self.now → IfSome (option_copied result) (λ column. cells_of column ≡ cells_at index rows) }

@@ -19,7 +19,7 @@ pub(crate) enum Form {
 }
 
 impl Form {
-    /// The column. It takes no memory.
+    /// The column.
     pub fn column(&self) -> &CodeColumn
         ensures { result.now ≡ column_of self.now }
     {

@@ -40,7 +40,7 @@ impl Model for NamedColumn {
 }
 
 impl NamedColumn {
-    /// No cells. It takes no memory.
+    /// No cells.
     pub fn new(alloc: Global, index: usize) -> NamedColumn
         ensures { result ≡ (index, record { cells = None; by_row = [] }) }
     {

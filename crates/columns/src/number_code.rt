@@ -12,7 +12,7 @@ const ABOVE: i64 = 0x8000_0000;
 /// The code of NULL. No integer has it.
 const NULL: u32 = 0;
 
-/// The cell of a code: NULL of 0, and of any other the integer that is less by 2^31. It takes no memory.
+/// The cell of a code: NULL of 0, and of any other the integer that is less by 2^31.
 pub fn number_cell(code: u32) -> Cell
     ensures { result ≡ number_cell code }
 {
@@ -22,7 +22,7 @@ pub fn number_cell(code: u32) -> Cell
     Cell::Int(i64::from(code) - ABOVE)
 }
 
-/// The code of a cell that is NULL or an integer from -2,147,483,647 to 2,147,483,647; None of any other. It takes no memory.
+/// The code of a cell that is NULL or an integer from -2,147,483,647 to 2,147,483,647; None of any other.
 pub(crate) fn number_code(cell: &LentCell<'_>) -> Option<u32>
     ensures { IfSome result (λ code. number_cell code ≡ lent_cell cell.now) }
 {

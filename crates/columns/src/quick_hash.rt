@@ -8,7 +8,7 @@ const MIXER: u64 = 0x9E37_79B9_7F4A_7C15;
 /// The number of NULL.
 const NULL: u64 = 0x5555_5555_5555_5555;
 
-/// A hash of the cell, whose best bits are at the top. A text costs a step for each eight bytes. It takes no memory.
+/// A hash of the cell, whose best bits are at the top. A text costs a step for each eight bytes.
 pub(crate) fn quick_hash(cell: &LentCell<'_>) -> u64 {
     let number = match cell {
         LentCell::Null => NULL,

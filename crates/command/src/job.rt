@@ -37,7 +37,7 @@ pub struct Job {
 }
 
 impl Job {
-    /// What its viewers are asked. It takes no memory.
+    /// What its viewers are asked.
     pub fn viewing(&self) -> Option<Viewing<&str>>
         ensures { asked_of result ≡ self.now.live }
     {

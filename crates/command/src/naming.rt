@@ -181,7 +181,8 @@ fn resolved_lines(
 /// What stands before the first such byte, and what follows it, where there is one.
 #[tactic(auto, using(crate::proofs::NamingLemmas::cut_first, crate::proofs::NamingLemmas::cut_none))]
 fn split_once(text: &[u8], byte: u8) -> Option<(&[u8], &[u8])>
-    ensures split { MatchOption result (slice_split (λ b. b == byte) text.now ≡ text.now ∷ []) (λ p. slice_split (λ b. b == byte) text.now ≡ p.0.now ∷ slice_split (λ b. b == byte) p.1.now) }
+    ensures split { MatchOption result (slice_split (λ b. b == byte) text.now ≡ text.now ∷ [])
+        (λ p. slice_split (λ b. b == byte) text.now ≡ p.0.now ∷ slice_split (λ b. b == byte) p.1.now) }
     ensures shorter { IfSome result (λ p. length p.1.now < length text.now) }
 {
     match place_of(text, byte) {

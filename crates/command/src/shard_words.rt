@@ -234,7 +234,8 @@ fn shard_command<'a>(alloc: Global) -> Result<Command<'a>, AllocError>
 
 /// The command with the two options that a shard has to have.
 fn with_shard<'a>(alloc: Global, command: Command<'a>) -> Result<Command<'a>, AllocError>
-    ensures app { IfOk result (λ c. app_of c ≡ with_rule (with_rule (app_of command.entry) (required_rule (codes "shard"))) (required_rule (codes "partials"))) }
+    ensures app { IfOk result (λ c. app_of c ≡ with_rule (with_rule (app_of command.entry) (required_rule (codes "shard")))
+        (required_rule (codes "partials"))) }
     ensures local { IfOk result (λ c. (fields_of c).has_globals ≡ (fields_of command.entry).has_globals) }
 {
     let shard = required(

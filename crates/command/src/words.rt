@@ -25,11 +25,11 @@ use trie::Cutting;
 /// rows, the classic form).
 ///
 /// The words are `run [--workers N] [--depth D] [--small S] [--hash fnv|plain] [--rows M]
-/// [--format classic|csv|json|table] [--strict] [--explain] [--progress] [--part NAME=FILE]... SCRIPT [PART]...`, or `live` with the same options, file names and `--query Q [--viewers V]
-/// [--shots K] [--as-they-come]` (2 viewers and 1 shot where nothing is said). [`WordsFault::OutOfRange`] comes only where `clap`
-/// reads the words, and names the first option, in the order of [`Setting`], whose value is no number
-/// in its range. [`WordsFault::Naming`] comes only after that, for a value of `--part`. Any other fault is `clap`'s, help and want of memory
-/// among them.
+/// [--format classic|csv|json|table] [--strict] [--explain] [--progress] [--part NAME=FILE]... SCRIPT [PART]...`, or `live`
+/// with the same options, file names and `--query Q [--viewers V] [--shots K] [--as-they-come]` (2 viewers and 1 shot where
+/// nothing is said). [`WordsFault::OutOfRange`] comes only where `clap` reads the words, and names the first option, in the
+/// order of [`Setting`], whose value is no number in its range. [`WordsFault::Naming`] comes only after that, for a value
+/// of `--part`. Any other fault is `clap`'s, help and want of memory among them.
 pub fn words(alloc: Global, words: &[&str]) -> Result<Job, WordsFault>
     ensures read { IfOk result (λ job. AreRead (map (λ w. w.now) words.now)) }
     ensures job { IfOk result (Ask (map (λ w. w.now) words.now)) }
@@ -169,7 +169,8 @@ pub(crate) fn job_found(alloc: Global, found: &ArgMatches<'_>) -> Result<Job, Wo
 /// A copy of the script's file name, and the parts.
 fn files(alloc: Global, script: &str, found: &ArgMatches<'_>) -> Result<(Text, Parts), NamingFault>
     ensures script { IfOk result (λ files. files.0 ≡ script.now) }
-    ensures parts { IfOk result (λ files. AreNamed (parts_in (rows_of (found_of found.now))) (named (rows_of (found_of found.now))) files.1.files.items files.1.names.items) }
+    ensures parts { IfOk result (λ files. AreNamed (parts_in (rows_of (found_of found.now)))
+        (named (rows_of (found_of found.now))) files.1.files.items files.1.names.items) }
     ensures fault { IfErr result ExplainsNaming }
 {
     let parts = parts(alloc, found)?;
@@ -302,7 +303,8 @@ pub fn no_option_chooses_the_defaults()
 
 /// The parts that were found, first those without names of their own.
 fn parts(alloc: Global, found: &ArgMatches<'_>) -> Result<Parts, NamingFault>
-    ensures parts { IfOk result (λ parts. AreNamed (parts_in (rows_of (found_of found.now))) (named (rows_of (found_of found.now))) parts.files.items parts.names.items) }
+    ensures parts { IfOk result (λ parts. AreNamed (parts_in (rows_of (found_of found.now)))
+        (named (rows_of (found_of found.now))) parts.files.items parts.names.items) }
     ensures fault { IfErr result ExplainsNaming }
 {
     let unnamed = unnamed(alloc, found)?;

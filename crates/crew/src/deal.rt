@@ -28,7 +28,9 @@ impl Model for Deal {
 
     ghost view = { λ d. record { table = d.table.shared.table_id; pieces = d.pieces; seats = d.table.shared.key.seats } };
 
-    ghost invariant = { λ d. (d.table.shared.table_id.words ≡ 1) × (d.table.shared.table_id.slots ≡ 0) × (d.table.shared.key.pieces ≡ d.pieces) × (d.pieces ≤ piece_limit) × (1 ≤ d.table.shared.key.seats) × (d.table.shared.key.seats ≤ seat_limit) };
+    ghost invariant = { λ d. (d.table.shared.table_id.words ≡ 1) × (d.table.shared.table_id.slots ≡ 0)
+        × (d.table.shared.key.pieces ≡ d.pieces) × (d.pieces ≤ piece_limit) × (1 ≤ d.table.shared.key.seats)
+        × (d.table.shared.key.seats ≤ seat_limit) };
 }
 
 /// The right to draw from one deal, which may be moved from thread to thread. A deal's seats are numbered from 0.
@@ -50,7 +52,8 @@ impl Model for Seat {
 
     ghost view = { λ s. record { table = s.token.table_id; pieces = s.pieces; number = s.number; seen = (only s.token.me.0).seen } };
 
-    ghost invariant = { λ s. (s.token.me ≡ (sight s.number (only s.token.me.0).seen ∷ [], [])) × (s.finished ≡ ltb s.pieces (length (only s.token.me.0).seen)) };
+    ghost invariant = { λ s. (s.token.me ≡ (sight s.number (only s.token.me.0).seen ∷ [], []))
+        × (s.finished ≡ ltb s.pieces (length (only s.token.me.0).seen)) };
 }
 
 /// What a deal tells when it is closed.
@@ -85,7 +88,7 @@ impl Deal {
     }
 
     /// The number of the next piece, drawn for the seat, which is one of this deal; or None where all pieces are drawn.
-    /// A seat that was answered None draws no more, and is answered None again. It takes no memory, and never waits.
+    /// A seat that was answered None draws no more, and is answered None again. It never waits.
     #[tactic(auto, using(crate::proofs::SeatLemmas::drawn_once))]
     pub fn next(&self, seat: &mut Seat) -> Option<u64>
         requires { IsSeatOf self.now seat.old }
@@ -115,7 +118,7 @@ impl Deal {
     }
 
     /// Ends the deal. It asks for all of its seats, in any order, and says that together they drew the pieces of the
-    /// numbers below `drawn`, each once. These are all pieces where some seat was answered None. It takes no memory.
+    /// numbers below `drawn`, each once. These are all pieces where some seat was answered None.
     pub fn close(self, seats: Vec<Seat>) -> Dealt
         requires seats { All (IsSeatOf self) seats.items }
         requires all { IsPermutation (map number_of seats.items) (range_with_len 0 self.seats) }

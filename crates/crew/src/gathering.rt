@@ -97,7 +97,8 @@ fn gathered_by_all<
     R: Threads + Wait + Sync,
 >(alloc: Global, gathering: &Gathering<'a, '_, H, G, R>) -> Result<Vec<Gathered<'a, H>>, Refused>
     requires pieces { length gathering.now.pieces ≤ piece_limit }
-    ensures shared { IfOk result (λ v. AreShared (λ places. Gathers gathering.now.plan (rows_at gathering.now.pieces places)) (length gathering.now.pieces) v.items) }
+    ensures shared { IfOk result (λ v. AreShared (λ places. Gathers gathering.now.plan (rows_at gathering.now.pieces places))
+        (length gathering.now.pieces) v.items) }
     ensures workers { IfOk result (λ v. vec_len v ≡ min (workers_of gathering.now.workers) (length gathering.now.pieces)) }
     ensures refused { IfErr result (λ e. (e ≡ Refused.NoWorker) ⊎ (e ≡ Refused.OutOfMemory)) }
 {

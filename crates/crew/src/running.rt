@@ -82,7 +82,8 @@ impl<'a, 's, 'e: 's, K: Task> Start<'a, 's, 'e, K> {
     fn worker(&self, seat: Seat) -> Result<PromisedHandle<Worked<K::Made>, Promised<'s, K>>, Seat>
         requires seat { IsSeatOf self.now.deal.now seat × (seat.seen ≡ []) }
         requires task { K.count self.now.task.now ≡ self.now.deal.now.pieces }
-        ensures started { IfOk result (λ handle. (handle.promise.deal.now ≡ self.now.deal.now) × (handle.promise.task.now ≡ self.now.task.now) × (handle.promise.number ≡ seat.number)) }
+        ensures started { IfOk result (λ handle. (handle.promise.deal.now ≡ self.now.deal.now)
+            × (handle.promise.task.now ≡ self.now.task.now) × (handle.promise.number ≡ seat.number)) }
         ensures refused { IfErr result (λ back. IsSeatOf self.now.deal.now back × (back.number ≡ seat.number)) }
     {
         let called_off = self.called_off;
@@ -122,7 +123,8 @@ impl<'a, 's, 'e: 's, K: Task> Start<'a, 's, 'e, K> {
         requires empty { (room.seats.items ≡ []) × (room.given.items ≡ []) }
         requires room { (vec_len begun ≤ vec_capacity room.seats) × (vec_len begun ≤ vec_capacity room.given) }
         requires many { length begun.items ≡ self.now.deal.now.seats }
-        requires started { AllNumbered (λ number one. IfOk one (λ handle. (handle.promise.deal.now ≡ self.now.deal.now) × (handle.promise.task.now ≡ self.now.task.now) × (handle.promise.number ≡ number))) 0 begun.items }
+        requires started { AllNumbered (λ number one. IfOk one (λ handle. (handle.promise.deal.now ≡ self.now.deal.now)
+            × (handle.promise.task.now ≡ self.now.task.now) × (handle.promise.number ≡ number))) 0 begun.items }
         requires refused { AllNumbered (λ number one. IfErr one (λ seat. IsSeatOf self.now.deal.now seat × (seat.number ≡ number))) 0 begun.items }
         ensures back { AreBack self.now.deal.now (K.makes self.now.task.now) result.seats.items result.given.items }
     {

@@ -53,14 +53,14 @@ impl<H: KeyHash<Cell>> Accumulators<H> {
         Ok(Accumulators { accs })
     }
 
-    /// Accumulators in the order of the select list. It takes no memory.
+    /// Accumulators in the order of the select list.
     pub fn of(accs: Vec<Held<H>>) -> Accumulators<H>
         ensures { result ≡ accs.items }
     {
         Accumulators { accs }
     }
 
-    /// The accumulators, in the order of the select list. It takes no memory.
+    /// The accumulators, in the order of the select list.
     pub fn as_slice(&self) -> &[Held<H>]
         ensures { result.now ≡ self.now }
     {
@@ -103,7 +103,7 @@ impl<H: KeyHash<Cell>> Accumulators<H> {
         Ok(Some(Accumulators { accs }))
     }
 
-    /// Whether all have room for those of the other, as far as both go. It takes no memory.
+    /// Whether all have room for those of the other, as far as both go.
     pub fn fit(&self, other: &Accumulators<H>) -> bool
         ensures room { result ≡ true → AllFit self.now other.now }
         ensures only { AllFit self.now other.now → result ≡ true }

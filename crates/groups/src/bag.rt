@@ -51,7 +51,7 @@ impl<H: KeyHash<Cell>> Bag<H> {
         }
     }
 
-    /// These groups, none of which is found by its hash. It takes no memory.
+    /// These groups, none of which is found by its hash.
     pub fn of(alloc: Global, groups: Vec<(Tuple, Accumulators<H>)>) -> Bag<H>
         ensures { result ≡ groups.items }
     {
@@ -61,7 +61,7 @@ impl<H: KeyHash<Cell>> Bag<H> {
         }
     }
 
-    /// The groups, in the order in which their first rows came. It takes no memory.
+    /// The groups, in the order in which their first rows came.
     pub fn groups(&self) -> &[(Tuple, Accumulators<H>)]
         ensures all { result.now ≡ self.now }
         ensures few { length result.now < 2 ^ 63 }
@@ -152,7 +152,7 @@ impl<H: KeyHash<Cell>> Bag<H> {
         self.add(hash, tuple, accumulators)
     }
 
-    /// The index of a group of the tuple, if one is found. It takes no memory.
+    /// The index of a group of the tuple, if one is found.
     fn find_tuple(&self, hash: u64, tuple: &Tuple) -> Option<usize>
         ensures within { IfSome result (λ i. i < length self.now) }
         ensures found { IfSome result (λ i. (slice_index_or self.now i (tuple.now, [])).0 ≡ tuple.now) }
@@ -165,7 +165,7 @@ impl<H: KeyHash<Cell>> Bag<H> {
         }
     }
 
-    /// The index of a group of the cells of these indexes, if one is found. It takes no memory.
+    /// The index of a group of the cells of these indexes, if one is found.
     fn find(&self, hash: u64, cells: &[Cell], indexes: &[usize]) -> Option<usize>
         ensures within { IfSome result (λ i. i < length self.now) }
         ensures found { IfSome result (λ i. (slice_index_or self.now i (picked indexes.now cells.now, [])).0 ≡ picked indexes.now cells.now) }

@@ -17,7 +17,8 @@ pub fn coarsened<H: KeyHash<Cell>>(
     indexes: &[usize],
 ) -> Result<Bag<H>, AllocError>
     requires { CanCoarsen indexes.now finer.now }
-    ensures { (aggregations : List Aggregation) (columns : List ℕ) (rows : List RowValue) → AreWithin (length columns) indexes.now → Covers aggregations columns rows finer.now →
+    ensures { (aggregations : List Aggregation) (columns : List ℕ) (rows : List RowValue) → AreWithin (length columns) indexes.now →
+        Covers aggregations columns rows finer.now →
         IfOk result (λ b. Covers aggregations (picked_columns columns indexes.now) rows b) }
 {
     let mut bag = Bag::new(alloc);

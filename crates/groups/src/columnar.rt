@@ -83,7 +83,8 @@ fn tallies<H: KeyHash<Cell>>(
     requires read { HaveAll (read_by_all aggregations.now) columns.now }
     requires all { NumberAll (length rows.now) groups.now.numbers.items groups.now.tuples.items }
     ensures { (all : List RowValue) → Hold all columns.now →
-        IfOk result (λ v. AllZip (TalliesRows (picked_rows all rows.now) groups.now.numbers.items (length groups.now.tuples.items)) aggregations.now (map (λ accs. accs.items) v.items)) }
+        IfOk result (λ v. AllZip (TalliesRows (picked_rows all rows.now) groups.now.numbers.items
+        (length groups.now.tuples.items)) aggregations.now (map (λ accs. accs.items) v.items)) }
 {
     let mut tallies = Vec::with_capacity(alloc, aggregations.len())?;
     for _at in 0..aggregations.len() {
@@ -110,8 +111,10 @@ fn tally_next<H: KeyHash<Cell>>(
     requires all { NumberAll (length rows.now) groups.now.numbers.items groups.now.tuples.items }
     requires left { length before.now < length aggregations.now }
     ensures { (all : List RowValue) → Hold all columns.now →
-        AllZip (TalliesRows (picked_rows all rows.now) groups.now.numbers.items (length groups.now.tuples.items)) (take (length before.now) aggregations.now) (map (λ accs. accs.items) before.now) →
-        IfOk result (λ v. TalliesRows (picked_rows all rows.now) groups.now.numbers.items (length groups.now.tuples.items) (aggregation_at aggregations.now (length before.now)) v.items) }
+        AllZip (TalliesRows (picked_rows all rows.now) groups.now.numbers.items (length groups.now.tuples.items))
+        (take (length before.now) aggregations.now) (map (λ accs. accs.items) before.now) →
+        IfOk result (λ v. TalliesRows (picked_rows all rows.now) groups.now.numbers.items (length groups.now.tuples.items)
+        (aggregation_at aggregations.now (length before.now)) v.items) }
 {
     let at = before.len();
     if let Some(same) = alike_before(aggregations, at) {

@@ -44,7 +44,7 @@ impl DifferentCells {
         })
     }
 
-    /// How many there are. It takes no memory.
+    /// How many there are.
     pub fn len(&self) -> u64
         ensures { result ≡ len self.now }
     {
@@ -84,7 +84,7 @@ fn copies(cells: &Vec<Cell>) -> Result<Vec<Cell>, AllocError>
     cells.clone()
 }
 
-/// The cells that are not NULL, each once, rising. It takes no memory.
+/// The cells that are not NULL, each once, rising.
 fn once_each(cells: Vec<Cell>) -> Vec<Cell>
     ensures same { different result.items ≡ different cells.items }
     ensures once { len (different result.items) ≡ length result.items }

@@ -145,7 +145,7 @@ impl<'a, H: KeyHash<Cell> + KeyHash<Tuple>> Folding<'a, H> {
         })
     }
 
-    /// How many groups it holds so far, those of all sources together. A tuple may have more than one. It takes no memory.
+    /// How many groups it holds so far, those of all sources together. A tuple may have more than one.
     pub fn groups(&self) -> u128
         ensures { result ≡ group_count self.now }
     {

@@ -52,7 +52,7 @@ impl<H: KeyHash<Cell>> Clone for Held<H> {
 }
 
 impl<H: KeyHash<Cell>> Held<H> {
-    /// The accumulator itself. It takes no memory.
+    /// The accumulator itself.
     pub fn of(accumulator: Acc<H>) -> Held<H>
         ensures { result ≡ accumulator }
     {
@@ -112,7 +112,7 @@ impl<H: KeyHash<Cell>> Held<H> {
         }
     }
 
-    /// Whether both lists are few enough cells together, as far as both know. It takes no memory.
+    /// Whether both lists are few enough cells together, as far as both know.
     pub fn fits(&self, other: &Held<H>) -> bool
         ensures room { result ≡ true → AccsFit self.now other.now }
         ensures only { AccsFit self.now other.now → result ≡ true }

@@ -28,7 +28,8 @@ pub fn any_order<H: KeyHash<Cell> + KeyHash<Tuple>>()
     ensures report { (plan : PlanTree) (xs ys : List RowValue) → IsPermutation xs ys → report_rows plan xs ≡ report_rows plan ys }
     ensures stands { (plan : PlanTree) (xs ys : List RowValue) (partial : List (List (List Cell × List (Acc H)))) →
         IsPermutation xs ys → Stands H.KeyHash-2.hash_of plan xs partial → Stands H.KeyHash-2.hash_of plan ys partial }
-    ensures folds { (plan : PlanTree) (xs ys : List RowValue) (folding : Folding H) → IsPermutation xs ys → Folds plan xs folding → Folds plan ys folding }
+    ensures folds { (plan : PlanTree) (xs ys : List RowValue) (folding : Folding H) → IsPermutation xs ys → Folds plan xs folding →
+        Folds plan ys folding }
 {}
 
 /// Worked reports, computed by the definitions: four sales by ROLLUP of their region, which is NULL in one of them, the
@@ -45,7 +46,8 @@ pub fn worked_reports()
 /// HAVING, in the words of the query: a report has the rows of those groups alone for which HAVING is true, where an item stands
 /// for its value for the group.
 pub fn having_by_names()
-    ensures { (t : Table) (q : QueryTree) (p : PredicateTree (Test (Item (List ℕ)))) (set : List ℕ) (tuple : List Cell) (group : List RowValue) → q.having ≡ having_of p →
+    ensures { (t : Table) (q : QueryTree) (p : PredicateTree (Test (Item (List ℕ)))) (set : List ℕ) (tuple : List Cell)
+        (group : List RowValue) → q.having ≡ having_of p →
         shown (plan_of t q) (map (item_value set tuple group) (plan_of t q).items) ≡ shown_where t q p set tuple group }
 {
     truth_by_names();

@@ -59,7 +59,7 @@ fn add_read_by(needed: &mut Vec<usize>, aggregation: Aggregation) -> Result<(), 
     }
 }
 
-/// The column of an index that has one. It takes no memory.
+/// The column of an index that has one.
 pub(crate) fn column_of(columns: &Columns, index: usize) -> &CodeColumn
     requires { has columns.now index ≡ true }
     ensures { (rows : List RowValue) → Hold rows columns.now → cells_of result.now ≡ cells_at index rows }

@@ -20,7 +20,7 @@ pub trait OfKind<H: KeyHash<Cell>>: Aggregate + Drop {
     /// The same as an accumulator of any aggregate.
     ghost acc: { Self → Acc H };
 
-    /// The same, held. It takes no memory.
+    /// The same, held.
     fn held(self) -> Held<H>
         ensures { result ≡ acc self };
 

@@ -182,7 +182,7 @@ impl Numbering {
         Ok(number)
     }
 
-    /// The number of the part, if it is found; else the slot in which it may stand. It takes no memory.
+    /// The number of the part, if it is found; else the slot in which it may stand.
     fn number_or_slot(&self, part: Part) -> Result<u32, usize>
         ensures { IfOk result (λ n. IsNumbered part self.now.parts.items self.now.parts.items n) }
     {
@@ -204,7 +204,7 @@ impl Numbering {
         Err(slot)
     }
 
-    /// The number that the table has there, if it is that of the part. It takes no memory.
+    /// The number that the table has there, if it is that of the part.
     fn found(&self, slot: usize, part: Part) -> Option<u32>
         ensures { IfSome result (λ n. IsNumbered part self.now.parts.items self.now.parts.items n) }
     {

@@ -28,7 +28,7 @@ impl<'a> Model for Ranked<'a> {
 }
 
 impl<'a> Ranked<'a> {
-    /// The tuple, ranked. It takes no memory.
+    /// The tuple, ranked.
     pub fn of(tuple: &'a Tuple) -> Ranked<'a>
         ensures { result ≡ tuple.now }
     {

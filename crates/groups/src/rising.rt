@@ -39,7 +39,7 @@ pub fn in_order<'a, H: KeyHash<Cell>>(
     Ok(all)
 }
 
-/// Whether each tuple is less than the one after it, so that no two groups have one tuple. It takes no memory.
+/// Whether each tuple is less than the one after it, so that no two groups have one tuple.
 pub fn rise<H: KeyHash<Cell>>(groups: &[(&Tuple, &Accumulators<H>)]) -> bool
     ensures { IsTrue result → IsRising tuple_cmp (keys_of (lent groups.now)) }
 {

@@ -29,7 +29,7 @@ pub fn tuple_of(alloc: Global, cells: &[Cell], indexes: &[usize]) -> Result<Tupl
     Ok(Tuple::new(tuple))
 }
 
-/// Whether the tuple is that of the cells of these indexes. It takes no memory.
+/// Whether the tuple is that of the cells of these indexes.
 pub fn is_tuple_of(tuple: &[Cell], cells: &[Cell], indexes: &[usize]) -> bool
     ensures { IsTrue result ↔ (tuple.now ≡ picked indexes.now cells.now) }
 {
@@ -46,7 +46,7 @@ pub fn is_tuple_of(tuple: &[Cell], cells: &[Cell], indexes: &[usize]) -> bool
 }
 
 /// A hash of the cells of these indexes, of which nothing is asked but speed: a cell costs a step for its kind, and as many
-/// more as it has words of eight bytes. It takes no memory.
+/// more as it has words of eight bytes.
 pub fn hash_of(cells: &[Cell], indexes: &[usize]) -> u64 {
     let mut hash = 0u64;
     for index in indexes {
@@ -56,7 +56,7 @@ pub fn hash_of(cells: &[Cell], indexes: &[usize]) -> u64 {
     hash ^ (hash >> 32)
 }
 
-/// The hash that these cells have as those of all indexes. It takes no memory.
+/// The hash that these cells have as those of all indexes.
 pub fn hash_of_all(cells: &[Cell]) -> u64 {
     let mut hash = 0u64;
     for cell in cells {

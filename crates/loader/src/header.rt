@@ -6,7 +6,6 @@ ghost use Rattle.loader.specs.Parts.{is_header, names_column};
 use cells::Column;
 
 /// Whether the fields of a part's first record are its header: the names of the columns, each in its place and in whatever case.
-/// It takes no memory.
 pub fn is_header(columns: &[Column], fields: &[&[u8]]) -> bool
     ensures { result ≡ is_header columns.now (map (λ f. f.now) fields.now) }
 {

@@ -254,7 +254,8 @@ fn in_order<H: KeyHash<Cell>>(
     shard: &Shard,
     given: Vec<Vec<Found>>,
 ) -> Result<Vec<Found>, AllocError>
-    requires { AreShared (λ places found. AllZip (IsFound H.hash_of (takes H.hash_of shard.now) schema.now pieces.now) places found.items) (length pieces.now) given.items }
+    requires { AreShared (λ places found. AllZip (IsFound H.hash_of
+        (takes H.hash_of shard.now) schema.now pieces.now) places found.items) (length pieces.now) given.items }
     ensures { IfOk result (λ all. AreRead H.hash_of (takes H.hash_of shard.now) schema.now pieces.now all.items) }
 {
     let mut all = Vec::new(alloc);

@@ -66,7 +66,7 @@ impl Shard {
         self.count
     }
 
-    /// Whether rows of this key belong to it. It takes no memory. The one shard of one asks for no hash.
+    /// Whether rows of this key belong to it. The one shard of one asks for no hash.
     pub fn takes<H: KeyHash<Cell>>(&self, key: &Cell) -> bool
         ensures { result ≡ takes H.hash_of self.now key.now }
     {

@@ -85,7 +85,8 @@ fn runs_of(
     workers: usize,
 ) -> Result<Vec<Run>, AllocError>
     ensures all { IfOk result (λ runs. flat_map (λ run. run.shares.items) runs.items ≡ shares.items) }
-    ensures even { IfOk result (λ runs. AllByRecursion (λ run. length run.shares.items ≤ run_length sources.pieces workers (length shares.items)) runs.items) }
+    ensures even { IfOk result (λ runs. AllByRecursion (λ run. length run.shares.items ≤ run_length sources.pieces workers
+        (length shares.items)) runs.items) }
 {
     let count = if sources.pieces < 2 {
         1

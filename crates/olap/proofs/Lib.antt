@@ -1,3 +1,4 @@
+pub mod AnsweringLemmas
 pub mod FoldersLemmas
 pub mod HearingLemmas
 pub mod PartialsLemmas

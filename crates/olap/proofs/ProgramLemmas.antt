@@ -1,6 +1,6 @@
 -- What the program wrote, from what its parts say.
-use Rattle.std.proofs.Common.{ℕ, List, [], Option, arith, refl, sym}
-use Rattle.std.specs.Prelude.{◌≡◌, IfOk, IsErr, Result, Ok, Err, OnErr, OnOk}
+use Rattle.std.proofs.Common.{ℕ, List, [], Option, arith, inl, inr, refl, sym}
+use Rattle.std.specs.Prelude.{◌≡◌, ◌⊎◌, IfOk, IsErr, Result, Ok, Err, OnErr, OnOk}
 use Rattle.std.proofs.lemmas.List.{append-nil}
 use Rattle.std.specs.Io.KnownBytes.{Appends, Keeps}
 use Rattle.std.proofs.KnownBytes.{Appends-kept}
@@ -17,6 +17,12 @@ use Rattle.olap.specs.Programs.{AskToWrite, IsInputOf, IsOutputOfJob}
 use Rattle.olap.specs.declared.input.Input.{Input}
 use Rattle.report.specs.Taken.{TakesBeginning}
 use Rattle.command.specs.declared.job.Job.{Job}
+
+-- none of these is 1
+pub not_1 : (status : ℕ) → (status ≡ 0) ⊎ ((status ≡ 2) ⊎ (status ≡ 3)) → status ≡ 1 → ⊥
+not_1 status (inl none) one = omega (arith, none, one)
+not_1 status (inr (inl two)) one = omega (arith, two, one)
+not_1 status (inr (inr three)) one = omega (arith, three, one)
 
 -- all of it is a beginning
 takes_all : (a b : Option (List ℕ)) (whole : List ℕ) → Appends a b whole → TakesBeginning a b whole

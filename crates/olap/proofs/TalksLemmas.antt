@@ -22,7 +22,7 @@ use Rattle.script.specs.Hows.{hash_of_choice}
 use Rattle.olap.specs.Folders.{AreTold}
 use Rattle.command.specs.SessionWords.{AskForSession}
 use Rattle.command.specs.declared.session_words.SessionJob.{SessionJob}
-use Rattle.olap.specs.Talks.{AreRepliesUpTo, AskToTalk, Holds, IsOfJob, IsTalk, IsTalkSoFar}
+use Rattle.olap.specs.Talks.{AreRepliesSoFar, AreRepliesUpTo, AskToTalk, Holds, IsOfJob, IsTalk, IsTalkSoFar}
 use Rattle.olap.specs.Talks as talks
 use Rattle.script.specs.declared.finish.Finish.{Finish}
 use Rattle.script.specs.declared.finish.Finish.TheVariants.{Stopped, Through}
@@ -128,12 +128,17 @@ module _ (hash : Cell → ℕ) (givens : Givens) (on : OnRefusal) where
   replies_up_to _ _ _ (talks.goes_on bytes reply earlier is_reply on_goes) = last_line bytes reply (replies_up_to _ _ _ earlier) is_reply
   replies_up_to _ _ _ (talks.stops bytes reply earlier is_reply on_stops) = last_line bytes reply (replies_up_to _ _ _ earlier) is_reply
 
+  so_far : (lines : List (List ℕ)) (finish : Finish) (bytes : List ℕ) → AreRepliesUpTo hash givens on lines finish bytes → AreRepliesSoFar hash givens on lines bytes
+  so_far _ _ _ talks.no_line = talks.no_line_so_far
+  so_far _ _ _ (talks.goes_on bytes reply earlier is_reply on_goes) = talks.last_so_far bytes reply earlier is_reply
+  so_far _ _ _ (talks.stops bytes reply earlier is_reply on_stops) = talks.last_so_far bytes reply earlier is_reply
+
   -- the session ends before a line is heard
   pub talk_broken : (input now taken new newer : Option (List ℕ)) (lines : List (List ℕ)) → IsAnswered input now taken new lines → Keeps new newer →
       BeginsToWrite (IsTalkSoFar input hash givens on) taken newer
   talk_broken input now taken new newer lines a k = record {
     whole = a.wrote.whole;
-    is_whole = record { lines = lines; later = later_in now; held = holds_left input now lines a.left; replies = replies_up_to lines Through a.wrote.whole a.wrote.is_whole };
+    is_whole = record { lines = lines; later = later_in now; held = holds_left input now lines a.left; replies = so_far lines Through a.wrote.whole a.wrote.is_whole };
     beginning = record { rest = []; up_to = record { front = a.wrote.whole; whole_is = sym (append-nil a.wrote.whole); taken = Appends-kept taken new newer a.wrote.whole a.wrote.taken k } };
   }
 
@@ -146,7 +151,7 @@ module _ (hash : Cell → ℕ) (givens : Givens) (on : OnRefusal) where
       lines = line ∷ lines;
       later = later_in next;
       held = holds_left input next (line ∷ lines) (left_more input now next line lines a.left h);
-      replies = last_line a.wrote.whole b.whole (replies_up_to lines Through a.wrote.whole a.wrote.is_whole) b.is_whole;
+      replies = talks.last_so_far a.wrote.whole b.whole a.wrote.is_whole b.is_whole;
     };
     beginning = record {
       rest = b.beginning.rest;
@@ -223,7 +228,7 @@ always_on_err (Err e) p = p
 talk_so_far : (input : Option (List ℕ)) (finish : Finish) (hash : Cell → ℕ) (givens : Givens) (on : OnRefusal) (bytes : List ℕ) → IsTalk input finish hash givens on bytes →
     IsTalkSoFar input hash givens on bytes
 talk_so_far input finish hash givens on bytes t =
-    record { lines = t.lines; later = t.later; held = t.held; replies = replies_up_to hash givens on t.lines finish bytes t.replies }
+    record { lines = t.lines; later = t.later; held = t.held; replies = so_far hash givens on t.lines finish bytes t.replies }
 
 -- a talk and then its close leave a beginning
 pub talk_closed : {E : Type 0} (input : Option (List ℕ)) (hash : Cell → ℕ) (givens : Givens) (on : OnRefusal) (a b c : Option (List ℕ)) (talked : Result Finish E) →

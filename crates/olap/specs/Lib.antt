@@ -1,3 +1,4 @@
+pub mod Answering
 pub mod Folders
 pub mod Hearing
 pub mod Partials

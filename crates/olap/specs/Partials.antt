@@ -1,6 +1,6 @@
 -- Partial answers in files: what a run over a shard writes, and what is joined of what such runs wrote.
-use Rattle.std.specs.Prelude.{◌≡◌, ◌≤◌, ◌⊎◌, ◌∷◌, ℕ, List, [], Option, None, Some, length, map}
-use Rattle.std.specs.List.{AllByRecursion}
+use Rattle.std.specs.Prelude.{◌≡◌, ◌≤◌, ◌⊎◌, ◌∷◌, ℕ, ⊤, List, [], Option, None, Some, IfSome, length, map}
+use Rattle.std.specs.List.{AllByRecursion, flat_map}
 use Rattle.std.specs.Str.Lines.{lines}
 use Rattle.clap.specs.Words.{IsAmong, Text, fault_of}
 use Rattle.clap.specs.declared.error.kind.ErrorKind.TheVariants.{DisplayHelp, DisplayVersion}
@@ -84,6 +84,17 @@ pub record AskToTell (file : Text → Option (List ℕ)) (WasWritten : Text → 
   pub asked : AskForShard words job
   pub told : IsShardTold file WasWritten job
 
+-- the file that the job names may be written: it takes the place of none that the job reads
+pub record IsSpared (MayTake : Text → List Text → Type 0) (job : ShardJob) : Type 0 where
+  pub script : MayTake job.partials (job.run.script ∷ [])
+  pub parts : MayTake job.partials job.run.parts.items
+
+-- the words ask for a shard whose file may be written
+pub record AskToSpare (MayTake : Text → List Text → Type 0) (words : List Text) : Type 0 where
+  pub job : ShardJob
+  pub asked : AskForShard words job
+  pub spared : IsSpared MayTake job
+
 -- the words ask for help of it
 abbrev pub AskForShardHelp : List Text → Type 0
 AskForShardHelp words = IsAmong DisplayHelp (fault_of shard_app words) ⊎ IsAmong DisplayVersion (fault_of shard_app words)
@@ -100,13 +111,21 @@ pub record OfText (held : Option Text) (Is : Text → Type 0) : Type 0 where
   pub told : Tells held text
   pub is : Is text
 
--- where these texts are partial answers of one script, so is what was joined of them
-abbrev pub IsJointOf : List Text → DocumentValue → Type 0
-IsJointOf texts it = (sharding : Sharding) (givens : Givens) (script : Text) → AllByRecursion (IsPartialText sharding givens script) texts → IsToldOf sharding givens script it
+-- these are the texts of these partial answers
+abbrev pub AreTextsOf : List DocumentValue → List Text → Type 0
+AreTextsOf [] [] = ⊤
+AreTextsOf [] (text ∷ texts) = ⊥
+AreTextsOf (it ∷ all) [] = ⊥
+AreTextsOf (it ∷ all) (text ∷ texts) = IsTextOf it text × AreTextsOf all texts
 
--- and so is its text
-abbrev pub IsJointText : List Text → Text → Type 0
-IsJointText texts text = (sharding : Sharding) (givens : Givens) (script : Text) → AllByRecursion (IsPartialText sharding givens script) texts → IsPartialText sharding givens script text
+-- the numbers of the shards that told these
+abbrev pub numbers_of : List DocumentValue → List ℕ
+numbers_of = flat_map (λ (it : DocumentValue). it.numbers)
+
+-- what was joined of these texts has the shards of all of them; and where they are partial answers of one script, so is it
+pub record IsJointOf (texts : List Text) (it : DocumentValue) : Type 0 where
+  pub numbers : (all : List DocumentValue) → AreTextsOf all texts → it.numbers ≡ numbers_of all
+  pub told : (sharding : Sharding) (givens : Givens) (script : Text) → AllByRecursion (IsPartialText sharding givens script) texts → IsToldOf sharding givens script it
 
 -- where these texts are partial answers of one script, this is its output, if no line of the run over all rows is refused for want of room
 abbrev pub IsJointOutput : Form → List Text → List ℕ → Type 0
@@ -126,10 +145,12 @@ names job = job.first ∷ job.others.items
 abbrev pub IsOutputOfJoin : (Text → Option (List ℕ)) → JoinJob → List ℕ → Type 0
 IsOutputOfJoin file job whole = OfTexts file (names job) (λ texts. IsJointOutput job.form texts whole)
 
--- they were joined to a text, which was written under this name
+-- the text of what was joined of them was written under this name
 pub record IsWrittenJoint (WasWritten : Text → Text → Type 0) (name : Text) (texts : List Text) : Type 0 where
+  pub it : DocumentValue
   pub text : Text
-  pub joint : IsJointText texts text
+  pub is_text : IsTextOf it text
+  pub joint : IsJointOf texts it
   pub written : WasWritten name text
 
 -- the text of what was joined was written
@@ -153,6 +174,12 @@ pub record AskAndLeave (file : Text → Option (List ℕ)) (WasWritten : Text �
   pub job : JoinJob
   pub asked : AskToJoin words job
   pub leaves : Leaves file WasWritten Takes job job.partials
+
+-- the words ask for a join that is written to a file, which may be written
+pub record AskToReplace (MayTake : Text → List Text → Type 0) (words : List Text) : Type 0 where
+  pub job : JoinJob
+  pub asked : AskToJoin words job
+  pub may_take : IfSome job.partials (λ name. MayTake name [])
 
 -- the words ask for help of it
 abbrev pub AskForJoinHelp : List Text → Type 0

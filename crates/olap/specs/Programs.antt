@@ -1,5 +1,5 @@
 -- What the program does with its words, its files and its standard input.
-use Rattle.std.specs.Prelude.{◌≡◌, ◌⊎◌, ℕ, List, [], Option, map}
+use Rattle.std.specs.Prelude.{◌≡◌, ◌⊎◌, ℕ, Bool, true, List, [], Option, None, Some, map}
 use Rattle.clap.specs.Words.{IsAmong, Text, fault_of}
 use Rattle.clap.specs.declared.error.kind.ErrorKind.TheVariants.{DisplayHelp, DisplayVersion}
 use Rattle.forms.specs.declared.form.Form.TheVariants.{Classic}
@@ -7,8 +7,13 @@ use Rattle.script.specs.Givens.{givens_in}
 use Rattle.script.specs.Hows.{default_hash, default_settings, hash_of_choice}
 use Rattle.script.specs.Manners.{in_form}
 use Rattle.script.specs.Output.{IsOutput}
+use Rattle.script.specs.Tails.{Viewing}
 use Rattle.script.specs.Viewers.{IsRunBy}
 use Rattle.script.specs.declared.finish.Finish.{Finish}
+use Rattle.script.specs.declared.on_refusal.OnRefusal.{OnRefusal}
+use Rattle.script.specs.declared.on_refusal.OnRefusal.TheVariants.{GoesOn, Stops}
+use Rattle.reasons.specs.Books.{declared_in, lines_in}
+use Rattle.olap.specs.Answering.{Answers}
 use Rattle.command.specs.CommandLine.{olap}
 use Rattle.olap.specs.Folders.{AreTold, Tells}
 use Rattle.command.specs.Jobs.{Ask}
@@ -38,6 +43,28 @@ pub record AskToWrite (file : Text → Option (List ℕ)) (words : List Text) (f
   pub job : Job
   pub asked : Ask words job
   pub output : IsOutputOfJob file job finish whole
+
+-- whether the table that a script declares answers the query of its viewers, where it has some
+abbrev pub Serves : Option Viewing → List ℕ → Bool → Type 0
+Serves None script served = served ≡ true
+Serves (Some viewing) script served = Answers (declared_in (lines_in script)) viewing.query served
+
+-- that is asked of a strict run alone
+abbrev pub ServesBy : OnRefusal → Option Viewing → List ℕ → Bool → Type 0
+ServesBy GoesOn asked script served = served ≡ true
+ServesBy Stops asked script served = Serves asked script served
+
+-- the same of a job whose files hold what is told
+pub record JobServes (file : Text → Option (List ℕ)) (job : Job) (served : Bool) : Type 0 where
+  pub input : Input
+  pub is_input : IsInputOf file job input
+  pub is_served : ServesBy job.on_refusal job.live input.script.items served
+
+-- the words ask for a run over these files, and whether that serves its viewers
+pub record AskToServe (file : Text → Option (List ℕ)) (words : List Text) (served : Bool) : Type 0 where
+  pub job : Job
+  pub asked : Ask words job
+  pub serves : JobServes file job served
 
 -- this is the output of the script that standard input holds, with the defaults and no parts
 pub record IsOutputOf (input : Option (List ℕ)) (whole : List ℕ) : Type 0 where

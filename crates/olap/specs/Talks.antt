@@ -6,7 +6,7 @@ use Rattle.clap.specs.declared.error.kind.ErrorKind.TheVariants.{DisplayHelp, Di
 use Rattle.script.specs.Givens.{Givens}
 use Rattle.script.specs.Hows.{hash_of_choice}
 use Rattle.script.specs.Manners.{in_form}
-use Rattle.script.specs.Sessions.{AreReplies, IsRefusedAfter, IsReply}
+use Rattle.script.specs.Sessions.{IsRefusedAfter, IsReply}
 use Rattle.script.specs.Stops.{StopsAfter}
 use Rattle.script.specs.declared.finish.Finish.{Finish}
 use Rattle.script.specs.declared.finish.Finish.TheVariants.{Stopped, Through}
@@ -38,12 +38,18 @@ pub record IsTalk (input : Option (List ℕ)) (finish : Finish) (hash : Cell →
   pub all : finish ≡ Through → later ≡ []
   pub replies : AreRepliesUpTo hash givens on lines finish bytes
 
+-- the bytes are the replies to lines, one after another, where a session may go on after each but the last one
+pub data AreRepliesSoFar (hash : Cell → ℕ) (givens : Givens) (on : OnRefusal) : List (List ℕ) → List ℕ → Type 0 where
+  no_line_so_far : AreRepliesSoFar hash givens on [] []
+  last_so_far : {before : List (List ℕ)} {line : List ℕ} (bytes reply : List ℕ) →
+      AreRepliesUpTo hash givens on before Through bytes → IsReply hash givens before line reply → AreRepliesSoFar hash givens on (line ∷ before) (bytes ++ reply)
+
 -- the bytes are the replies to the first lines of standard input, however many
 pub record IsTalkSoFar (input : Option (List ℕ)) (hash : Cell → ℕ) (givens : Givens) (on : OnRefusal) (bytes : List ℕ) : Type 0 where
   pub lines : List (List ℕ)
   pub later : List (List ℕ)
   pub held : Holds input lines later
-  pub replies : AreReplies hash givens lines bytes
+  pub replies : AreRepliesSoFar hash givens on lines bytes
 
 -- the bytes are so of a job, whose parts hold what is told
 pub record IsOfJob (file : Text → Option (List ℕ)) (job : SessionJob) (Is : (Cell → ℕ) → Givens → OnRefusal → List ℕ → Type 0) (bytes : List ℕ) : Type 0 where

@@ -1,8 +1,8 @@
 //! One question of CSV files: `query`, and the table that it proposes: `schema`.
-ghost use Rattle.std.specs.Prelude.{◌≡◌, ◌⊎◌, [], IfOk, length, map, string_bytes, true};
+ghost use Rattle.std.specs.Prelude.{◌≡◌, ◌⊎◌, [], IfErr, IfOk, length, map, string_bytes, true};
 ghost use Rattle.std.specs.Io.Buffered.{writer_buffer, writer_contents};
 ghost use Rattle.std.specs.List.{slice_index_or};
-ghost use Rattle.olap.specs.Folders.{AreTold};
+ghost use Rattle.olap.specs.Folders.{AreTold, IsFirstUnread};
 ghost use Rattle.questions.specs.Options.{asks_for_help};
 ghost use Rattle.questions.specs.Proposals.{line_of_proposal};
 ghost use Rattle.olap.specs.Queries.{AskToAnswer, IsAnswer, IsAsked, IsAnswerOfNamed, IsStrictOutput, Leaves};
@@ -12,6 +12,7 @@ use crate::asking::Asking;
 use crate::close::{NOTHING_RUN, end_early};
 use crate::input::{Folder, Input, Unread, Unreadable, read_parts};
 use crate::manual::{Topic, show};
+use crate::plain::{Plain, say};
 use crate::program::{cannot_read, errors_of, progress_of, run_input};
 use crate::tell::{Renew, Screen};
 use crate::telling::Telling;
@@ -94,6 +95,7 @@ pub fn show_schema<F: Folder, W: Write + Drop, E: Write>(
 fn refuse_words<E: Write>(command: &str, fault: OptionFault<'_>, err: &mut E) -> u8
     ensures { result ≡ 2 }
 {
+    let fault = Plain(fault);
     let _ = writeln!(
         err,
         "error: {fault}\n\nFor more information, try 'olap {command} --help'."
@@ -113,7 +115,7 @@ fn refuse_file<E: Write>(names: &[Text], fault: FileFault, err: &mut E) -> u8
         Some(name) => name.as_str(),
         None => "",
     };
-    let _ = writeln!(err, "{name}:{line}: {why}");
+    say(err, format_args!("{name}:{line}: {why}"));
     FAULTY
 }
 
@@ -254,20 +256,24 @@ fn run_asked<'a, T: Renew + Sync, W: Write + Drop, E: Write, R: Threads + Wait +
     )
 }
 
-/// The bytes of the files of these names.
+/// The bytes of the files of these names, or the first that can't be read, also for want of memory.
 pub(crate) fn read_files<'n, F: Folder>(
     alloc: Global,
     folder: &F,
     names: &'n [Text],
 ) -> Result<Vec<Vec<u8>>, Unreadable<'n>>
-    ensures { IfOk result (λ files. AreTold (F.file folder.now) names.now (map (λ f. f.items) files.items)) }
+    ensures told { IfOk result (λ files. AreTold (F.file folder.now) names.now (map (λ f. f.items) files.items)) }
+    ensures named { IfErr result (λ unread. IsFirstUnread (F.was_read folder.now) (F.was_refused folder.now) names.now unread.name.now ⊎ (unread.why ≡ Unread.Memory)) }
 {
     let Ok(room) = Vec::with_capacity(alloc, names.len()) else {
         let name = first_name(names);
         let why = Unread::Memory;
         return Err(Unreadable { name, why });
     };
-    read_parts(folder, names, room)
+    match read_parts(folder, names, room) {
+        Ok(files) => Ok(files),
+        Err(unread) => Err(unread),
+    }
 }
 
 /// The script that asks a query of a table that is proposed, and its parts.

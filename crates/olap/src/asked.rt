@@ -11,6 +11,7 @@ use crate::program::{run_words, show_help};
 use crate::session::converse;
 use crate::shard_run::run_shard;
 use crate::tell::Screen;
+use crate::watched::{Unless, Watched};
 use crate::written::Writable;
 use command::session_words::job_of_words;
 use command::shard_words::{join_of_words, shard_of_words};
@@ -41,8 +42,6 @@ enum Asked<'w> {
     Join(&'w [String]),
     /// Help of one of these.
     Help(Helped),
-    /// A run, or help of the commands.
-    Command,
 }
 
 /// A command that `clap` reads for itself, and of which it has help.
@@ -56,7 +55,8 @@ enum Helped {
 /// Does what the words after the program's name ask for, of which there is one at least, and gives the program's status: that
 /// of [`run_words`] for a command, of [`check_files`] for a check, of [`ask`] for a query, of [`converse`] for a session, of
 /// [`run_shard`] for a shard and of [`join_files`] for a join, and for the manual 0 where its page was written, 2 where it
-/// has no such page, and 3 where the page could not be written.
+/// has no such page, and 3 where the page could not be written. Where nobody reads standard output any more, a run tells that, and
+/// everything else ends without a word.
 pub fn answer<
     F: Folder,
     S: Writable,
@@ -69,12 +69,17 @@ pub fn answer<
     words: &[String],
     folder: &F,
     files: &mut S,
-    mut out: BufWriter<W>,
+    mut out: BufWriter<Watched<'_, W>>,
     err: &mut E,
 ) -> u8
     ensures { (result ≡ 0) ⊎ ((result ≡ 1) ⊎ ((result ≡ 2) ⊎ (result ≡ 3))) }
 {
-    match asked_by(words) {
+    let Some(asked) = asked_by(words) else {
+        return run_words(rt, alloc, words, folder, out, err).0;
+    };
+    let mut told = Unless::new(err, out.get_ref().is_closed());
+    let err = &mut told;
+    match asked {
         Asked::Page(topic) => show(topic.page(), &mut out, err),
         Asked::NoPage(word) => refuse_page(word, err),
         Asked::Check(names) => check_files(rt, alloc, names, folder, err),
@@ -84,7 +89,6 @@ pub fn answer<
         Asked::Shard(words) => run_shard(alloc, words, folder, files, out, err).0,
         Asked::Join(words) => join_files(alloc, words, folder, files, out, err).0,
         Asked::Help(of) => show_help_of(alloc, of, out, err),
-        Asked::Command => run_words(rt, alloc, words, folder, out, err).0,
     }
 }
 
@@ -95,7 +99,7 @@ fn show_help_of<W: Write + Drop, E: Write>(
     out: BufWriter<W>,
     err: &mut E,
 ) -> u8
-    ensures { (result ≡ 0) ⊎ (result ≡ 2) }
+    ensures { (result ≡ 0) ⊎ ((result ≡ 2) ⊎ (result ≡ 3)) }
 {
     match of {
         Helped::Session => show_help(job_of_words(alloc, &["--help"]), out, err),
@@ -104,20 +108,18 @@ fn show_help_of<W: Write + Drop, E: Write>(
     }
 }
 
-/// What the words ask for.
-fn asked_by(words: &[String]) -> Asked<'_> {
-    let Some((first, rest)) = words.split_first() else {
-        return Asked::Command;
-    };
+/// What the words ask for. None where that is a run, or help of the commands.
+fn asked_by(words: &[String]) -> Option<Asked<'_>> {
+    let (first, rest) = words.split_first()?;
     match first.as_str() {
         "help" => asked_of_help(rest),
-        "check" => asked_of_check(rest),
-        "query" => Asked::Query(rest),
-        "schema" => Asked::Schema(rest),
-        "session" => Asked::Session(rest),
-        "join" => Asked::Join(rest),
-        "run" if have_shard(rest) => Asked::Shard(rest),
-        _ => Asked::Command,
+        "check" => Some(asked_of_check(rest)),
+        "query" => Some(Asked::Query(rest)),
+        "schema" => Some(Asked::Schema(rest)),
+        "session" => Some(Asked::Session(rest)),
+        "join" => Some(Asked::Join(rest)),
+        "run" if have_shard(rest) => Some(Asked::Shard(rest)),
+        _ => None,
     }
 }
 
@@ -139,21 +141,21 @@ fn is_of_shard(word: &str) -> bool {
     name == "--shard" || name == "--partials" || name == "--own-parts"
 }
 
-/// What the words after `help` ask for. `clap` tells of its own commands.
-fn asked_of_help(words: &[String]) -> Asked<'_> {
+/// What the words after `help` ask for. None where `clap` tells of its own commands.
+fn asked_of_help(words: &[String]) -> Option<Asked<'_>> {
     let [word] = words else {
-        return Asked::Command;
+        return None;
     };
     match word.as_str() {
-        "run" => Asked::Command,
-        "live" => Asked::Command,
-        "help" => Asked::Command,
-        "session" => Asked::Help(Helped::Session),
-        "shard" => Asked::Help(Helped::Shard),
-        "join" => Asked::Help(Helped::Join),
+        "run" => None,
+        "live" => None,
+        "help" => None,
+        "session" => Some(Asked::Help(Helped::Session)),
+        "shard" => Some(Asked::Help(Helped::Shard)),
+        "join" => Some(Asked::Help(Helped::Join)),
         word => match topic_of(word) {
-            Some(topic) => Asked::Page(topic),
-            None => Asked::NoPage(word),
+            Some(topic) => Some(Asked::Page(topic)),
+            None => Some(Asked::NoPage(word)),
         },
     }
 }

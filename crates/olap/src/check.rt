@@ -1,10 +1,11 @@
 //! Looks for faults in a script and in its parts, and loads nothing.
 ghost use Rattle.std.specs.Prelude.{◌≡◌, ◌≤◌, ◌⊎◌, IfOk, length};
 
-use crate::close::{NOTHING_RUN, WRITTEN, end_early};
+use crate::close::{ENDED_EARLY, NOTHING_RUN, WRITTEN, end_early};
 use crate::explaining::{Explaining, Told};
 use crate::input::{Folder, Input, Unread, Unreadable, read_named};
 use crate::part_faults::tell_parts;
+use crate::plain::Plain;
 use crate::program::{cannot_read, run_input};
 use crate::tell::{Output, Tell};
 use cells::Text;
@@ -82,6 +83,7 @@ impl From<NamingFault> for CheckFault {
 fn refuse_words<E: Write>(fault: CheckFault, err: &mut E) -> u8
     ensures { result ≡ 2 }
 {
+    let fault = Plain(fault);
     let _ = writeln!(
         err,
         "error: {fault}\n\nFor more information, try 'olap help check'."
@@ -205,6 +207,9 @@ fn look<E: Write, R: Threads + Wait + Sync + Print>(
     );
     if told.is_err() {
         return end_early(Ended::OutOfMemory, err);
+    }
+    if output.is_closed() {
+        return ENDED_EARLY;
     }
     if output.has_failed() {
         return end_early(Ended::WriteFailed, err);

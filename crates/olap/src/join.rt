@@ -1,14 +1,15 @@
 //! The command `join`: partial answers of shards, joined to the output of their script, or to one partial answer.
-ghost use Rattle.std.specs.Prelude.{◌≡◌, ◌⊎◌, ◌∷◌, IfOk, OnOk, map, string_bytes};
-ghost use Rattle.std.specs.Io.Buffered.{writer_contents};
+ghost use Rattle.std.specs.Prelude.{◌≡◌, ◌⊎◌, ◌∷◌, [], IfOk, IfSome, OnOk, map, string_bytes};
+ghost use Rattle.std.specs.Io.Buffered.{writer_buffer, writer_contents};
 ghost use Rattle.std.specs.Io.KnownBytes.{Appends, Keeps};
 ghost use Rattle.script.specs.Endings.{Writes};
-ghost use Rattle.olap.specs.Partials.{AskAndLeave, AskForJoinHelp, IsJointOf, IsOutputOfTold, IsWrittenAs, Leaves, OfText, OfTexts, IsAnswerIn};
+ghost use Rattle.olap.specs.Partials.{AskAndLeave, AskForJoinHelp, AskToReplace, IsJointOf, IsOutputOfTold, IsWrittenAs, Leaves, OfText, OfTexts, IsAnswerIn};
 
 use crate::close::{NOTHING_RUN, WRITTEN, close_run, end_early};
 use crate::input::{Folder, Unreadable};
+use crate::plain::say;
 use crate::program::{cannot_read, refuse};
-use crate::written::{Writable, cannot_write};
+use crate::written::{Untaken, Writable, cannot_write, may_not_write};
 use cells::{Fnv, Text};
 use command::shard_words::{JoinJob, join_job};
 use forms::Form;
@@ -22,8 +23,9 @@ use std::io::{BufWriter, Write};
 /// their script goes to `out`, and so does help; where the words name a file for it, the joint partial answer goes to that file.
 /// Why there is neither goes to `err`.
 ///
-/// At 0 all was written, or help was asked for. At 2 nothing was: the words are refused, a file can't be read or does not fit, or a
-/// shard is missing. At 3 memory was refused, or the writing failed.
+/// At 0 all was written, or help was. At 2 nothing was: the words are refused, the file would take the place of what is no regular
+/// file, a file can't be read or does not fit, or a shard is missing. At 3 memory was refused, or the writing failed. The file that is
+/// written may be one of those that are read.
 pub fn join_files<F: Folder, S: Writable, W: Write + Drop, E: Write>(
     alloc: Global,
     words: &[String],
@@ -35,7 +37,9 @@ pub fn join_files<F: Folder, S: Writable, W: Write + Drop, E: Write>(
     ensures status { (result.0 ≡ 0) ⊎ ((result.0 ≡ 2) ⊎ (result.0 ≡ 3)) }
     ensures left { result.0 ≡ 0 → AskForJoinHelp (map string_bytes words.now)
         ⊎ AskAndLeave (F.file folder.now) (S.writes files.old files.new) (λ IsWhole. Writes IsWhole (writer_contents W.contents out) (writer_contents W.contents result.1)) (map string_bytes words.now) }
+    ensures flushed { result.0 ≡ 0 → (writer_buffer out ≡ []) → writer_buffer result.1 ≡ [] }
     ensures unwritten { result.0 ≡ 2 → files.new ≡ files.old }
+    ensures spared { (files.new ≡ files.old) ⊎ AskToReplace (S.may_take files.old) (map string_bytes words.now) }
     ensures nothing { result.0 ≡ 2 → Keeps (writer_contents W.contents out) (writer_contents W.contents result.1) }
 {
     match join_job(alloc, words) {
@@ -55,6 +59,42 @@ fn run_join<F: Folder, S: Writable, W: Write + Drop, E: Write>(
 ) -> (u8, BufWriter<W>)
     ensures status { (result.0 ≡ 0) ⊎ ((result.0 ≡ 2) ⊎ (result.0 ≡ 3)) }
     ensures left { result.0 ≡ 0 → Leaves (F.file folder.now) (S.writes files.old files.new) (λ IsWhole. Writes IsWhole (writer_contents W.contents out) (writer_contents W.contents result.1)) job.now job.now.partials }
+    ensures flushed { result.0 ≡ 0 → (writer_buffer out ≡ []) → writer_buffer result.1 ≡ [] }
+    ensures unwritten { result.0 ≡ 2 → files.new ≡ files.old }
+    ensures spared { (files.new ≡ files.old) ⊎ IfSome job.now.partials (λ name. S.may_take files.old name []) }
+    ensures nothing { result.0 ≡ 2 → Keeps (writer_contents W.contents out) (writer_contents W.contents result.1) }
+{
+    if let Err(fault) = look(job, &*files) {
+        return (refuse_file(fault, err), out);
+    }
+    join_looked_at(alloc, job, folder, files, out, err)
+}
+
+/// Looks whether the file may be written that a job names, where it names one.
+fn look<'j, S: Writable>(job: &'j JoinJob, files: &S) -> Result<(), FileFault<'j>>
+    ensures { OnOk result (IfSome job.now.partials (λ name. S.may_take files.now name [])) }
+{
+    let Some(name) = &job.partials else {
+        return Ok(());
+    };
+    match files.look(name.as_str(), &[]) {
+        Ok(()) => Ok(()),
+        Err(why) => Err(FileFault::Untaken(name.as_str(), why)),
+    }
+}
+
+/// Joins the files of a job, once it is known that the one that it names may be written.
+fn join_looked_at<F: Folder, S: Writable, W: Write + Drop, E: Write>(
+    alloc: Global,
+    job: &JoinJob,
+    folder: &F,
+    files: &mut S,
+    out: BufWriter<W>,
+    err: &mut E,
+) -> (u8, BufWriter<W>)
+    ensures status { (result.0 ≡ 0) ⊎ ((result.0 ≡ 2) ⊎ (result.0 ≡ 3)) }
+    ensures left { result.0 ≡ 0 → Leaves (F.file folder.now) (S.writes files.old files.new) (λ IsWhole. Writes IsWhole (writer_contents W.contents out) (writer_contents W.contents result.1)) job.now job.now.partials }
+    ensures flushed { result.0 ≡ 0 → (writer_buffer out ≡ []) → writer_buffer result.1 ≡ [] }
     ensures unwritten { result.0 ≡ 2 → files.new ≡ files.old }
     ensures nothing { result.0 ≡ 2 → Keeps (writer_contents W.contents out) (writer_contents W.contents result.1) }
 {
@@ -68,7 +108,7 @@ fn run_join<F: Folder, S: Writable, W: Write + Drop, E: Write>(
     }
 }
 
-/// A file that can't be joined to those before it.
+/// A file that can't be joined to those before it, or may not be written.
 #[derive(Clone, Copy, Drop)]
 enum FileFault<'n> {
     /// It can't be read.
@@ -77,6 +117,8 @@ enum FileFault<'n> {
     Unread(&'n str, Unread),
     /// It does not fit those before it.
     Unjoined(&'n str, Unjoined),
+    /// It is to be written, and would take another thing's place.
+    Untaken(&'n str, Untaken),
 }
 
 /// The joint partial answer of the files of these names.
@@ -148,6 +190,7 @@ fn write_output<W: Write + Drop, E: Write>(
 ) -> (u8, BufWriter<W>)
     ensures status { (result.0 ≡ 0) ⊎ ((result.0 ≡ 2) ⊎ (result.0 ≡ 3)) }
     ensures written { result.0 ≡ 0 → Writes (IsOutputOfTold form joint) (writer_contents W.contents out) (writer_contents W.contents result.1) }
+    ensures flushed { result.0 ≡ 0 → writer_buffer result.1 ≡ [] }
     ensures nothing { result.0 ≡ 2 → Keeps (writer_contents W.contents out) (writer_contents W.contents result.1) }
 {
     let manner = Manner::of(alloc, form);
@@ -181,6 +224,7 @@ fn refuse_file<E: Write>(fault: FileFault<'_>, err: &mut E) -> u8
         FileFault::Unreadable(unread) => cannot_read(unread, err),
         FileFault::Unread(name, why) => refuse_text(name, why, err),
         FileFault::Unjoined(name, why) => refuse_next(name, why, err),
+        FileFault::Untaken(name, why) => may_not_write(name, why, err),
     }
 }
 
@@ -194,7 +238,7 @@ fn refuse_text<E: Write>(name: &str, why: Unread, err: &mut E) -> u8
         Unread::Spoilt => "it is spoilt: its check sum differs, or it ends too soon",
         Unread::Malformed => "its check sum is right, but not its form",
     };
-    let _ = writeln!(err, "olap: {name}: {why}");
+    say(err, format_args!("olap: {name}: {why}"));
     NOTHING_RUN
 }
 
@@ -213,14 +257,14 @@ fn refuse_next<E: Write>(name: &str, why: Unjoined, err: &mut E) -> u8
         }
         Unjoined::Unfit => "what it tells does not fit what the files before it tell",
         Unjoined::Twice { shard } => {
-            let _ = writeln!(
+            say(
                 err,
-                "olap: {name}: shard {shard} is in a file before it, too"
+                format_args!("olap: {name}: shard {shard} is in a file before it, too"),
             );
             return NOTHING_RUN;
         }
     };
-    let _ = writeln!(err, "olap: {name}: {why}");
+    say(err, format_args!("olap: {name}: {why}"));
     NOTHING_RUN
 }
 

@@ -3,10 +3,10 @@ ghost use Rattle.std.specs.Prelude.{◌≡◌, ◌⊎◌, IfSome};
 ghost use Rattle.cells.specs.Refusals.{number_of};
 ghost use Rattle.olap.specs.Topics.{IsNamed};
 
-use crate::close::{NOTHING_RUN, close_run};
+use crate::close::{NOTHING_RUN, close_text};
 use crate::pages;
+use crate::plain::Plain;
 use cells::{Refused, whole_number_of};
-use script::Ended;
 use std::io::{BufWriter, Write};
 
 /// What the manual has a page of.
@@ -110,11 +110,8 @@ fn page_of(refusal: Refused) -> &'static str {
 pub fn show<W: Write + Drop, E: Write>(page: &str, out: &mut BufWriter<W>, err: &mut E) -> u8
     ensures { (result ≡ 0) ⊎ (result ≡ 3) }
 {
-    let ended = match out.write_all(page.as_bytes()) {
-        Ok(()) => Ok(()),
-        Err(_) => Err(Ended::WriteFailed),
-    };
-    close_run(ended, out, err)
+    let written = out.write_all(page.as_bytes());
+    close_text(written, out, err)
 }
 
 /// Says which pages there are, where there is none of this name.
@@ -123,7 +120,8 @@ pub fn refuse_page<E: Write>(word: &str, err: &mut E) -> u8
 {
     let _ = writeln!(
         err,
-        "error: no help of '{word}'\n\nThere is help of run, live, session, check, query, schema, shard, join and language, and of the numbers 1 to 15 and 90 to 93."
+        "error: no help of '{}'\n\nThere is help of run, live, session, check, query, schema, shard, join and language, and of the numbers 1 to 15 and 90 to 93.",
+        Plain(word)
     );
     NOTHING_RUN
 }

@@ -215,9 +215,10 @@ Usage: olap query [OPTIONS] 'SELECT ..' FILE...
 The files are read as parts of one table. It has the name of the first file, in upper case and without its
 ending, where that is a name, else T; and the columns of the first header, in upper case and with _ for signs
 and blanks, so that `Order Date` is ORDER_DATE. A column is INT where each of its fields is empty or an integer
-of 64 bits, else TEXT. The key is the first column without an empty field in which no value comes twice; where
-there is none, a first column N counts the records. Of a file of more than 16 columns only those are read that
-the query names. `olap schema FILE` shows the table; `olap help language` tells of queries.
+of 64 bits without a zero in front, else TEXT. The key is the first column without an empty field in which no
+value comes twice; where there is none, a first column N counts the records. Of a file of more than 16 columns
+only those are read that the query names. `olap schema FILE` shows the table; `olap help language` tells of
+queries.
 
 Options:
       --columns LIST   Columns by their names in the header, as A,B=Other Name, which the query calls A and B
@@ -225,6 +226,8 @@ Options:
       --number N       Name of a first column that counts records, as the key
       --null WORD      Word that stands for NULL, beside an empty field
       --trim           Leave out white space at both ends of fields
+      --lenient-quotes Read quotes as they stand; without it a file is refused that opens one and never closes it,
+                       has text after a closing one, or has one in a field that does not begin with one
       --order LIST     Columns of the answer by which its rows come, as 'SUM(UNITS) desc, REGION'
       --limit N        Most rows of the answer
       --workers N      Workers, 1 to 64 [default: as many as processors]
@@ -260,6 +263,8 @@ Options:
       --number N       Name of a first column that counts records, as the key
       --null WORD      Word that stands for NULL, beside an empty field
       --trim           Leave out white space at both ends of fields
+      --lenient-quotes Read quotes as they stand; without it a file is refused that opens one and never closes it,
+                       has text after a closing one, or has one in a field that does not begin with one
   -h, --help           Print help
 
 Example:

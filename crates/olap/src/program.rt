@@ -1,5 +1,5 @@
 //! The program's whole deed over any files, reader and writers: `main` calls it with those of the system.
-ghost use Rattle.std.specs.Prelude.{◌≡◌, ◌⊎◌, [], map, string_bytes};
+ghost use Rattle.std.specs.Prelude.{◌≡◌, ◌⊎◌, [], IfOk, false, map, string_bytes, true};
 ghost use Rattle.std.specs.Io.Buffered.{writer_buffer, writer_contents};
 ghost use Rattle.std.specs.Io.KnownBytes.{Keeps};
 ghost use Rattle.script.specs.Endings.{BeginsToWrite, Writes};
@@ -9,11 +9,15 @@ ghost use Rattle.script.specs.Hows.{hash_of_choice};
 ghost use Rattle.script.specs.Stops.{HoweverFinished};
 ghost use Rattle.script.specs.Viewers.{IsRunBy, asked_of};
 ghost use Rattle.command.specs.Jobs.{IsHelp};
-ghost use Rattle.olap.specs.Programs.{AskForHelp, AskToWrite, IsOutputOf, IsOutputOfJob};
+ghost use Rattle.olap.specs.Programs.{AskForHelp, AskToServe, AskToWrite, IsOutputOf, IsOutputOfJob, JobServes, Serves, ServesBy};
+ghost use Rattle.olap.specs.Answering.{Answers};
+ghost use Rattle.reasons.specs.Books.{declared_in, lines_in};
 
-use crate::close::{NOTHING_RUN, WRITTEN, close_finished};
+use crate::answering::answers;
+use crate::close::{NOTHING_RUN, STOPPED, WRITTEN, close_finished, close_text, end_early};
 use crate::explaining::{Explaining, Told};
 use crate::input::{Folder, Input, Unread, Unreadable, read_named};
+use crate::plain::say;
 use crate::progress::Progress;
 use crate::tell::{Errors, Renew, Screen};
 use crate::telling::{Ending, Telling};
@@ -21,9 +25,10 @@ use command::job::{Job, WordsFault};
 use command::words::job_of;
 use crew::Open;
 use forms::Form;
+use reasons::Reasons;
 use report::Pour;
-use script::{Finish, HashChoice, How, Manner, OnRefusal, Setup, Viewing, run_in};
-use std::alloc::Global;
+use script::{Ended, Finish, HashChoice, How, Manner, OnRefusal, Setup, Viewing, run_in};
+use std::alloc::{AllocError, Global};
 use std::io::{BufWriter, Read, Write};
 use std::sync::Wait;
 use std::thread::Threads;
@@ -33,10 +38,10 @@ use std::time::Clock;
 /// program's status and the writer back. What a run writes goes to `out`, and so does help; why there
 /// is no run, or why it ended early, goes to `err`.
 ///
-/// At 0 the output of that run was written whole, or help was asked for; where the run is strict, no line
-/// was refused. At 1 a strict run stopped after the first refused line, and its output up to that line was
-/// written. At 2 nothing was run, since the words are refused or a file can't be read; at 3 the run ended
-/// early. `rt` starts the threads of a report's workers, and has the standard error to which reasons go, where the words
+/// At 0 the output of that run was written whole, or the help that was asked for; where the run is strict, no line
+/// was refused, and neither was the query of its viewers. At 1 a strict run stopped after the first refused line, and its output up
+/// to that line was written; or all was written, and the viewers of the run are refused. At 2 nothing was run, since the words are refused or a file can't be read; at 3 the run ended
+/// early, or the help could not be written. `rt` starts the threads of a report's workers, and has the standard error to which reasons go, where the words
 /// ask for them by `--explain`, and how far the run is, where they ask for that by `--progress`, and the clock for it.
 pub fn run_words<
     F: Folder,
@@ -54,12 +59,13 @@ pub fn run_words<
     ensures status { (result.0 ≡ 0) ⊎ ((result.0 ≡ 1) ⊎ ((result.0 ≡ 2) ⊎ (result.0 ≡ 3))) }
     ensures written { result.0 ≡ 0 → AskForHelp (map string_bytes given.now)
         ⊎ Writes (AskToWrite (F.file folder.now) (map string_bytes given.now) Finish.Through) (writer_contents W.contents out) (writer_contents W.contents result.1) }
-    ensures stopped { result.0 ≡ 1 → Writes (AskToWrite (F.file folder.now) (map string_bytes given.now) Finish.Stopped) (writer_contents W.contents out) (writer_contents W.contents result.1) }
-    ensures flushed { result.0 ≡ 0 → AskForHelp (map string_bytes given.now) ⊎ (writer_buffer result.1 ≡ []) }
-    ensures flushed_stopped { result.0 ≡ 1 → writer_buffer result.1 ≡ [] }
+    ensures served { result.0 ≡ 0 → AskForHelp (map string_bytes given.now) ⊎ AskToServe (F.file folder.now) (map string_bytes given.now) true }
+    ensures stopped { result.0 ≡ 1 → Writes (AskToWrite (F.file folder.now) (map string_bytes given.now) Finish.Stopped) (writer_contents W.contents out) (writer_contents W.contents result.1)
+        ⊎ (Writes (AskToWrite (F.file folder.now) (map string_bytes given.now) Finish.Through) (writer_contents W.contents out) (writer_contents W.contents result.1) × AskToServe (F.file folder.now) (map string_bytes given.now) false) }
+    ensures flushed { (result.0 ≡ 0) ⊎ (result.0 ≡ 1) → writer_buffer result.1 ≡ [] }
     ensures nothing { result.0 ≡ 2 → Keeps (writer_contents W.contents out) (writer_contents W.contents result.1) }
-    ensures beginning { result.0 ≡ 3
-        → BeginsToWrite (HoweverFinished (AskToWrite (F.file folder.now) (map string_bytes given.now))) (writer_contents W.contents out) (writer_contents W.contents result.1) }
+    ensures beginning { result.0 ≡ 3 → AskForHelp (map string_bytes given.now)
+        ⊎ BeginsToWrite (HoweverFinished (AskToWrite (F.file folder.now) (map string_bytes given.now))) (writer_contents W.contents out) (writer_contents W.contents result.1) }
 {
     match job_of(alloc, given) {
         Ok(job) => run_job(rt, alloc, &job, folder, out, err),
@@ -84,7 +90,9 @@ fn run_job<
 ) -> (u8, BufWriter<W>)
     ensures status { (result.0 ≡ 0) ⊎ ((result.0 ≡ 1) ⊎ ((result.0 ≡ 2) ⊎ (result.0 ≡ 3))) }
     ensures written { result.0 ≡ 0 → Writes (IsOutputOfJob (F.file folder.now) job.now Finish.Through) (writer_contents W.contents out) (writer_contents W.contents result.1) }
-    ensures stopped { result.0 ≡ 1 → Writes (IsOutputOfJob (F.file folder.now) job.now Finish.Stopped) (writer_contents W.contents out) (writer_contents W.contents result.1) }
+    ensures served { result.0 ≡ 0 → JobServes (F.file folder.now) job.now true }
+    ensures stopped { result.0 ≡ 1 → Writes (IsOutputOfJob (F.file folder.now) job.now Finish.Stopped) (writer_contents W.contents out) (writer_contents W.contents result.1)
+        ⊎ (Writes (IsOutputOfJob (F.file folder.now) job.now Finish.Through) (writer_contents W.contents out) (writer_contents W.contents result.1) × JobServes (F.file folder.now) job.now false) }
     ensures flushed { (result.0 ≡ 0) ⊎ (result.0 ≡ 1) → writer_buffer result.1 ≡ [] }
     ensures nothing { result.0 ≡ 2 → Keeps (writer_contents W.contents out) (writer_contents W.contents result.1) }
     ensures beginning { result.0 ≡ 3 → BeginsToWrite (HoweverFinished (IsOutputOfJob (F.file folder.now) job.now)) (writer_contents W.contents out) (writer_contents W.contents result.1) }
@@ -93,20 +101,96 @@ fn run_job<
     let Ok(room) = Vec::with_capacity(alloc, job.parts.len()) else {
         let name = job.script.as_str();
         let why = Unread::Memory;
-        return (cannot_read(Unreadable { name, why }, err), out);
+        let unread = Unreadable { name, why };
+        return (cannot_read_for_run(unread, job.explains, err), out);
     };
     match read_named(alloc, folder, job, room) {
         Ok(input) => {
             let teller = errors_of(rt, job.tells_progress);
-            run_told(rt, alloc, &teller, job, &input, out, err)
+            run_served(rt, alloc, &teller, job, &input, out, err)
         }
-        Err(unread) => (cannot_read(unread, err), out),
+        Err(unread) => (cannot_read_for_run(unread, job.explains, err), out),
     }
 }
 
 /// Where a run tells reasons, and may tell how far it is: a line is written anew on a screen, where it tells that.
 pub fn errors_of<'r, R: Screen>(rt: &'r R, tells: bool) -> Errors<'r, R> {
     Errors::new(rt, tells && rt.is_screen())
+}
+
+/// Runs a job over what was read for it, and gives the program's status and the writer back, as [`run_told`] does; and where all was
+/// written of a strict run whose viewers are refused, 1.
+fn run_served<'a, T: Renew + Sync, W: Write + Drop, E: Write, R: Threads + Wait + Sync + Clock>(
+    rt: &'a R,
+    alloc: Global,
+    teller: &'a T,
+    job: &'a Job,
+    input: &'a Input,
+    out: BufWriter<W>,
+    err: &mut E,
+) -> (u8, BufWriter<W>)
+    ensures status { (result.0 ≡ 0) ⊎ ((result.0 ≡ 1) ⊎ (result.0 ≡ 3)) }
+    ensures written { result.0 ≡ 0 → Writes (IsRunBy job.now.on_refusal (hash_of_choice job.now.hash) (givens_in (in_form job.now.form) job.now.how.rows input.now.parts.items) job.now.live input.now.script.items Finish.Through)
+        (writer_contents W.contents out) (writer_contents W.contents result.1) }
+    ensures served { result.0 ≡ 0 → ServesBy job.now.on_refusal job.now.live input.now.script.items true }
+    ensures stopped { result.0 ≡ 1 → Writes (IsRunBy job.now.on_refusal (hash_of_choice job.now.hash) (givens_in (in_form job.now.form) job.now.how.rows input.now.parts.items) job.now.live input.now.script.items Finish.Stopped)
+        (writer_contents W.contents out) (writer_contents W.contents result.1)
+        ⊎ (Writes (IsRunBy job.now.on_refusal (hash_of_choice job.now.hash) (givens_in (in_form job.now.form) job.now.how.rows input.now.parts.items) job.now.live input.now.script.items Finish.Through)
+        (writer_contents W.contents out) (writer_contents W.contents result.1) × ServesBy job.now.on_refusal job.now.live input.now.script.items false) }
+    ensures flushed { (result.0 ≡ 0) ⊎ (result.0 ≡ 1) → writer_buffer result.1 ≡ [] }
+    ensures beginning { BeginsToWrite (HoweverFinished (IsRunBy job.now.on_refusal (hash_of_choice job.now.hash) (givens_in (in_form job.now.form) job.now.how.rows input.now.parts.items) job.now.live input.now.script.items))
+        (writer_contents W.contents out) (writer_contents W.contents result.1) }
+{
+    let (status, out) = run_told(rt, alloc, teller, job, input, out, err);
+    if status != WRITTEN {
+        return (status, out);
+    }
+    (close_served(alloc, job, input, err), out)
+}
+
+/// The status of a run of which all was written: 1 where it is strict, and its viewers are refused, which `err` tells; and 3 where
+/// memory was refused to the look whether they are.
+fn close_served<E: Write>(alloc: Global, job: &Job, input: &Input, err: &mut E) -> u8
+    ensures status { (result ≡ 0) ⊎ ((result ≡ 1) ⊎ (result ≡ 3)) }
+    ensures served { result ≡ 0 → ServesBy job.now.on_refusal job.now.live input.now.script.items true }
+    ensures refused { result ≡ 1 → ServesBy job.now.on_refusal job.now.live input.now.script.items false }
+{
+    match serves(alloc, job, input) {
+        Ok(true) => WRITTEN,
+        Ok(false) => {
+            let _ = writeln!(err, "olap: the query of the viewers is refused");
+            STOPPED
+        }
+        Err(_) => end_early(Ended::OutOfMemory, err),
+    }
+}
+
+/// Whether the table that the script declares answers the query of its viewers. Nobody asks that of a run that is not strict.
+fn serves(alloc: Global, job: &Job, input: &Input) -> Result<bool, AllocError>
+    ensures { IfOk result (ServesBy job.now.on_refusal job.now.live input.now.script.items) }
+{
+    match job.on_refusal {
+        OnRefusal::GoesOn => Ok(true),
+        OnRefusal::Stops => serves_viewers(alloc, job, input),
+    }
+}
+
+/// Whether the table that the script declares answers the query of its viewers, where it has some.
+fn serves_viewers(alloc: Global, job: &Job, input: &Input) -> Result<bool, AllocError>
+    ensures { IfOk result (Serves job.now.live input.now.script.items) }
+{
+    match &job.live {
+        None => Ok(true),
+        Some(live) => script_answers(alloc, input, live.query.as_str()),
+    }
+}
+
+/// Whether the table that the script declares answers a query.
+fn script_answers(alloc: Global, input: &Input, query: &str) -> Result<bool, AllocError>
+    ensures { IfOk result (Answers (declared_in (lines_in input.now.script.items)) query.now) }
+{
+    let reasons = Reasons::of(alloc, input.script.as_slice(), input.parts.as_slice())?;
+    answers(alloc, query, reasons.schema())
 }
 
 /// Runs a job over what was read for it, and gives the program's status and the writer back, as [`run_input`] does. `teller`
@@ -181,8 +265,9 @@ pub fn run_standard_input<I: Read + Drop, W: Write + Drop, E: Write, R: Threads 
     let mut script = Vec::new(alloc);
     if let Err(error) = input.read_to_end(&mut script) {
         let name = "-";
-        let why = Unread::from(error.kind());
-        return (cannot_read(Unreadable { name, why }, err), out);
+        let why = Unread::from(error);
+        let unread = Unreadable { name, why };
+        return (cannot_read_for_run(unread, false, err), out);
     }
     let parts = Vec::new(alloc);
     let input = Input { script, parts };
@@ -251,26 +336,44 @@ pub fn cannot_read<E: Write>(unread: Unreadable<'_>, err: &mut E) -> u8
     ensures { result ≡ 2 }
 {
     let Unreadable { name, why } = unread;
-    let _ = writeln!(err, "olap: cannot read {name}: {why}");
+    say(err, format_args!("olap: cannot read {name}: {why}"));
     NOTHING_RUN
 }
 
-/// Says why the words are refused. Help, which is no refusal, goes to `out`.
+/// Says which file of a run can't be read, and on a line of its own why, where the run explains: what reads the first line finds the
+/// name at its end.
+fn cannot_read_for_run<E: Write>(unread: Unreadable<'_>, explains: bool, err: &mut E) -> u8
+    ensures { result ≡ 2 }
+{
+    let Unreadable { name, why } = unread;
+    let _ = writeln!(err, "olap: cannot read {name}");
+    if explains {
+        say(err, format_args!("olap: {name}: {why}"));
+    }
+    NOTHING_RUN
+}
+
+/// Says why the words are refused. Help, which is no refusal, goes to `out`: the status is 0 where it was written, and 3 where it
+/// could not be.
 pub(crate) fn refuse<W: Write + Drop, E: Write>(
     fault: &WordsFault,
     mut out: BufWriter<W>,
     err: &mut E,
 ) -> (u8, BufWriter<W>)
-    ensures help { IsHelp fault.now → result.0 ≡ 0 }
+    ensures status { (result.0 ≡ 0) ⊎ ((result.0 ≡ 2) ⊎ (result.0 ≡ 3)) }
+    ensures help { IsHelp fault.now → (result.0 ≡ 0) ⊎ (result.0 ≡ 3) }
     ensures refused { (IsHelp fault.now → ⊥) → result.0 ≡ 2 }
     ensures only { result.0 ≡ 0 → IsHelp fault.now }
+    ensures only_early { result.0 ≡ 3 → IsHelp fault.now }
+    ensures flushed { result.0 ≡ 0 → writer_buffer result.1 ≡ [] }
+    ensures kept { (result.1 ≡ out) ⊎ IsHelp fault.now }
     ensures nothing { result.0 ≡ 2 → Keeps (writer_contents W.contents out) (writer_contents W.contents result.1) }
 {
     if let WordsFault::Clap(error) = fault {
         if !error.use_stderr() {
-            let _ = write!(out, "{error}");
-            let _ = out.flush();
-            return (WRITTEN, out);
+            let written = write!(out, "{error}");
+            let status = close_text(written, &mut out, err);
+            return (status, out);
         }
     }
     let _ = write!(err, "{fault}");
@@ -283,7 +386,7 @@ pub fn show_help<J: Drop, W: Write + Drop, E: Write>(
     out: BufWriter<W>,
     err: &mut E,
 ) -> u8
-    ensures { (result ≡ 0) ⊎ (result ≡ 2) }
+    ensures { (result ≡ 0) ⊎ ((result ≡ 2) ⊎ (result ≡ 3)) }
 {
     match asked {
         Ok(_) => WRITTEN,

@@ -15,7 +15,7 @@ pub struct Replies<W: Write + Drop> {
 }
 
 impl<W: Write + Drop> Replies<W> {
-    /// Nothing has failed so far. It takes no memory.
+    /// Nothing has failed so far.
     pub fn new(writer: BufWriter<W>) -> Replies<W>
         ensures writer { result.writer ≡ writer }
         ensures faults { result.faults ≡ 0 }
@@ -32,7 +32,7 @@ impl<W: Write + Drop> Replies<W> {
         self.writer.flush().map_err(|_| OutFault)
     }
 
-    /// The writer, with what it has taken. It takes no memory.
+    /// The writer, with what it has taken.
     pub fn into_inner(self) -> BufWriter<W>
         ensures { result ≡ self.writer }
     {

@@ -1,6 +1,6 @@
 //! The command `session`: its words, its parts, and what it tells on a terminal.
-ghost use Rattle.std.specs.Prelude.{◌≡◌, ◌⊎◌, map, string_bytes};
-ghost use Rattle.std.specs.Io.Buffered.{writer_contents};
+ghost use Rattle.std.specs.Prelude.{◌≡◌, ◌⊎◌, [], map, string_bytes};
+ghost use Rattle.std.specs.Io.Buffered.{writer_buffer, writer_contents};
 ghost use Rattle.std.specs.Io.KnownBytes.{Keeps};
 ghost use Rattle.script.specs.Endings.{BeginsToWrite, Writes};
 ghost use Rattle.script.specs.Givens.{givens_in};
@@ -26,9 +26,9 @@ use std::thread::Threads;
 /// gives the program's status and the writer back. What the session writes goes to `out`, and so does help; why there is none,
 /// or why it ended early, goes to `err`.
 ///
-/// At 0 all lines of the input were answered, or help was asked for; at 1 a strict session has ended after a refused line; at 2
-/// no line was read, since the words are refused, there are too many parts, or one can't be read; at 3 the session ended early.
-/// Where standard input is a terminal, the standard error of `rt` has a prompt before each line, and tells of each publish.
+/// At 0 all lines of the input were answered, or help was written; at 1 a strict session has ended after a refused line; at 2
+/// no line was read, since the words are refused, there are too many parts, or one can't be read; at 3 the session ended early, or the help could not
+/// be written. Where standard input is a terminal, the standard error of `rt` has a prompt before each line, and tells of each publish.
 pub fn converse<
     F: Folder,
     I: Read + Drop,
@@ -48,8 +48,10 @@ pub fn converse<
     ensures written { result.0 ≡ 0 → AskForSessionHelp (map string_bytes words.now)
         ⊎ Writes (AskToTalk (F.file folder.now) (map string_bytes words.now) (IsTalk (I.remaining input) Through)) (writer_contents W.contents out) (writer_contents W.contents result.1) }
     ensures stopped { result.0 ≡ 1 → Writes (AskToTalk (F.file folder.now) (map string_bytes words.now) (IsTalk (I.remaining input) Stopped)) (writer_contents W.contents out) (writer_contents W.contents result.1) }
+    ensures flushed { (result.0 ≡ 0) ⊎ (result.0 ≡ 1) → writer_buffer result.1 ≡ [] }
     ensures nothing { result.0 ≡ 2 → Keeps (writer_contents W.contents out) (writer_contents W.contents result.1) }
-    ensures beginning { result.0 ≡ 3 → BeginsToWrite (AskToTalk (F.file folder.now) (map string_bytes words.now) (IsTalkSoFar (I.remaining input))) (writer_contents W.contents out) (writer_contents W.contents result.1) }
+    ensures beginning { result.0 ≡ 3 → AskForSessionHelp (map string_bytes words.now)
+        ⊎ BeginsToWrite (AskToTalk (F.file folder.now) (map string_bytes words.now) (IsTalkSoFar (I.remaining input))) (writer_contents W.contents out) (writer_contents W.contents result.1) }
 {
     match session_job(alloc, words) {
         Ok(job) => with_parts(rt, alloc, &job, folder, input, out, err),
@@ -76,6 +78,7 @@ fn with_parts<
     ensures status { (result.0 ≡ 0) ⊎ ((result.0 ≡ 1) ⊎ ((result.0 ≡ 2) ⊎ (result.0 ≡ 3))) }
     ensures written { result.0 ≡ 0 → Writes (IsOfJob (F.file folder.now) job.now (IsTalk (I.remaining input) Through)) (writer_contents W.contents out) (writer_contents W.contents result.1) }
     ensures stopped { result.0 ≡ 1 → Writes (IsOfJob (F.file folder.now) job.now (IsTalk (I.remaining input) Stopped)) (writer_contents W.contents out) (writer_contents W.contents result.1) }
+    ensures flushed { (result.0 ≡ 0) ⊎ (result.0 ≡ 1) → writer_buffer result.1 ≡ [] }
     ensures nothing { result.0 ≡ 2 → Keeps (writer_contents W.contents out) (writer_contents W.contents result.1) }
     ensures beginning { result.0 ≡ 3 → BeginsToWrite (IsOfJob (F.file folder.now) job.now (IsTalkSoFar (I.remaining input))) (writer_contents W.contents out) (writer_contents W.contents result.1) }
 {
@@ -119,6 +122,7 @@ fn hold_job<'a, I: Read + Drop, W: Write + Drop, E: Write, G: Prompt, R: Threads
     ensures status { (result.0 ≡ 0) ⊎ ((result.0 ≡ 1) ⊎ (result.0 ≡ 3)) }
     ensures written { result.0 ≡ 0 → Writes (IsTalk (I.remaining input) Through (hash_of_choice job.now.hash) (givens_in manner.now job.now.how.rows parts.now) job.now.on_refusal) (writer_contents W.contents out) (writer_contents W.contents result.1) }
     ensures stopped { result.0 ≡ 1 → Writes (IsTalk (I.remaining input) Stopped (hash_of_choice job.now.hash) (givens_in manner.now job.now.how.rows parts.now) job.now.on_refusal) (writer_contents W.contents out) (writer_contents W.contents result.1) }
+    ensures flushed { (result.0 ≡ 0) ⊎ (result.0 ≡ 1) → writer_buffer result.1 ≡ [] }
     ensures beginning { result.0 ≡ 3 → BeginsToWrite (IsTalkSoFar (I.remaining input) (hash_of_choice job.now.hash) (givens_in manner.now job.now.how.rows parts.now) job.now.on_refusal) (writer_contents W.contents out) (writer_contents W.contents result.1) }
 {
     let holding = Holding {

@@ -1,26 +1,28 @@
 //! The command `run --shard`: what one shard of the table tells of a script.
-ghost use Rattle.std.specs.Prelude.{◌≡◌, ◌⊎◌, IfOk, map, string_bytes};
-ghost use Rattle.std.specs.Io.Buffered.{writer_contents};
+ghost use Rattle.std.specs.Prelude.{◌≡◌, ◌⊎◌, [], IfOk, OnOk, map, string_bytes};
+ghost use Rattle.std.specs.Io.Buffered.{writer_buffer, writer_contents};
 ghost use Rattle.std.specs.Io.KnownBytes.{Keeps};
-ghost use Rattle.olap.specs.Partials.{AskForShardHelp, AskToTell, IsShardAnswer, IsShardText, IsShardTold, IsTextWritten};
+ghost use Rattle.olap.specs.Partials.{AskForShardHelp, AskToSpare, AskToTell, IsShardAnswer, IsShardText, IsShardTold, IsSpared, IsTextWritten};
 
 use crate::close::{NOTHING_RUN, WRITTEN, end_early};
 use crate::input::{Folder, Input, Unread, Unreadable, read_named};
+use crate::plain::say;
 use crate::program::{cannot_read, refuse};
-use crate::written::{Writable, cannot_write};
+use crate::written::{Untaken, Writable, cannot_write, may_not_write};
 use cells::Fnv;
 use command::shard_words::{ShardJob, shard_job};
 use script::{Ended, MAX_PARTS, MAX_SCRIPT_BYTES, OwnUntold, Untold};
 use shards::{Division, Document};
 use std::alloc::{AllocError, Global};
 use std::io::{BufWriter, Write};
-use std::str;
+use std::{slice, str};
 
 /// Tells of the shard that the words after `run` ask for, over the files that they name, writes that to the file that they name for
 /// it, and gives the program's status and the writer back. Help goes to `out`, and else nothing; why nothing is told goes to `err`.
 ///
-/// At 0 the file was written, or help was asked for. At 2 nothing was: the words are refused, a file can't be read, or the shard
-/// can't tell of the script. At 3 memory was refused, or the file can't be written.
+/// At 0 the file was written, or help was. At 2 nothing was: the words are refused, the file would take the place of one that is
+/// read or of what is no regular file, a file can't be read, or the shard can't tell of the script. At 3 memory was refused, or the
+/// file or the help can't be written.
 pub fn run_shard<F: Folder, S: Writable, W: Write + Drop, E: Write>(
     alloc: Global,
     words: &[String],
@@ -33,7 +35,10 @@ pub fn run_shard<F: Folder, S: Writable, W: Write + Drop, E: Write>(
     ensures told { result.0 ≡ 0 → AskForShardHelp (map string_bytes words.now)
         ⊎ AskToTell (F.file folder.now) (S.writes files.old files.new) (map string_bytes words.now) }
     ensures nothing { result.0 ≡ 2 → files.new ≡ files.old }
-    ensures silent { (result.0 ≡ 2) ⊎ (result.0 ≡ 3) → Keeps (writer_contents W.contents out) (writer_contents W.contents result.1) }
+    ensures spared { (files.new ≡ files.old) ⊎ AskToSpare (S.may_take files.old) (map string_bytes words.now) }
+    ensures silent { result.0 ≡ 2 → Keeps (writer_contents W.contents out) (writer_contents W.contents result.1) }
+    ensures untouched { AskForShardHelp (map string_bytes words.now) ⊎ (result.1 ≡ out) }
+    ensures flushed { result.0 ≡ 0 → (result.1 ≡ out) ⊎ (writer_buffer result.1 ≡ []) }
 {
     match shard_job(alloc, words) {
         Ok(job) => (tell_job(alloc, &job, folder, files, err), out),
@@ -52,7 +57,11 @@ fn tell_job<F: Folder, S: Writable, E: Write>(
     ensures status { (result ≡ 0) ⊎ ((result ≡ 2) ⊎ (result ≡ 3)) }
     ensures told { result ≡ 0 → IsShardTold (F.file folder.now) (S.writes files.old files.new) job.now }
     ensures nothing { result ≡ 2 → files.new ≡ files.old }
+    ensures spared { (files.new ≡ files.old) ⊎ IsSpared (S.may_take files.old) job.now }
 {
+    if let Err(why) = look(job, &*files) {
+        return may_not_write(job.partials.as_str(), why, err);
+    }
     // Where there is no room for the parts, no file is read, and the first is named.
     let Ok(room) = Vec::with_capacity(alloc, job.run.parts.len()) else {
         let name = job.run.script.as_str();
@@ -63,6 +72,15 @@ fn tell_job<F: Folder, S: Writable, E: Write>(
         Ok(input) => tell_input(alloc, job, &input, files, err),
         Err(unread) => cannot_read(unread, err),
     }
+}
+
+/// Looks whether the file that a job names may be written, beside those that it reads.
+fn look<S: Writable>(job: &ShardJob, files: &S) -> Result<(), Untaken>
+    ensures { OnOk result (IsSpared (S.may_take files.now) job.now) }
+{
+    let name = job.partials.as_str();
+    files.look(name, slice::from_ref(&job.run.script))?;
+    files.look(name, job.run.parts.as_slice())
 }
 
 /// Tells of a shard over what was read for it.
@@ -176,18 +194,22 @@ fn refuse_script<E: Write>(job: &ShardJob, input: &Input, why: Textless, err: &m
     ensures { (result ≡ 2) ⊎ (result ≡ 3) }
 {
     let name = job.run.script.as_str();
-    let _ = match why {
+    match why {
         Textless::Untold(OwnUntold::Untold(why)) => return refuse_lines(name, input, why, err),
-        Textless::Untold(OwnUntold::Put { line }) => writeln!(
+        Textless::Untold(OwnUntold::Put { line }) => say(
             err,
-            "olap: {name}:{line}: a row is put, and with --own-parts each row is in the parts of one shard"
+            format_args!(
+                "olap: {name}:{line}: a row is put, and with --own-parts each row is in the parts of one shard"
+            ),
         ),
-        Textless::Untold(OwnUntold::Load { line, fault }) => writeln!(
+        Textless::Untold(OwnUntold::Load { line, fault }) => say(
             err,
-            "olap: {name}:{line}: the load is refused ({fault}), and with --own-parts no other shard knows of it"
+            format_args!(
+                "olap: {name}:{line}: the load is refused ({fault}), and with --own-parts no other shard knows of it"
+            ),
         ),
-        Textless::NotUtf8 => writeln!(err, "olap: {name}: it is not UTF-8"),
-    };
+        Textless::NotUtf8 => say(err, format_args!("olap: {name}: it is not UTF-8")),
+    }
     NOTHING_RUN
 }
 
@@ -195,22 +217,18 @@ fn refuse_script<E: Write>(job: &ShardJob, input: &Input, why: Textless, err: &m
 fn refuse_lines<E: Write>(name: &str, input: &Input, why: Untold, err: &mut E) -> u8
     ensures { (result ≡ 2) ⊎ (result ≡ 3) }
 {
-    let _ = match why {
+    match why {
         Untold::OutOfMemory => return end_early(Ended::OutOfMemory, err),
         Untold::TooMuch => return refuse_size(name, input, err),
-        Untold::Shape { line } => {
-            writeln!(
-                err,
-                "olap: {name}:{line}: a shape is asked for, which no shard can tell"
-            )
-        }
-        Untold::TooManyRows { line } => {
-            writeln!(
-                err,
-                "olap: {name}:{line}: the shard would have more rows than --rows lets in"
-            )
-        }
-    };
+        Untold::Shape { line } => say(
+            err,
+            format_args!("olap: {name}:{line}: a shape is asked for, which no shard can tell"),
+        ),
+        Untold::TooManyRows { line } => say(
+            err,
+            format_args!("olap: {name}:{line}: the shard would have more rows than --rows lets in"),
+        ),
+    }
     NOTHING_RUN
 }
 
@@ -219,16 +237,16 @@ fn refuse_size<E: Write>(name: &str, input: &Input, err: &mut E) -> u8
     ensures { result ≡ 2 }
 {
     let count = input.parts.len();
-    let _ = if count > MAX_PARTS {
-        writeln!(
+    if count > MAX_PARTS {
+        say(
             err,
-            "olap: at most {MAX_PARTS} parts are read, and {count} were given"
-        )
+            format_args!("olap: at most {MAX_PARTS} parts are read, and {count} were given"),
+        );
     } else {
-        writeln!(
+        say(
             err,
-            "olap: {name}: it has more than {MAX_SCRIPT_BYTES} bytes"
-        )
-    };
+            format_args!("olap: {name}: it has more than {MAX_SCRIPT_BYTES} bytes"),
+        );
+    }
     NOTHING_RUN
 }

@@ -69,7 +69,7 @@ impl From<Ended> for Broken {
 
 impl From<io::Error> for Broken {
     fn from(error: io::Error) -> Broken {
-        match Unread::from(error.kind()) {
+        match Unread::from(error) {
             Unread::Memory => Broken::Ended(Ended::OutOfMemory),
             why => Broken::Unread(why),
         }

@@ -1,6 +1,8 @@
 //! Where the program tells what is no output of a run: one line after another.
 
+use crate::plain::Plain;
 use std::fmt::Display;
+use std::io::ErrorKind;
 use std::sync::atomic::Ordering::SeqCst;
 use std::sync::atomic::{AtomicBool, AtomicU64};
 
@@ -31,7 +33,7 @@ pub trait Screen {
     fn hears_terminal(&self) -> bool;
 }
 
-/// Lines that go to standard error. Nobody may read it any more, so a failure to write changes nothing.
+/// Lines that go to standard error, [plainly](Plain). Nobody may read it any more, so a failure to write changes nothing.
 #[derive(Drop)]
 pub struct Errors<'r, R> {
     rt: &'r R,
@@ -47,6 +49,7 @@ impl<'r, R> Errors<'r, R> {
 
 impl<'r, R: Eprint> Tell for Errors<'r, R> {
     fn tell<D: Display + Drop>(&self, line: D) {
+        let line = Plain(line);
         let _ = if self.renews {
             // (in the place of the line that is written anew, whose rest is erased)
             self.rt.eprint(format_args!("\r{line}\x1b[K\n"))
@@ -62,16 +65,18 @@ impl<'r, R: Eprint> Renew for Errors<'r, R> {
     }
 
     fn renew<D: Display + Drop>(&self, line: D) {
+        let line = Plain(line);
         let _ = self.rt.eprint(format_args!("\r{line}\x1b[K"));
     }
 }
 
-/// Lines that go to standard output, each at once, and are counted.
+/// Lines that go to standard output, [plainly](Plain), each at once, and are counted.
 #[derive(Drop)]
 pub struct Output<'r, R> {
     rt: &'r R,
     count: AtomicU64,
     has_failed: AtomicBool,
+    is_closed: AtomicBool,
 }
 
 impl<'r, R> Output<'r, R> {
@@ -81,6 +86,7 @@ impl<'r, R> Output<'r, R> {
             rt,
             count: AtomicU64::new(0),
             has_failed: AtomicBool::new(false),
+            is_closed: AtomicBool::new(false),
         }
     }
 
@@ -93,13 +99,21 @@ impl<'r, R> Output<'r, R> {
     pub fn has_failed(&self) -> bool {
         self.has_failed.load(SeqCst)
     }
+
+    /// Whether one could not be written since nobody reads standard output any more.
+    pub fn is_closed(&self) -> bool {
+        self.is_closed.load(SeqCst)
+    }
 }
 
 impl<'r, R: Print> Tell for Output<'r, R> {
     fn tell<D: Display + Drop>(&self, line: D) {
         self.count.fetch_add(1, SeqCst);
-        if self.rt.println(line).is_err() {
+        if let Err(error) = self.rt.println(Plain(line)) {
             self.has_failed.store(true, SeqCst);
+            if error.kind() == ErrorKind::BrokenPipe {
+                self.is_closed.store(true, SeqCst);
+            }
         }
     }
 }

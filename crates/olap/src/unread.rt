@@ -3,7 +3,7 @@
 use crate::asking::shown;
 use crate::tell::Tell;
 use cells::Text;
-use prepare::{Chosen, header_of, is_same_name};
+use prepare::{Chosen, header_of, meant_by};
 use questions::proposal::{FileFault, columns_of_file};
 use questions::question::{Question, Wanted};
 use std::alloc::{AllocError, Global};
@@ -54,9 +54,10 @@ fn tell_others<T: Tell>(
 
 /// The names of a header that are none of those that are chosen, with commas between them.
 fn others(alloc: Global, header: &[Vec<u8>], columns: &[Chosen]) -> Result<String, AllocError> {
+    let read = places_read(alloc, header, columns)?;
     let mut list = String::new(alloc);
     for (place, name) in header.iter().enumerate() {
-        if is_read(header, place, name.as_slice(), columns) {
+        if read.as_slice().contains(&place) {
             continue;
         }
         if !list.is_empty() {
@@ -67,16 +68,22 @@ fn others(alloc: Global, header: &[Vec<u8>], columns: &[Chosen]) -> Result<Strin
     Ok(list)
 }
 
-/// Whether the column of this place and name is read: of two of one name it is the first.
-fn is_read(header: &[Vec<u8>], place: usize, name: &[u8], columns: &[Chosen]) -> bool {
-    let is_second = header
-        .iter()
-        .take(place)
-        .any(|other| is_same_name(other.as_slice(), name));
-    !is_second
-        && columns
-            .iter()
-            .any(|column| is_same_name(column.name.as_bytes(), name))
+/// The places of the columns of a header that are chosen.
+fn places_read(
+    alloc: Global,
+    header: &[Vec<u8>],
+    columns: &[Chosen],
+) -> Result<Vec<usize>, AllocError> {
+    let mut names = Vec::new(alloc);
+    for name in header {
+        names.push(name.as_slice())?;
+    }
+    let mut places = Vec::new(alloc);
+    for column in columns {
+        let meant = meant_by(alloc, column.name.as_bytes(), names.as_slice())?;
+        places.extend_from_slice(meant.as_slice())?;
+    }
+    Ok(places)
 }
 
 /// The list with the name of the column at this place behind it, or with its number where the name can't be shown.

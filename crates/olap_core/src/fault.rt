@@ -15,7 +15,7 @@ pub enum Fault {
 }
 
 impl Fault {
-    /// The number by which a caller is told. It takes no memory.
+    /// The number by which a caller is told.
     pub fn number(self) -> u32
         ensures { result ≡ number_of self }
     {

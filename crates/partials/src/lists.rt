@@ -56,7 +56,7 @@ pub fn pair(alloc: Global, first: Value, second: Value) -> Result<Value, AllocEr
     Ok(Value::from(values))
 }
 
-/// The two values of an array of two. None exactly where it is no such array. It takes no memory.
+/// The two values of an array of two. None exactly where it is no such array.
 pub fn both_of(value: &Value) -> Option<(&Value, &Value)>
     ensures { (a b : Data) → view value.now ≡ array (items_of (a ∷ b ∷ [])) →
         MatchOption result ⊥ (λ both. (view both.0.now ≡ a) × (view both.1.now ≡ b)) }

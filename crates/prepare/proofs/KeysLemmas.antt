@@ -10,7 +10,7 @@ use Rattle.std.specs.Prelude.{◌==◌, cond, not}
 use Rattle.prepare.specs.Files.{Fields}
 use Rattle.prepare.specs.Proposals.{AreKeys, column_of, field_in, is_null}
 
-all_push : {A : Type 0} (P : A → Type 0) (xs : List A) (y : A) → AllByRecursion P xs → P y → AllByRecursion P (xs ++ y ∷ [])
+pub all_push : {A : Type 0} (P : A → Type 0) (xs : List A) (y : A) → AllByRecursion P xs → P y → AllByRecursion P (xs ++ y ∷ [])
 all_push P [] y all last = (last, tt)
 all_push P (x ∷ xs) y all last = (all.0, all_push P xs y all.1 last)
 

@@ -5,6 +5,9 @@ mod KeysLemmas
 mod LawsLemmas
 mod ListedLemmas
 mod PartLemmas
+mod PrintedLemmas
+mod QuotesLemmas
+mod QuotesRunLemmas
 mod ReaderLemmas
 mod RecordsLemmas
 mod RowsLemmas

@@ -17,7 +17,7 @@ use Rattle.prepare.specs.Parts.{IsFault, IsPart, IsTextAfter, Made, and_first, a
 use Rattle.prepare.specs.declared.choice.Choice.{Choice}
 use Rattle.prepare.specs.declared.fault.PrepareFault.{PrepareFault}
 use Rattle.prepare.specs.declared.part.MadePart.{MadePart}
-use Rattle.prepare.specs.declared.fault.PrepareFault.TheVariants.{NoHeader, NoColumn, Uneven, OutOfMemory}
+use Rattle.prepare.specs.declared.fault.PrepareFault.TheVariants.{NoHeader, NoColumn, Quotes, TwoColumns, Uneven, OutOfMemory}
 
 not_equal : (a b : ℕ) → ((eqb a b ≡ true) × (a ≡ b)) ⊎ ((eqb a b ≡ false) × (a ≢ b)) → a ≢ b → (a == b) ≡ false
 not_equal a b (inl same) differ = absurd (differ same.1)
@@ -134,7 +134,9 @@ module _ (choice : Choice) (all later : List Fields) (header : Fields) (took : a
   pub part_unplaced : (fault : PrepareFault) → IsFault (places_of choice.columns (as_read choice header)) fault → IsFault (part_of choice all) fault
   part_unplaced NoHeader told = ap (part_of choice) took ∙ ap (under_header choice header later) told
   part_unplaced (NoColumn place) told = ap (part_of choice) took ∙ ap (under_header choice header later) told
+  part_unplaced (TwoColumns place first second) told = ap (part_of choice) took ∙ ap (under_header choice header later) told
   part_unplaced (Uneven number fields width) told = ap (part_of choice) took ∙ ap (under_header choice header later) told
+  part_unplaced (Quotes fault line) told = told
   part_unplaced OutOfMemory told = tt
 
   module _ (places : List ℕ) (placed : places_of choice.columns (as_read choice header) ≡ Ok places) where
@@ -155,5 +157,7 @@ module _ (choice : Choice) (all later : List Fields) (header : Fields) (took : a
     pub part_fault : (fault : PrepareFault) → IsFault (records_from choice places (length header) 1 later) fault → IsFault (part_of choice all) fault
     part_fault NoHeader told = under ∙ ap (and_first (headed choice.number (words_of choice.columns (as_read choice header)))) told
     part_fault (NoColumn place) told = under ∙ ap (and_first (headed choice.number (words_of choice.columns (as_read choice header)))) told
+    part_fault (TwoColumns place first second) told = under ∙ ap (and_first (headed choice.number (words_of choice.columns (as_read choice header)))) told
     part_fault (Uneven number fields width) told = under ∙ ap (and_first (headed choice.number (words_of choice.columns (as_read choice header)))) told
+    part_fault (Quotes fault line) told = told
     part_fault OutOfMemory told = tt

@@ -1,7 +1,9 @@
 -- What is proposed for the columns of parts: of which type each is, and which is the key.
-use Rattle.std.specs.Prelude.{◌≡◌, ◌<◌, ◌||◌, Bool, ℕ, ℤ, pos, List, [], ◌∷◌, true, false, bytes_eq, drop, is_some, length, map, unwrap_or, if◌then◌else◌}
+use Rattle.std.specs.Prelude.{◌≡◌, ◌==◌, ◌<◌, ◌&&◌, ◌||◌, Bool, ℕ, ℤ, pos, List, [], ◌∷◌, true, false, bytes_eq, drop, length, map, unwrap_or, if◌then◌else◌}
+use Rattle.std.specs.Fmt.{signed_decimal}
 use Rattle.std.specs.Ordering.{int_eq}
 use Rattle.std.specs.List.{AllByRecursion, IsDistinct, flat_map, list_all, slice_index_or}
+use Rattle.std.specs.Option.{option_map_or}
 use Rattle.csv.specs.Records.{field_at}
 use Rattle.csv.specs.Writing.{comma}
 use Rattle.cells.specs.Integers.{integer_of}
@@ -28,11 +30,21 @@ abbrev pub is_null : List ℕ → Bool
 is_null [] = true
 is_null (b ∷ bs) = false
 
--- it is NULL, or spells an integer of 64 bits
-abbrev pub fits_int : List ℕ → Bool
-fits_int field = is_null field || is_some (integer_of field)
+-- it spells an integer of 64 bits as it is printed: without a plus, without a zero in front of digits, and not as -0
+abbrev pub is_printed : List ℕ → Bool
+is_printed field = option_map_or (λ number. bytes_eq (signed_decimal number) field) (integer_of field) false
 
--- INT where each field is NULL or spells an integer, else TEXT
+-- it begins with a zero and goes on, or with a minus and a zero
+abbrev pub is_padded : List ℕ → Bool
+is_padded [] = false
+is_padded (first ∷ []) = false
+is_padded (first ∷ second ∷ rest) = (first == 48) || ((first == 45) && (second == 48))
+
+-- it is NULL, or an integer as it is printed
+abbrev pub fits_int : List ℕ → Bool
+fits_int field = is_null field || is_printed field
+
+-- INT where each field is NULL or an integer as it is printed, else TEXT
 abbrev pub type_of : Fields → ColumnType
 type_of fields = if list_all fits_int fields then Int else Text
 

@@ -5,7 +5,8 @@ use cells::Text;
 /// A column of a file that is chosen.
 #[derive(Debug, Drop)]
 pub struct Chosen {
-    /// Its name in the file's header, in whatever case.
+    /// Its name in the file's header: that of the one column that has exactly this name, or where none has, of the one that has it in
+    /// another case.
     pub name: Text,
     /// The name that it gets in the table.
     pub word: Text,
@@ -24,6 +25,9 @@ pub struct Choice {
     pub counted: u64,
     /// The word that stands for NULL: a field that is this, in quotes or not, is empty in the part.
     pub null: Option<Text>,
+    /// Whether quotes are read as they stand. Else a file is refused whose quotes are not as RFC 4180 has them: a field has none, or
+    /// stands between two and has each of its own twice.
+    pub lenient: bool,
     /// Whether white space at both ends of a field is left out. It is, before the field is compared with the word for NULL.
     pub trims: bool,
 }

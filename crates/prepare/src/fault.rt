@@ -2,6 +2,7 @@
 ghost use Rattle.std.specs.Prelude.{◌≡◌};
 ghost use Rattle.prepare.specs.declared.fault.PrepareFault.TheVariants.{OutOfMemory};
 
+use crate::quotes::QuoteFault;
 use std::alloc::{AllocError, AllocFailed};
 use thiserror::Error;
 
@@ -16,12 +17,26 @@ pub enum PrepareFault {
     NoColumn {
         place: usize,
     },
+    /// The header has two columns of the name that is chosen at this place, where the first is 0, and neither fits it better: both have
+    /// exactly this name, or none has it and both do in another case. They are the first two such columns.
+    #[error("the columns {first} and {second} of the header both have the name that is chosen at place {place}")]
+    TwoColumns {
+        place: usize,
+        first: usize,
+        second: usize,
+    },
     /// This record, where the first after the header is 1, has another number of fields than the header.
     #[error("record {record} has {fields} fields, and the header {header}")]
     Uneven {
         record: u64,
         fields: usize,
         header: usize,
+    },
+    /// A quote of the file on this line, counted from 1 by line feeds, is not as RFC 4180 has it.
+    #[error("line {line}: {fault}")]
+    Quotes {
+        fault: QuoteFault,
+        line: u64,
     },
     /// Memory was refused.
     #[error("no memory")]

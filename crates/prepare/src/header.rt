@@ -1,8 +1,8 @@
 //! The header of a file: where the columns of the part stand in it, and their names.
 ghost use Rattle.std.specs.Prelude.{◌≡◌, ◌++◌, IfErr, IfOk, Ok, map};
-ghost use Rattle.std.specs.List.{position, range_with_len};
-ghost use Rattle.prepare.specs.Parts.{IsFault, headed, places_from, places_of, words_of};
-ghost use Rattle.prepare.specs.Words.{is_same_name, word_of};
+ghost use Rattle.std.specs.List.{range_with_len};
+ghost use Rattle.prepare.specs.Parts.{IsFault, headed, is_name, meant_by, places_from, places_of, places_where, the_one, words_of};
+ghost use Rattle.prepare.specs.Words.{word_of};
 
 use crate::choice::{Choice, Chosen};
 use crate::fault::PrepareFault;
@@ -10,7 +10,8 @@ use crate::words::{is_same_name, word_of};
 use cells::Text;
 use std::alloc::{AllocError, Global};
 
-/// Where the columns that are chosen stand in the header. [`PrepareFault::NoColumn`] is of the first that is not there.
+/// Where the columns that are chosen stand in the header. [`PrepareFault::NoColumn`] and [`PrepareFault::TwoColumns`] are of the
+/// first whose name means none or several.
 pub(crate) fn places_of(
     alloc: Global,
     columns: &Option<Vec<Chosen>>,
@@ -47,19 +48,75 @@ fn places_from(
 {
     let mut places = Vec::new(alloc);
     for (at, column) in columns.iter().enumerate() {
-        let Some(place) = place_of(column.name.as_bytes(), header) else {
-            return Err(PrepareFault::NoColumn { place: at });
-        };
+        let meant = meant_by(alloc, column.name.as_bytes(), header)?;
+        let place = the_one(at, meant.as_slice())?;
         places.push(place)?;
     }
     Ok(places)
 }
 
-/// The place of the first column of this name.
-fn place_of(name: &[u8], header: &[&[u8]]) -> Option<usize>
-    ensures { result ≡ position (λ f. is_same_name name.now f.now) header.now }
+/// The places of the columns of a header that a name means, where the first is 0: those that have exactly this name, or where none has,
+/// those that have it in another case. The only error is that a growth was refused.
+pub fn meant_by(alloc: Global, name: &[u8], header: &[&[u8]]) -> Result<Vec<usize>, AllocError>
+    ensures { IfOk result (λ places. places.items ≡ meant_by name.now (map (λ f. f.now) header.now)) }
 {
-    header.iter().position(|field| is_same_name(name, field))
+    let exact = places_where(alloc, Case::Same, name, header)?;
+    if exact.is_empty() {
+        return places_where(alloc, Case::Any, name, header);
+    }
+    Ok(exact)
+}
+
+/// What counts of letters when names are compared.
+#[derive(Clone, Copy, Debug, PartialEq, Eq)]
+enum Case {
+    /// Their case, too.
+    Same,
+    /// Not their case.
+    Any,
+}
+
+/// The places of the columns that have this name.
+fn places_where(
+    alloc: Global,
+    case: Case,
+    name: &[u8],
+    header: &[&[u8]],
+) -> Result<Vec<usize>, AllocError>
+    ensures { IfOk result (λ places. places.items ≡ places_where (is_name case name.now) 0 (map (λ f. f.now) header.now)) }
+{
+    let mut places = Vec::new(alloc);
+    for (place, field) in header.iter().enumerate() {
+        if is_name(case, name, field) {
+            places.push(place)?;
+        }
+    }
+    Ok(places)
+}
+
+/// Whether a column of this name is meant.
+fn is_name(case: Case, name: &[u8], field: &[u8]) -> bool
+    ensures { result ≡ is_name case name.now field.now }
+{
+    match case {
+        Case::Same => name == field,
+        Case::Any => is_same_name(name, field),
+    }
+}
+
+/// The one place that is meant. `at` is that of the name among those that are chosen.
+fn the_one(at: usize, meant: &[usize]) -> Result<usize, PrepareFault>
+    ensures { result ≡ the_one at meant.now }
+{
+    match meant {
+        [] => Err(PrepareFault::NoColumn { place: at }),
+        [place] => Ok(*place),
+        [first, second, ..] => Err(PrepareFault::TwoColumns {
+            place: at,
+            first: *first,
+            second: *second,
+        }),
+    }
 }
 
 /// The names of the part's columns, where those of the file have these names.

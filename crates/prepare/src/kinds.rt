@@ -3,7 +3,7 @@ ghost use Rattle.std.specs.Prelude.{◌≡◌, ℕ, ◌<◌, IfOk, length, map};
 ghost use Rattle.std.specs.List.{slice_index_or};
 ghost use Rattle.csv.specs.Records.{fields_of};
 ghost use Rattle.cells.specs.declared.schema.ColumnType.TheVariants.{Text};
-ghost use Rattle.prepare.specs.Proposals.{AreTypes, field_in, fits_int, narrowed, rows_of};
+ghost use Rattle.prepare.specs.Proposals.{AreTypes, field_in, fits_int, is_padded, is_printed, narrowed, rows_of};
 
 use crate::integers::integer_in;
 use crate::rows::{Rows, field_in};
@@ -12,7 +12,8 @@ use csv::ByteRecord;
 use std::alloc::{AllocError, Global};
 
 /// The types of the first so many columns of these parts, of which each has a header: INT where each field of the column, in all
-/// parts, is NULL or spells an integer of 64 bits, else TEXT. The only error is that a growth was refused.
+/// parts, is NULL or an integer of 64 bits as it is printed, else TEXT. So `007`, `+7` and `-0` make a column one of texts. The only
+/// error is that a growth was refused.
 pub fn types_of(
     alloc: Global,
     parts: &[Vec<u8>],
@@ -60,9 +61,31 @@ fn narrowed(kind: ColumnType, field: &[u8]) -> ColumnType
     }
 }
 
-/// Whether a field is NULL or spells an integer.
+/// Whether a field is NULL or an integer as it is printed.
 pub(crate) fn fits_int(field: &[u8]) -> bool
     ensures { result ≡ fits_int field.now }
 {
-    field.is_empty() || integer_in(field).is_some()
+    field.is_empty() || is_printed(field)
+}
+
+/// Whether a field is an integer of 64 bits as it is printed.
+#[tactic(auto, using(crate::proofs::PrintedLemmas::padded_is_other, crate::proofs::PrintedLemmas::printed_is))]
+fn is_printed(field: &[u8]) -> bool
+    ensures { result ≡ is_printed field.now }
+{
+    if is_padded(field) {
+        return false;
+    }
+    integer_in(field).is_some()
+}
+
+/// Whether a field begins with a zero and goes on, or with a minus and a zero.
+fn is_padded(field: &[u8]) -> bool
+    ensures { result ≡ is_padded field.now }
+{
+    match field {
+        [b'0', _, ..] => true,
+        [b'-', b'0', ..] => true,
+        _ => false,
+    }
 }

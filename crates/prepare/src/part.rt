@@ -3,12 +3,13 @@ ghost use Rattle.std.specs.Prelude.{◌≡◌, ◌++◌, ◌+◌, ◌<◌, ◌^�
 ghost use Rattle.csv.specs.Records.{fields_of};
 ghost use Rattle.csv.specs.Writing.{default_writer, row_text};
 ghost use Rattle.prepare.specs.Files.{records_of};
-ghost use Rattle.prepare.specs.Parts.{IsFault, IsPart, IsTextAfter, headed, part_of, records_from, words_of};
+ghost use Rattle.prepare.specs.Parts.{IsFault, IsFaultOfFile, IsPart, IsPartOfFile, IsTextAfter, headed, part_of, records_from, words_of};
 
 use crate::choice::Choice;
 use crate::fault::PrepareFault;
 use crate::header::{places_of, words_of};
 use crate::lines::Lines;
+use crate::quotes::misquoted;
 use crate::record::{Layout, trim};
 use crate::records::Records;
 use csv::ByteRecord;
@@ -26,8 +27,23 @@ pub struct MadePart {
 /// The part that is made of a file: the CSV text of the chosen fields of its records, each of which has as many fields as the
 /// header. Records end by 0A, and fields stand in quotes where they need them.
 ///
-/// The error is the first fault of the file, as [`PrepareFault`] says, or that a growth was refused.
+/// The error is the first fault of the file's quotes, where they are not read as they stand, then the first of its records, as
+/// [`PrepareFault`] says, or that a growth was refused.
 pub fn prepared(alloc: Global, bytes: &[u8], choice: &Choice) -> Result<MadePart, PrepareFault>
+    ensures part { IfOk result (IsPartOfFile choice.now bytes.now) }
+    ensures fault { IfErr result (IsFaultOfFile choice.now bytes.now) }
+{
+    if choice.lenient {
+        return of_records(alloc, bytes, choice);
+    }
+    match misquoted(bytes, choice.delimiter) {
+        Some((fault, line)) => Err(PrepareFault::Quotes { fault, line }),
+        None => of_records(alloc, bytes, choice),
+    }
+}
+
+/// The part that is made of the file's records.
+fn of_records(alloc: Global, bytes: &[u8], choice: &Choice) -> Result<MadePart, PrepareFault>
     ensures part { IfOk result (IsPart (part_of choice.now (records_of choice.now.delimiter bytes.now))) }
     ensures fault { IfErr result (IsFault (part_of choice.now (records_of choice.now.delimiter bytes.now))) }
 {

@@ -48,6 +48,21 @@ impl<'a> Rows<'a> {
             (self.old ≡ fields_of row.new ∷ self.new)
             (self.old ≡ [])) }
     {
+        if self.records.next(row)? {
+            return Ok(true);
+        }
+        self.next_part(row)
+    }
+
+    /// Reads on in the parts that are left. It stands apart, since a function clears the room of all that it may hold when it is
+    /// entered, and a reader is large.
+    #[cold]
+    #[inline(never)]
+    fn next_part(&mut self, row: &mut ByteRecord) -> Result<bool, AllocError>
+        ensures { IfOk result (λ found. MatchBool found
+            (self.old ≡ fields_of row.new ∷ self.new)
+            (self.old ≡ [])) }
+    {
         while !self.records.next(row)? {
             let Some((part, later)) = self.parts.split_first() else {
                 return Ok(false);

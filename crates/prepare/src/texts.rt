@@ -8,7 +8,7 @@ use crate::rows::field_in;
 use csv::ByteRecord;
 use std::alloc::{AllocError, Global};
 
-/// A field of a part that is no integer.
+/// A field of a part that is no integer as it is printed.
 #[derive(Debug, Drop)]
 pub struct TextField {
     /// The number of its record, counted from 1.
@@ -16,8 +16,8 @@ pub struct TextField {
     pub field: Vec<u8>,
 }
 
-/// The first field at a place of a part, which has a header, that is neither NULL nor an integer of 64 bits. That it is the first is
-/// tested and not proved. The only error is that a growth was refused.
+/// The first field at a place of a part, which has a header, that is neither NULL nor an integer of 64 bits as it is printed. That it
+/// is the first is tested and not proved. The only error is that a growth was refused.
 pub fn first_text(alloc: Global, part: &[u8], place: usize) -> Result<Option<TextField>, AllocError>
     ensures { IfOk result (λ found. IfSome found (λ text. fits_int text.field.items ≡ false)) }
 {

@@ -85,7 +85,7 @@ fn is_in_word(byte: u8) -> bool
 }
 
 /// Whether two names are one, in whatever case.
-pub fn is_same_name(first: &[u8], second: &[u8]) -> bool
+pub(crate) fn is_same_name(first: &[u8], second: &[u8]) -> bool
     ensures { result ≡ is_same_name first.now second.now }
 {
     if first.len() != second.len() {

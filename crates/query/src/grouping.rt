@@ -26,7 +26,8 @@ impl Phrase for Unit {
 
 /// What follows `GROUPING SETS (`, where the tokens begin with it.
 fn after_sets(tokens: &[Token]) -> Option<&[Token]>
-    ensures { MatchOption result ((more : List Token) → tokens.now ≢ GROUPING ∷ SETS ∷ lparen ∷ more) (λ rest. tokens.now ≡ GROUPING ∷ SETS ∷ lparen ∷ rest.now) }
+    ensures { MatchOption result ((more : List Token) → tokens.now ≢ GROUPING ∷ SETS ∷ lparen ∷ more)
+        (λ rest. tokens.now ≡ GROUPING ∷ SETS ∷ lparen ∷ rest.now) }
 {
     let rest = after_word(tokens, "GROUPING")?;
     after_call(rest, "SETS")

@@ -29,7 +29,8 @@ pub fn beside<T: Drop, S: Drop, E: Drop>(made: Result<S, E>, value: T) -> Result
 
 /// The value, and what follows the `)` behind it.
 pub fn closed<T: Drop>(value: T, tokens: &[Token]) -> Result<(T, &[Token]), Refused>
-    ensures { MatchResult result (λ x. (x.0 ≡ value) × (tokens.now ≡ rparen ∷ x.1.now)) (λ e. (e ≡ Refused.QuerySyntax) × BeginsNot rparen tokens.now) }
+    ensures { MatchResult result (λ x. (x.0 ≡ value) × (tokens.now ≡ rparen ∷ x.1.now))
+        (λ e. (e ≡ Refused.QuerySyntax) × BeginsNot rparen tokens.now) }
 {
     let Some(behind) = after_mark(tokens, Mark::RightParen) else {
         return Err(Refused::QuerySyntax);

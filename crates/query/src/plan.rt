@@ -149,7 +149,7 @@ impl Plan {
     }
 
     /// The items of the select list, as many as there are headings, and behind them those that HAVING names; each in the order
-    /// of the query. It takes no memory.
+    /// of the query.
     pub fn items(&self) -> &[Item<usize>]
         ensures items { result.now ≡ self.now.items }
         ensures short { list_any is_long self.now.items ≡ false }
@@ -157,21 +157,21 @@ impl Plan {
         self.items.as_slice()
     }
 
-    /// The text that a report's header has of each item of the select list, as `COUNT(DISTINCT ITEM)`. It takes no memory.
+    /// The text that a report's header has of each item of the select list, as `COUNT(DISTINCT ITEM)`.
     pub fn headings(&self) -> &[Text]
         ensures { result.now ≡ self.now.headings }
     {
         self.headings.as_slice()
     }
 
-    /// The predicate of WHERE, where there is one. It takes no memory.
+    /// The predicate of WHERE, where there is one.
     pub fn condition(&self) -> Option<&Predicate<usize>>
         ensures { option_copied result ≡ self.now.condition }
     {
         self.condition.as_ref()
     }
 
-    /// The grouping sets, in order, repeated ones too unless DISTINCT was asked for. It takes no memory.
+    /// The grouping sets, in order, repeated ones too unless DISTINCT was asked for.
     pub fn sets(&self) -> &[GroupSet]
         ensures { result.now ≡ self.now.sets }
     {
@@ -179,7 +179,7 @@ impl Plan {
     }
 
     /// The predicate of HAVING, where there is one, over the indexes of its items, which count from the first behind the select
-    /// list's. It takes no memory.
+    /// list's.
     pub fn having(&self) -> Option<&Predicate<usize>>
         ensures { option_copied result ≡ self.now.having }
     {

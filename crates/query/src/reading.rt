@@ -30,7 +30,8 @@ use std::alloc::Global;
 /// [`Refused::Limit`] where more than [`MAX_OPEN_PARENTHESES`](crate::MAX_OPEN_PARENTHESES) are open at some
 /// token (those closed so far are taken from those opened so far), [`Refused::QuerySyntax`] where the tokens
 /// are no query, [`Refused::Limit`] where the select list has more than [`MAX_ITEMS`], HAVING names more than as many aggregates
-/// (one that it names twice counts twice), or a GROUPING has more than [`MAX_GROUPING_COLUMNS`]; or [`Refused::OutOfMemory`] where a growth was refused. Its time is linear in the text's length.
+/// (one that it names twice counts twice), or a GROUPING has more than [`MAX_GROUPING_COLUMNS`]; or
+/// [`Refused::OutOfMemory`] where a growth was refused. Its time is linear in the text's length.
 pub fn read(alloc: Global, text: &str) -> Result<Query, Refused>
     // What is answered is the text's query, or its first fault.
     ensures found { MatchResult result (λ q. IsQuery text.now q) (λ e. (e ≡ Refused.OutOfMemory) ⊎ FirstFault text.now e) }
@@ -47,7 +48,8 @@ pub fn read(alloc: Global, text: &str) -> Result<Query, Refused>
 /// The query that the tokens are, where not too many parentheses are open and there are not too many items or columns.
 fn query_within(alloc: Global, tokens: &[Token]) -> Result<Query, Refused>
     // It is the answer for each text of these tokens that is not too long.
-    ensures { (text : List ℕ) → length text ≤ query_limit → tokens_of text ≡ Some tokens.now → MatchResult result (λ q. IsQuery text q) (λ e. (e ≡ Refused.OutOfMemory) ⊎ FirstFault text e) }
+    ensures { (text : List ℕ) → length text ≤ query_limit → tokens_of text ≡ Some tokens.now →
+        MatchResult result (λ q. IsQuery text q) (λ e. (e ≡ Refused.OutOfMemory) ⊎ FirstFault text e) }
 {
     if is_too_deep(tokens) {
         return Err(Refused::Limit);

@@ -258,7 +258,7 @@ impl Test<usize> {
 
 impl Predicate<usize> {
     /// The truth of the predicate over a row. An index that the row does not have is as NULL. Only
-    /// `Truth::True` keeps a row. It takes no memory.
+    /// `Truth::True` keeps a row.
     pub fn truth(&self, row: &Row) -> Truth
         ensures { result ≡ truth self.now (map cell_total row.now.cells) }
     {
@@ -266,14 +266,14 @@ impl Predicate<usize> {
     }
 
     /// The truth of the predicate over cells, one at each index that it names. An index that is not there is
-    /// as NULL. It takes no memory.
+    /// as NULL.
     pub fn truth_of_cells(&self, cells: &[Cell]) -> Truth
         ensures { result ≡ truth self.now (map cell_total cells.now) }
     {
         self.truth_over(&Listed { values: cells })
     }
 
-    /// The truth of the predicate over values, one at each index that it names. It takes no memory.
+    /// The truth of the predicate over values, one at each index that it names.
     pub fn truth_of(&self, values: &[Total]) -> Truth
         ensures { result ≡ truth self.now values.now }
     {

@@ -4,8 +4,7 @@ use Rattle.std.proofs.lemmas.List.{map-append, take_more}
 use Rattle.std.specs.Prelude.{Option, Some, None, Vec, is_some}
 use Rattle.std.specs.declared.alloc.Global.{Global}
 use Rattle.cells.specs.declared.schema.ColumnType.{ColumnType}
-use Rattle.prepare.specs.Files.{records_of}
-use Rattle.prepare.specs.Parts.{IsPart, part_of}
+use Rattle.prepare.specs.Parts.{IsPartOfFile}
 use Rattle.prepare.specs.declared.choice.Choice.{Choice}
 use Rattle.prepare.specs.declared.choice.Chosen.{Chosen}
 use Rattle.prepare.specs.declared.part.MadePart.{MadePart}
@@ -28,11 +27,11 @@ parts_snoc choice before (f ∷ fs) (p ∷ ps) all file part count so_far is = (
 
 pub made_more : (choice : Choice) (files : List Bytes) (at : ℕ) (file : Bytes) (parts : List Bytes) (now : Choice) (part : MadePart) (counted : ℕ)
     → MadeOf choice files at parts now → at < length files → file ≡ get_or files at file
-    → IsPart (part_of now (records_of now.delimiter file.items)) part → counted ≡ now.counted + part.records
+    → IsPartOfFile now file.items part → counted ≡ now.counted + part.records
     → MadeOf choice files (at + 1) (parts ++ part.text ∷ []) (counting_from now counted)
 made_more choice files at file parts now part counted so_far within is made sum =
     let here : IsPartOf (counting_from choice now.counted) file.items part.text.items part.records =
-    subst (λ (ch : Choice). IsPartOf ch file.items part.text.items part.records) so_far.same (record { rows = made.rows; is = made.is; written = made.written; counted = made.counted }) in
+    subst (λ (ch : Choice). IsPartOf ch file.items part.text.items part.records) so_far.same (record { quotes = made.quotes; rows = made.is.rows; is = made.is.is; written = made.is.written; counted = made.is.counted }) in
     let longer : map (λ f. f.items) (take (at + 1) files) ≡ map (λ f. f.items) (take at files) ++ file.items ∷ [] =
     ap (map (λ f. f.items)) (take_more files at file within) ∙ map-append (λ f. f.items) (take at files) (get_or files at file ∷ [])
     ∙ ap (λ (f : Bytes). map (λ b. b.items) (take at files) ++ f.items ∷ []) (sym is) in

@@ -6,7 +6,7 @@ use Rattle.cells.specs.Reading.{tokens_of}
 use Rattle.cells.specs.declared.schema.ColumnType.{ColumnType}
 use Rattle.prepare.specs.Files.{Fields, records_of}
 use Rattle.prepare.specs.Listed.{by_name, header_in, is_named, naming_of, words_in}
-use Rattle.prepare.specs.Parts.{headed, part_of, text_of}
+use Rattle.prepare.specs.Parts.{HasRightQuotes, headed, part_of, text_of}
 use Rattle.prepare.specs.Proposals.{AreTypes, HasNoKey, IsFirstKey, rows_of}
 use Rattle.prepare.specs.declared.choice.Choice.{Choice}
 use Rattle.prepare.specs.declared.choice.Chosen.{Chosen}
@@ -21,8 +21,9 @@ use Rattle.questions.specs.declared.question.Wanted.{Wanted}
 abbrev pub counting_from : Choice → ℕ → Choice
 counting_from choice counted = record choice { counted = counted }
 
--- the part that is made of a file, and how many records it has
+-- the part that is made of a file, whose quotes are right where they are looked at, and how many records it has
 pub record IsPartOf (choice : Choice) (file part : List ℕ) (count : ℕ) : Type 0 where
+  pub quotes : HasRightQuotes choice file
   pub rows : List Fields
   pub is : part_of choice (records_of choice.delimiter file) ≡ Ok rows
   pub written : part ≡ text_of rows
@@ -115,7 +116,7 @@ AreWanted files w query (Some listed) columns = columns ≡ listed
 AreWanted files w query None columns = AreOfFile files w.delimiter w.trims query columns.items
 
 abbrev pub choice_of : Wanted → Vec Chosen Global → Choice
-choice_of w columns = record { columns = Some columns; delimiter = w.delimiter; number = w.number; counted = 0; null = w.null; trims = w.trims }
+choice_of w columns = record { columns = Some columns; delimiter = w.delimiter; number = w.number; counted = 0; null = w.null; trims = w.trims; lenient = w.lenient }
 
 -- the table that is proposed for files
 pub record IsProposal (files : List (List ℕ)) (w : Wanted) (query : Option (List ℕ)) (p : Proposal) : Type 0 where

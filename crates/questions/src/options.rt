@@ -154,6 +154,8 @@ pub struct Parted<'w> {
     pub limit: Option<&'w str>,
     /// Whether blanks round a field count for nothing.
     pub trims: bool,
+    /// Whether quotes are read as they stand.
+    pub lenient: bool,
     /// Whether standard error tells how far the run is.
     pub tells_progress: bool,
     /// Whether help is asked for.
@@ -179,6 +181,7 @@ impl<'w> Parted<'w> {
             order: None,
             limit: None,
             trims: false,
+            lenient: false,
             tells_progress: false,
             helps: false,
             names: Vec::new(alloc),
@@ -208,6 +211,7 @@ impl<'w> Parted<'w> {
             "--help" => self.helps = true,
             "-h" => self.helps = true,
             "--trim" => self.trims = true,
+            "--lenient-quotes" => self.lenient = true,
             "--progress" => self.tells_progress = true,
             word => return part_word(self, word, later),
         }
@@ -300,6 +304,7 @@ fn part_word<'w>(
 fn unknown<'w>(name: &str, word: &'w str) -> OptionFault<'w> {
     match name {
         "trim" => OptionFault::Value(word),
+        "lenient-quotes" => OptionFault::Value(word),
         "progress" => OptionFault::Value(word),
         "help" => OptionFault::Value(word),
         _ => OptionFault::Unknown(word),

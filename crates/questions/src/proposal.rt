@@ -1,17 +1,16 @@
 //! The table that is proposed for files, and the parts that are made of them.
 ghost use Rattle.std.specs.Prelude.{◌≡◌, ◌++◌, IfOk, [], length, map, option_map, unwrap_or};
 ghost use Rattle.cells.specs.Reading.{tokens_of};
-ghost use Rattle.prepare.specs.Files.{records_of};
 ghost use Rattle.prepare.specs.Listed.{words_in};
-ghost use Rattle.prepare.specs.Parts.{IsPart, part_of};
+ghost use Rattle.prepare.specs.Parts.{IsPartOfFile};
 ghost use Rattle.questions.specs.Proposals.{AreAll, AreOfFile, IsCounted, IsOf, IsProposal, IsProposed, IsTyped, MadeOf, chosen_in, counting_from, names_of};
 ghost use Rattle.questions.specs.declared.proposal.Unproposed.TheVariants.{OutOfMemory};
 
 use crate::question::Wanted;
 use cells::{Column, ColumnType, MAX_COLUMNS, Refused, Text, Token, tokens_or};
 use prepare::{
-    Choice, Chosen, ListFault, MadePart, PrepareFault, columns_of, first_again, header_of, key_of,
-    line_of, named_columns, prepared, types_of,
+    Choice, Chosen, ListFault, MadePart, PrepareFault, QuoteFault, columns_of, first_again,
+    header_of, key_of, line_of, named_columns, prepared, types_of,
 };
 use std::alloc::{AllocError, AllocFailed, Global};
 use thiserror::Error;
@@ -38,6 +37,12 @@ pub enum Unproposed {
     },
     #[error("the header has no column '{0}'")]
     NoColumn(String),
+    #[error("columns {first} and {second} both have the name '{name}'; rename one, or write its name exactly where they differ in case")]
+    TwoColumns {
+        first: usize,
+        second: usize,
+        name: String,
+    },
     #[error("two columns make the name {0}; --columns chooses columns and names them, as in --columns 'A,B=Other Name'")]
     Again(String),
     #[error("the header has {0} columns, and a table 16 at most; --columns chooses some")]
@@ -54,6 +59,8 @@ pub enum Unproposed {
         fields: usize,
         header: usize,
     },
+    #[error("{0}; mend it (a field with a quote in it stands in quotes, that quote twice), or read the file as it is with --lenient-quotes")]
+    Quotes(QuoteFault),
     #[error("no memory")]
     OutOfMemory,
 }
@@ -125,6 +132,7 @@ pub fn proposed(
         number,
         null,
         trims,
+        lenient,
     } = wanted;
     let columns = match columns {
         Some(columns) => columns,
@@ -140,6 +148,7 @@ pub fn proposed(
         counted: 0,
         null,
         trims,
+        lenient,
     };
     with_key(alloc, files, choice)
 }
@@ -258,7 +267,7 @@ fn count(choice: &mut Choice, counted: u64)
 
 /// The part that is made of the file at a place.
 fn part_of(alloc: Global, file: usize, bytes: &[u8], choice: &Choice) -> Result<MadePart, FileFault>
-    ensures { IfOk result (IsPart (part_of choice.now (records_of choice.now.delimiter bytes.now))) }
+    ensures { IfOk result (IsPartOfFile choice.now bytes.now) }
 {
     match prepared(alloc, bytes, choice) {
         Ok(made) => Ok(made),
@@ -280,6 +289,14 @@ fn fault_of(
             Ok(name) => FileFault::of_header(file, Unproposed::NoColumn(name)),
             Err(_) => FileFault::of_memory(),
         },
+        PrepareFault::TwoColumns {
+            place,
+            first,
+            second,
+        } => match name_at(alloc, choice, place) {
+            Ok(name) => FileFault::of_header(file, two_columns(first, second, name)),
+            Err(_) => FileFault::of_memory(),
+        },
         PrepareFault::Uneven {
             record,
             fields,
@@ -296,7 +313,21 @@ fn fault_of(
             },
             Err(_) => FileFault::of_memory(),
         },
+        PrepareFault::Quotes { fault, line } => FileFault {
+            file,
+            line,
+            why: Unproposed::Quotes(fault),
+        },
         PrepareFault::OutOfMemory => FileFault::of_memory(),
+    }
+}
+
+/// Why a name means none of the two columns that have it, of which the first one of the header is 0.
+fn two_columns(first: usize, second: usize, name: String) -> Unproposed {
+    Unproposed::TwoColumns {
+        first: first.saturating_add(1),
+        second: second.saturating_add(1),
+        name,
     }
 }
 
@@ -447,6 +478,7 @@ fn numbered(choice: Choice, number: Text) -> Choice
         counted: _,
         null,
         trims,
+        lenient,
     } = choice;
     Choice {
         columns,
@@ -455,6 +487,7 @@ fn numbered(choice: Choice, number: Text) -> Choice
         counted: 0,
         null,
         trims,
+        lenient,
     }
 }
 

@@ -55,6 +55,8 @@ pub struct Wanted {
     pub null: Option<Text>,
     /// Whether blanks round a field count for nothing.
     pub trims: bool,
+    /// Whether quotes are read as they stand.
+    pub lenient: bool,
 }
 
 /// What was chosen of files, from the words. The faults are those of `--columns`, `--delimiter` and `--number`.
@@ -64,6 +66,7 @@ fn wanted_of<'w>(alloc: Global, parted: &Parted<'w>) -> Result<Wanted, OptionFau
         number: number(alloc, parted.number)?,
         null: copied(alloc, parted.null)?,
         trims: parted.trims,
+        lenient: parted.lenient,
         columns: columns(alloc, parted.columns)?,
     })
 }

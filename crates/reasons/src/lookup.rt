@@ -58,7 +58,11 @@ impl<'a> Model for Reasons<'a> {
 
     ghost Value = { Book };
 
-    ghost view = { λ r. record { lines = map (λ l. l.now) r.lines.items; table = option_map (λ d. d.schema) r.table; parts = map (λ p. p.items) r.parts.now } };
+    ghost view = { λ r. record {
+      lines = map (λ l. l.now) r.lines.items;
+      table = option_map (λ d. d.schema) r.table;
+      parts = map (λ p. p.items) r.parts.now;
+    } };
 }
 
 /// The table of a script, and the line that declares it.

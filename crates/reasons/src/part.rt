@@ -105,7 +105,8 @@ fn header_fault(
     records: &mut Records<'_>,
     schema: &Schema,
 ) -> Result<Option<PartReason>, AllocError>
-    ensures { IfOk result (λ fault. MatchOption fault (fault_count_in schema.now records.old ≡ faulty_count schema.now records.new) (λ _. fault_count_in schema.now records.old ≡ 1)) }
+    ensures { IfOk result (λ fault. MatchOption fault (fault_count_in schema.now records.old ≡ faulty_count schema.now records.new)
+        (λ _. fault_count_in schema.now records.old ≡ 1)) }
 {
     let mut record = ByteRecord::new(alloc);
     if !records.next(&mut record)? {
@@ -186,7 +187,8 @@ fn next_faulty(
     schema: &Schema,
     number: u64,
 ) -> Result<Option<Faulty>, AllocError>
-    ensures { IfOk result (λ found. MatchOption found ((faulty_count schema.now records.old ≡ 0) × (records.new ≡ [])) (λ _. faulty_count schema.now records.old ≡ faulty_count schema.now records.new + 1)) }
+    ensures { IfOk result (λ found. MatchOption found ((faulty_count schema.now records.old ≡ 0) × (records.new ≡ []))
+        (λ _. faulty_count schema.now records.old ≡ faulty_count schema.now records.new + 1)) }
 {
     let mut record = ByteRecord::new(alloc);
     let mut number = number;

@@ -47,7 +47,7 @@ impl Model for Arrangement {
 }
 
 impl Arrangement {
-    /// All rows, as they come. It takes no memory.
+    /// All rows, as they come.
     pub fn none(alloc: Global) -> Arrangement
         ensures { result ≡ unarranged }
     {

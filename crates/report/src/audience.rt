@@ -27,7 +27,7 @@ struct WatchOf<H: KeyHash<Cell>> {
 }
 
 impl<H: KeyHash<Cell>> WatchOf<H> {
-    /// So many reports of the question, by the viewer of this number. It takes no memory.
+    /// So many reports of the question, by the viewer of this number.
     fn new(viewer: &Viewer<H>, question: &Question, number: u64, count: u64) -> WatchOf<H>
         ensures viewer { result.viewer.value ≡ viewer.now }
         ensures question { result.question.value ≡ question.now }
@@ -79,7 +79,7 @@ impl<H: KeyHash<Cell>> Model for Audience<H> {
 }
 
 impl<H: KeyHash<Cell>> Audience<H> {
-    /// Nobody watches. It takes no memory.
+    /// Nobody watches.
     pub fn new(alloc: Global) -> Audience<H>
         ensures { result ≡ record { begun = 0; watches = [] } }
     {

@@ -58,7 +58,7 @@ impl<H: KeyHash<Cell>> Model for Backlog<H> {
 }
 
 impl<H: KeyHash<Cell>> Backlog<H> {
-    /// Nothing waits. It takes no memory.
+    /// Nothing waits.
     pub fn new(alloc: Global) -> Backlog<H>
         ensures { result ≡ record { reports = []; after = [] } }
     {
@@ -186,7 +186,8 @@ impl<H: KeyHash<Cell>> Backlog<H> {
         H: KeyHash<Tuple> + Send + Sync + 's,
         requires faults { O.faults out.old + 1 < 2 ^ 64 }
         ensures goes_on { WritesOn O.taken O.faults out.old out.new self.new (AwaitsThen self.old (Heads heading.now snapshot question)) result }
-        ensures early { length self.old.reports < under_way_limit → (out.new ≡ out.old) × OnOk result (self.new ≡ with_report (with_text self.old heading.now) snapshot question) }
+        ensures early { length self.old.reports < under_way_limit →
+            (out.new ≡ out.old) × OnOk result (self.new ≡ with_report (with_text self.old heading.now) snapshot question) }
     {
         let (snapshot, question) = self.make_way(
             starter.answering.rt,
@@ -282,7 +283,8 @@ impl<H: KeyHash<Cell>> Pending<H> {
     /// Waits for the report, and then writes what waits with it and its answer.
     fn write<O: Out, R: Threads>(self, rt: &R, out: &mut O) -> Result<(), Unwritten>
         requires { O.faults out.old + 1 < 2 ^ 64 }
-        ensures whole { WritesAll O.taken O.faults out.old out.new (Heads self.before.items self.answer.handle.promise.edition.value self.answer.handle.promise.question.value) result }
+        ensures whole { WritesAll O.taken O.faults out.old out.new
+            (Heads self.before.items self.answer.handle.promise.edition.value self.answer.handle.promise.question.value) result }
         ensures waited { (wanted : Wanted) → IsErrOf result (unwritten.Want wanted) → O.taken out.new ≡ O.taken out.old }
     {
         let Pending { before, answer } = self;

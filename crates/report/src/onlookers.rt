@@ -24,7 +24,7 @@ struct GlanceOf<H: KeyHash<Cell>> {
 }
 
 impl<H: KeyHash<Cell>> GlanceOf<H> {
-    /// One report of the onlooker. It takes no memory.
+    /// One report of the onlooker.
     fn new(onlooker: &Onlooker<H>) -> GlanceOf<H>
         ensures { result.onlooker.value ≡ onlooker.now }
     {
@@ -73,7 +73,7 @@ impl<H: KeyHash<Cell>> Model for Onlookers<H> {
 }
 
 impl<H: KeyHash<Cell>> Onlookers<H> {
-    /// Nobody looks on. It takes no memory.
+    /// Nobody looks on.
     pub fn new(alloc: Global) -> Onlookers<H>
         ensures { result ≡ record { going = []; waiting = [] } }
     {
@@ -125,7 +125,10 @@ impl<H: KeyHash<Cell>> Onlookers<H> {
 
     /// Puts an onlooker whose thread was started after the others.
     fn push_going(&mut self, going: Going<H>) -> Result<(), AllocError>
-        ensures pushed { OnOk result (self.new ≡ record { going = self.old.going ++ going.handle.promise.onlooker.value ∷ []; waiting = self.old.waiting }) }
+        ensures pushed { OnOk result (self.new ≡ record {
+          going = self.old.going ++ going.handle.promise.onlooker.value ∷ [];
+          waiting = self.old.waiting;
+        }) }
         ensures kept { OnErr result (self.new ≡ self.old) }
     {
         self.going.push_back(going)?;

@@ -65,7 +65,7 @@ impl<H: KeyHash<Cell>> Model for Glance<H> {
 }
 
 impl<H: KeyHash<Cell>> Onlooker<H> {
-    /// The viewer of this number before its first report, with so many to make before its last one. It takes no memory.
+    /// The viewer of this number before its first report, with so many to make before its last one.
     pub fn new(number: u64, viewer: Viewer<H>, question: Question, left: u64) -> Onlooker<H>
         ensures { result ≡ onlooking number viewer question left }
     {

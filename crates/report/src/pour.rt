@@ -13,7 +13,7 @@ pub struct Pour<W: Write> {
 }
 
 impl<W: Write> Pour<W> {
-    /// Nothing has failed so far. It takes no memory.
+    /// Nothing has failed so far.
     pub fn new(writer: W) -> Pour<W>
         ensures taken { ⟦<Pour<W> as Out>⟧.taken result ≡ W.contents writer }
         ensures faults { ⟦<Pour<W> as Out>⟧.faults result ≡ 0 }
@@ -21,7 +21,7 @@ impl<W: Write> Pour<W> {
         Pour { writer, faults: 0 }
     }
 
-    /// The writer, with what it has taken. It takes no memory.
+    /// The writer, with what it has taken.
     pub fn into_inner(self) -> W
         ensures { W.contents result ≡ ⟦<Pour<W> as Out>⟧.taken self }
     {

@@ -23,7 +23,7 @@ pub(crate) struct AnswerOf<H: KeyHash<Cell>> {
 }
 
 impl<H: KeyHash<Cell>> AnswerOf<H> {
-    /// The answer of the question on the edition. It takes no memory.
+    /// The answer of the question on the edition.
     fn new(edition: &Snapshot<H>, question: &Question) -> AnswerOf<H>
         ensures edition { result.edition.value ≡ edition.now }
         ensures question { result.question.value ≡ question.now }

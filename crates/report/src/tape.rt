@@ -67,14 +67,14 @@ impl Tape {
         })
     }
 
-    /// What it has taken, from the first byte on. It takes no memory.
+    /// What it has taken, from the first byte on.
     pub fn bytes(&self) -> &[u8]
         ensures { result.now ≡ self.now.taken }
     {
         self.bytes.as_slice()
     }
 
-    /// How many calls there were, those that failed among them. It takes no memory.
+    /// How many calls there were, those that failed among them.
     pub fn calls(&self) -> u64
         ensures { result ≡ self.now.calls }
     {

@@ -75,7 +75,7 @@ impl<'a, R: Threads + Wait + Sync, G: Gate> Answering<'a, R, G> {
 }
 
 impl<H: KeyHash<Cell>> Watcher<H> {
-    /// The viewer before its first report. It takes no memory.
+    /// The viewer before its first report.
     pub(crate) fn new(alloc: Global, viewer: Viewer<H>, question: Question) -> Watcher<H>
         ensures { result ≡ unwatched viewer question }
     {

@@ -23,14 +23,14 @@ impl Model for Answer {
 }
 
 impl Answer {
-    /// The headings, as a report prints them: the name of a column, or an aggregate as `SUM(UNITS)`. It takes no memory.
+    /// The headings, as a report prints them: the name of a column, or an aggregate as `SUM(UNITS)`.
     pub fn headings(&self) -> &[Text]
         ensures { result.now ≡ self.now.headings }
     {
         self.plan.headings()
     }
 
-    /// The rows, in the order in which a report shows them. It takes no memory.
+    /// The rows, in the order in which a report shows them.
     pub fn rows(&self) -> &[ReportRow]
         ensures { result.now ≡ self.now.rows }
     {

@@ -31,7 +31,7 @@ pub enum Block<H: KeyHash<Cell>> {
 }
 
 impl<H: KeyHash<Cell>> Block<H> {
-    /// What a line gives that writes nothing where it is accepted. It takes no memory.
+    /// What a line gives that writes nothing where it is accepted.
     pub fn quiet(text: Vec<u8>) -> Block<H>
         ensures { result ≡ quiet text }
     {
@@ -41,7 +41,7 @@ impl<H: KeyHash<Cell>> Block<H> {
         Block::Refusal(text)
     }
 
-    /// Whether the line is refused. It takes no memory.
+    /// Whether the line is refused.
     pub fn is_refused(&self) -> bool
         ensures { result ≡ is_refused self.now }
     {

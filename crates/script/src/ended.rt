@@ -22,7 +22,7 @@ pub enum Ended {
 }
 
 impl Ended {
-    /// The number of the refusal: 90, 91, 92 or 93. It takes no memory.
+    /// The number of the refusal: 90, 91, 92 or 93.
     pub fn number(&self) -> u32
         ensures { result ≡ ending_number self.now }
     {

@@ -20,7 +20,7 @@ pub enum Fault {
 }
 
 impl Fault {
-    /// Tells the gate that a line is refused for this. It takes no memory.
+    /// Tells the gate that a line is refused for this.
     pub(crate) fn tell<G: Gate>(self, line: u64, gate: &G) {
         match self {
             Fault::Line(rule) => gate.refused(line, rule),

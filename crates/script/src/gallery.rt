@@ -47,7 +47,7 @@ pub struct Gallery<H: KeyHash<Cell>> {
 }
 
 impl<H: KeyHash<Cell>> Gallery<H> {
-    /// Nobody was started. It takes no memory.
+    /// Nobody was started.
     pub fn new(alloc: Global) -> Gallery<H>
         ensures stage { result.stage ≡ Stage.Expected }
         ensures nobody { (result.audience.watches ≡ []) × (result.onlookers ≡ nobody) }

@@ -60,7 +60,7 @@ impl How {
         Some(How::of(workers, cutting, rows))
     }
 
-    /// The same of numbers that are known to lie in their ranges. It takes no memory.
+    /// The same of numbers that are known to lie in their ranges.
     pub fn of(workers: u64, cutting: Cutting, rows: u64) -> How
         requires { AreInRange workers cutting rows }
         ensures { result ≡ record { workers = workers; cutting = cutting; rows = rows } }
@@ -73,7 +73,7 @@ impl How {
     }
 
     /// How many workers load parts and answer a report, 1 to 64, each in a thread of its own; where a load lists fewer
-    /// parts, or the table is cut into fewer pieces, there are as many as those. It takes no memory.
+    /// parts, or the table is cut into fewer pieces, there are as many as those.
     pub fn workers(&self) -> u64
         ensures workers { result ≡ self.now.workers }
         ensures within { IsWithin limits.workers result }
@@ -81,14 +81,14 @@ impl How {
         self.workers
     }
 
-    /// How a table is cut into pieces. It takes no memory.
+    /// How a table is cut into pieces.
     pub fn cutting(&self) -> Cutting
         ensures { result ≡ self.now.cutting }
     {
         self.cutting
     }
 
-    /// The most rows of the draft. It takes no memory.
+    /// The most rows of the draft.
     pub fn rows(&self) -> u64
         ensures rows { result ≡ self.now.rows }
         ensures within { IsWithin limits.rows result }

@@ -101,7 +101,7 @@ fn joined_line<H: KeyHash<Cell> + KeyHash<Tuple>>(
     }
 }
 
-/// What both tell alike, but for groups. It takes no memory.
+/// What both tell alike, but for groups.
 fn agreed(first: Told, second: Told) -> Option<Told>
     ensures { IfSome result (AreAlike first second) }
 {

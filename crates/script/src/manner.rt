@@ -19,7 +19,7 @@ pub struct Manner {
 }
 
 impl Manner {
-    /// That of a run in a form, with headings; rows stand as they come. It takes no memory.
+    /// That of a run in a form, with headings; rows stand as they come.
     pub fn of(alloc: Global, form: Form) -> Manner
         ensures { result ≡ in_form form }
     {

@@ -14,7 +14,7 @@ pub enum OnRefusal {
 }
 
 impl OnRefusal {
-    /// Whether a run stops after a line, by whether that line is refused. It takes no memory.
+    /// Whether a run stops after a line, by whether that line is refused.
     pub(crate) fn stops(self, refused: bool) -> bool
         ensures { result ≡ stops self refused }
     {
@@ -24,7 +24,7 @@ impl OnRefusal {
         }
     }
 
-    /// How a run is finished whose last line is refused. It takes no memory.
+    /// How a run is finished whose last line is refused.
     pub(crate) fn finish_of_refused(self) -> Finish
         ensures { result ≡ finish_of_refused self }
     {

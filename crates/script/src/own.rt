@@ -124,7 +124,7 @@ fn first_put(alloc: Global, script: &[u8]) -> Result<Option<u64>, AllocError>
     Ok(None)
 }
 
-/// The first line of which is told that it is refused, counted from 1, and why. It takes no memory.
+/// The first line of which is told that it is refused, counted from 1, and why.
 fn first_refused(tolds: &[Told]) -> Option<(u64, Fault)>
     ensures none { IfNone result (NoneRefused tolds.now) }
     ensures some { IfSome result (λ found. IsRefusedAt tolds.now found.0 found.1) }

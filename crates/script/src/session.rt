@@ -57,7 +57,7 @@ impl<'a, H: KeyHash<Cell>, R, G: Gate> Model for Session<'a, H, R, G> {
 impl<'a, H: KeyHash<Cell>, R, G: Gate> Session<'a, H, R, G> {
     /// A session in which no line came yet. `rt` starts the threads of workers, which answer reports and load parts as `how`
     /// says; the parts are numbered from 1, in their order, for `load` lines; `manner` is the way in which answers are told; and
-    /// `gate` is told of each publish, refusal, load, report and piece, as by [`run`](crate::run). It takes no memory.
+    /// `gate` is told of each publish, refusal, load, report and piece, as by [`run`](crate::run).
     pub fn new(
         rt: &'a R,
         alloc: Global,

@@ -66,7 +66,7 @@ pub struct Standing<H: KeyHash<Cell>> {
 }
 
 impl<H: KeyHash<Cell>> Standing<H> {
-    /// Before the first line. It takes no memory.
+    /// Before the first line.
     pub(crate) fn new() -> Standing<H>
         ensures desk { result.desk ≡ None }
         ensures number { result.number ≡ 0 }
@@ -79,7 +79,7 @@ impl<H: KeyHash<Cell>> Standing<H> {
         }
     }
 
-    /// Counts a line that came. It takes no memory.
+    /// Counts a line that came.
     fn count(&mut self, line: &[u8])
         ensures desk { self.new.desk ≡ self.old.desk }
         ensures number { self.new.number ≡ min (self.old.number + 1) line_limit }
@@ -239,7 +239,7 @@ impl<H: KeyHash<Cell>> Standing<H> {
         rule
     }
 
-    /// The number of the last edition, 0 where no table is declared. It takes no memory.
+    /// The number of the last edition, 0 where no table is declared.
     pub(crate) fn edition(&self) -> u64
         ensures { (givens : Givens) → StandsBehind givens self.now.lines.items self.now.desk self.now.number → result ≡ edition givens (counted self.now.lines.items) }
     {

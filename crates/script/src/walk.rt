@@ -37,7 +37,7 @@ pub struct Walk {
 }
 
 impl Walk {
-    /// Before the first line. It takes no memory.
+    /// Before the first line.
     pub fn new() -> Walk
         ensures { StandsBehind [] result }
     {

@@ -38,7 +38,8 @@ pub fn output<H: KeyHash<Cell> + KeyHash<Tuple>>(
     answer: Document,
     manner: &Manner,
 ) -> Result<Vec<u8>, Incomplete>
-    ensures output { (hash : Cell → ℕ) (shard_of : Sharding) (givens : Givens) → givens.manner ≡ manner.now → length givens.parts ≤ part_limit → FitAll givens [] (lines answer.script) →
+    ensures output { (hash : Cell → ℕ) (shard_of : Sharding) (givens : Givens) → givens.manner ≡ manner.now →
+        length givens.parts ≤ part_limit → FitAll givens [] (lines answer.script) →
         IsPartialAnswer shard_of givens answer → IfOk result (λ text. IsOutput hash givens answer.script text.items) }
     ensures all { IfOk result (λ text. IsComplete answer) }
     ensures why { IfErr result (IsIncomplete answer) }

@@ -55,7 +55,8 @@ pub(crate) fn division_value(
 
 /// The division that a value spells, and into how many shards.
 pub(crate) fn division_in(value: &Value) -> Option<(Division, u64)>
-    ensures { (division : Division) (count : ℕ) → SpellsBehind (division_word division) (SpellsCount count) (view value.now) → result ≡ Some (division, count) }
+    ensures { (division : Division) (count : ℕ) → SpellsBehind (division_word division) (SpellsCount count) (view value.now) →
+        result ≡ Some (division, count) }
 {
     let Some((word, count)) = both_of(value) else {
         return None;

@@ -64,7 +64,8 @@ pub fn read(alloc: Global, text: &[u8]) -> Result<Document, Unread>
 
 /// The partial answer of a body.
 fn read_body(alloc: Global, body: &[u8]) -> Result<Document, Unread>
-    ensures { (it : DocumentValue) (d : Data) → IsUtf8 body.now → read body.now ≡ Some d → SpellsDocument it d → MatchResult result (λ document. document ≡ it) (λ e. e ≡ Unread.OutOfMemory) }
+    ensures { (it : DocumentValue) (d : Data) → IsUtf8 body.now → read body.now ≡ Some d → SpellsDocument it d →
+        MatchResult result (λ document. document ≡ it) (λ e. e ≡ Unread.OutOfMemory) }
 {
     match Value::from_slice(alloc, body) {
         Ok(value) => of_value(alloc, &value),
@@ -84,7 +85,8 @@ fn unread_by(error: &serde_json::Error) -> Unread
 
 /// The partial answer that a value spells, or that it has another form.
 fn of_value(alloc: Global, value: &Value) -> Result<Document, Unread>
-    ensures { (it : DocumentValue) → SpellsDocument it (view value.now) → MatchResult result (λ document. document ≡ it) (λ e. e ≡ Unread.OutOfMemory) }
+    ensures { (it : DocumentValue) → SpellsDocument it (view value.now) →
+        MatchResult result (λ document. document ≡ it) (λ e. e ≡ Unread.OutOfMemory) }
 {
     match document_of(alloc, value) {
         Ok(Some(document)) => Ok(document),
@@ -112,7 +114,8 @@ fn object_of(
     shards: Value,
     told: Value,
 ) -> Result<Value, AllocError>
-    ensures { IfOk result (λ v. view v ≡ object (put (codes "told") (view told) (put (codes "shards") (view shards) (put (codes "script") (view script) (put (codes "of") (view dividing) no_members))))) }
+    ensures { IfOk result (λ v. view v ≡ object (put (codes "told") (view told)
+        (put (codes "shards") (view shards) (put (codes "script") (view script) (put (codes "of") (view dividing) no_members))))) }
 {
     let mut members = Map::new(alloc);
     serde_json::put(&mut members, alloc, "of", dividing)?;

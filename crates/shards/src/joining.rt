@@ -52,8 +52,9 @@ impl<T: Drop> From<AllocFailed<T>> for Unjoined {
 /// The partial answer of the shards of both. The order in which more than two are joined does not count for what is written in
 /// the end.
 ///
-/// The first that holds: [`Unjoined::OtherScript`], [`Unjoined::OtherDivision`], [`Unjoined::OtherCount`], [`Unjoined::Twice`] with the first shard of the first
-/// one that the second has, too; else [`Unjoined::Unfit`] or [`Unjoined::OutOfMemory`].
+/// The first that holds: [`Unjoined::OtherScript`], [`Unjoined::OtherDivision`], [`Unjoined::OtherCount`],
+/// [`Unjoined::Twice`] with the first shard of the first one that the second has, too; else [`Unjoined::Unfit`] or
+/// [`Unjoined::OutOfMemory`].
 pub fn join<H: KeyHash<Cell> + KeyHash<Tuple>>(
     alloc: Global,
     first: Document,

@@ -59,7 +59,8 @@ pub fn tell_own<H: KeyHash<Cell> + KeyHash<Tuple>>(
     how: &How,
     shard: &Shard,
 ) -> Result<Document, OwnUntold>
-    ensures told { (shard_of : Sharding) (givens : Givens) → HasOwnParts shard_of givens shard.now script.now (map (λ p. p.items) parts.now) → IfOk result (λ it. FitAll givens [] (lines script.now) →
+    ensures told { (shard_of : Sharding) (givens : Givens) → HasOwnParts shard_of givens shard.now script.now
+        (map (λ p. p.items) parts.now) → IfOk result (λ it. FitAll givens [] (lines script.now) →
         IsPartialAnswer shard_of givens it) }
     ensures script { IfOk result (λ it. it.script ≡ script.now) }
     ensures division { IfOk result (λ it. it.division ≡ Division.Parts) }
@@ -85,7 +86,13 @@ fn document_of(
     shard: &Shard,
     tolds: Vec<Told>,
 ) -> Result<Document, AllocError>
-    ensures is { IfOk result (λ it. it ≡ record { script = script.now; division = division; count = shard.now.count; numbers = shard.now.number ∷ []; lines = map line_value tolds.items }) }
+    ensures is { IfOk result (λ it. it ≡ record {
+      script = script.now;
+      division = division;
+      count = shard.now.count;
+      numbers = shard.now.number ∷ [];
+      lines = map line_value tolds.items;
+    }) }
     ensures some { IfOk result (λ it. 1 ≤ shard.now.count) }
 {
     let script = String::from_str(alloc, script)?;

@@ -19,7 +19,7 @@ module _ {X : Type 0} (test : X → Bool) where
   find-behind [] ys h = refl
   find-behind (x ∷ xs) ys h = rw h.0 (find-behind xs ys h.1)
 
-  find-none : (ys : List X) → AllByRecursion (λ x. test x ≡ false) ys → find test ys ≡ None
+  pub find-none : (ys : List X) → AllByRecursion (λ x. test x ≡ false) ys → find test ys ≡ None
   find-none [] h = refl
   find-none (y ∷ ys) h = rw h.0 (find-none ys h.1)
 

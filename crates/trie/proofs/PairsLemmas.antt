@@ -1,22 +1,26 @@
 -- Pairs that are laid over entries one after another.
 use Rattle.std.proofs.Common.{◌≡◌, ℕ, ◌+◌, ◌<◌, ◌≤◌, Bool, true, false, cond, Some, None, List, [], ◌∷◌, drop, get_or, length, map, refl, sym, ap, ◌∙◌, arith, inl, inr}
+use Rattle.std.specs.Prelude.{⊤}
 use Rattle.std.specs.Cmp.{IsTotalOrder}
 use Rattle.std.specs.FinMap.{IsAntisymmetric, insert}
 use Rattle.std.specs.List.{All, AllByRecursion, filter, fold}
 use Rattle.std.specs.Map.{keys_of}
 use Rattle.std.specs.Ordering.{eq_by_cmp, is_eq, is_lt, ordering_reverse}
+use Rattle.std.specs.declared.alloc.Global.{Global}
 use Rattle.std.specs.declared.cmp.Ordering.{Ordering}
 use Rattle.std.specs.declared.cmp.Ordering.TheVariants.{Less, Equal, Greater}
+use Rattle.std.specs.declared.sync.Arc.{Arc}
 use Rattle.std.proofs.lemmas.Bool.{cases_Bool}
 use Rattle.std.proofs.lemmas.Cmp.{alike_right, tied_itself}
 use Rattle.std.proofs.lemmas.List.{at_drop_all, at_drop_more}
 use Rattle.std.proofs.lemmas.List.Elements.{All-head, All-tail}
-use Rattle.trie.specs.Building.{OwnedPair, pair_in, pairs_in}
 use Rattle.trie.specs.Digits.{digit_order}
 use Rattle.trie.specs.Entries.{entry_at, IsRising, with_pair, with_pairs}
+use Rattle.trie.specs.Holding.{pairs_of}
 use Rattle.trie.specs.Maps.{map_of}
 use Rattle.trie.proofs.EntriesLemmas.{with_pair-all, with_pair-most, with_pair-sorted}
 use Rattle.trie.proofs.FoundLemmas.{none_below}
+use Rattle.trie.proofs.ListsLemmas.{all-each}
 use Rattle.trie.proofs.MapsLemmas.{below_alike, below_more, entry-with_pair, HaveHashes, is_Equal, put_map}
 
 module _ {K V : Type 0} (R : K → K → Ordering) where
@@ -174,15 +178,30 @@ module _ {X K V : Type 0} (pair : X → K × V) (R : K → K → Ordering) (tota
         found_more x (filter test xs) xs es fs (test x) (All-head P x xs all) refl same
         (λ es fs alike. found_kept xs (All-tail P x xs all) es fs alike)
 
--- one pair more of a list is laid over what is held, and none is left
-module _ {K V : Type 0} (cmp : K → K → Ordering) (pairs : List (OwnedPair K V)) (k : ℕ) where
-  pub pair_laid : (one : OwnedPair K V) → k < length pairs → one ≡ get_or pairs k one → (held new : List (K × V)) (pair : K × V) → pair ≡ pair_in one →
-      new ≡ with_pair cmp pair.0 pair.1 held → (all : List (K × V)) → with_pairs cmp (pairs_in (drop k pairs)) held ≡ all →
-      with_pairs cmp (pairs_in (drop (k + 1) pairs)) new ≡ all
-  pair_laid one within is held new pair same laid all kept =
-      ap (λ h. with_pairs cmp (pairs_in (drop (k + 1) pairs)) h) (laid ∙ ap (λ p. with_pair cmp p.0 p.1 held) same)
-      ∙ ap (λ q. with_pairs cmp (pairs_in (q ∷ drop (k + 1) pairs)) held) is
-      ∙ sym (at_drop_more (λ l. with_pairs cmp (pairs_in l) held) pairs k one within) ∙ kept
+-- lists of which tests that pass each pair of a key keep the same make the same map
+module _ {X K V : Type 0} (pair : X → K × V) (R : K → K → Ordering) (total : IsTotalOrder R) (P : X → Type 0) (test : K → X → Bool)
+    (passes : (q : K) (x : X) → P x → eq_by_cmp R q (pair x).0 ≡ true → test q x ≡ true) where
+  abbrev made : List X → List (K × V)
+  made list = with_pairs R (map pair list) []
 
-  pub pairs_laid : length pairs ≤ k → (held all : List (K × V)) → with_pairs cmp (pairs_in (drop k pairs)) held ≡ all → held ≡ all
-  pairs_laid end held all kept = sym (at_drop_all (λ l. with_pairs cmp (pairs_in l) held) pairs k end) ∙ kept
+  kept_found : (q : K) (list : List X) → All P list → entry_at R (made (filter (test q) list)) q ≡ entry_at R (made list) q
+  kept_found q list all = found_kept pair R total (test q) q P (λ x here same. passes q x here same) list all [] [] refl
+
+  pub kept_made : (old new : List X) → All P old → All P new → ((q : K) → filter (test q) new ≡ filter (test q) old) → made new ≡ made old
+  kept_made old new all also same =
+      same_by_entries R total (λ k. ⊤) _ _ (with_pairs-sorted R total (map pair new) [] tt) (with_pairs-sorted R total (map pair old) [] tt)
+      (all-each (λ _. ⊤) (λ _. tt) _) (all-each (λ _. ⊤) (λ _. tt) _)
+      (λ q _. sym (kept_found q new also) ∙ ap (λ list. entry_at R (made list) q) (same q) ∙ kept_found q old all)
+
+-- one pair more of a list is laid over what is held, and none is left
+module _ {K V : Type 0} (cmp : K → K → Ordering) (pairs : List (Arc (K × V) Global)) (k : ℕ) where
+  pub pair_laid : (one : Arc (K × V) Global) → k < length pairs → one ≡ get_or pairs k one → (held new : List (K × V)) →
+      new ≡ with_pair cmp one.value.0 one.value.1 held → (all : List (K × V)) → with_pairs cmp (pairs_of (drop k pairs)) held ≡ all →
+      with_pairs cmp (pairs_of (drop (k + 1) pairs)) new ≡ all
+  pair_laid one within is held new laid all kept =
+      ap (λ h. with_pairs cmp (pairs_of (drop (k + 1) pairs)) h) laid
+      ∙ ap (λ (q : Arc (K × V) Global). with_pairs cmp (pairs_of (q ∷ drop (k + 1) pairs)) held) is
+      ∙ sym (at_drop_more (λ l. with_pairs cmp (pairs_of l) held) pairs k one within) ∙ kept
+
+  pub pairs_laid : length pairs ≤ k → (held all : List (K × V)) → with_pairs cmp (pairs_of (drop k pairs)) held ≡ all → held ≡ all
+  pairs_laid end held all kept = sym (at_drop_all (λ l. with_pairs cmp (pairs_of l) held) pairs k end) ∙ kept

@@ -1,23 +1,27 @@
 -- Hashes in the order of their digits, and pairs that are sorted so: they make the same map.
 use Rattle.std.proofs.Common.{◌≡◌, ℕ, ◌+◌, ◌-◌, ◌*◌, ◌<◌, ◌≤◌, ◌^◌, Bool, true, List, [], ◌∷◌, length, take, get_or, zero, suc, add-one, refl, sym, ap, ◌∙◌, arith}
 use Rattle.std.specs.Prelude.{⊤}
-use Rattle.std.specs.List.{filter}
-use Rattle.std.specs.List.Sorted.{IsSortedByKey, IsStableByKey, ties}
-use Rattle.std.specs.Ordering.{eq_by_cmp, is_lt, nat_cmp}
+use Rattle.std.specs.Arc.{arc_with_value}
+use Rattle.std.specs.Cmp.{IsTotalOrder}
+use Rattle.std.specs.List.Sorted.{IsSortedByKey, IsStableBy, IsStableByKey, ties}
+use Rattle.std.specs.Ordering.{eq_by_cmp, is_lt, nat_cmp, ordering_reverse}
+use Rattle.std.specs.declared.alloc.Global.{Global}
 use Rattle.std.specs.declared.cmp.Ordering.{Ordering}
+use Rattle.std.specs.declared.cmp.Ordering.TheVariants.{Equal}
+use Rattle.std.specs.declared.sync.Arc.{Arc}
 use Rattle.std.proofs.Math.Nat.{pow-le-pow_right, pow-suc}
 use Rattle.std.proofs.lemmas.Cmp.{nat_cmp_total, tied_itself}
 use Rattle.std.proofs.lemmas.List.Sorted.{IsNonDecreasingBy-from_sort}
 use Rattle.std.proofs.lemmas.List.Sums.{fold-append}
 use Rattle.trie.specs.Building.{AreSmall, HaveTheirHashes, Rise, hashed_pairs}
 use Rattle.trie.specs.Digits.{digit, digit_count, digit_order, digits, digits_number, first_number, last, last_count, slot_count}
-use Rattle.trie.specs.Entries.{entry_at, with_pairs}
+use Rattle.trie.specs.Entries.{with_pairs}
+use Rattle.trie.specs.Holding.{pairs_of}
 use Rattle.trie.specs.declared.build.Hashed.{Hashed}
 use Rattle.trie.proofs.DigitsLemmas.{take-digits}
-use Rattle.trie.proofs.ListsLemmas.{all-each}
 use Rattle.trie.proofs.MapsLemmas.{digit_total, HaveHashes, is_Equal}
 use Rattle.trie.proofs.OrderLemmas.{order_agrees}
-use Rattle.trie.proofs.PairsLemmas.{found_kept, same_by_entries, with_pairs-sorted}
+use Rattle.trie.proofs.PairsLemmas.{kept_made}
 
 -- the digits so far as a number, with one digit more
 pub number_more : (hash depth number : ℕ) → depth < digit_count → number ≡ first_number hash depth →
@@ -79,16 +83,6 @@ module _ {K V : Type 0} (hash : K → ℕ) (cmp : K → K → Ordering) (h : Hav
   abbrev like : V → K → Hashed (K × V)
   like v q = record { hash = hash q; pair = (q, v) }
 
-  abbrev test : V → K → Hashed (K × V) → Bool
-  test v q one = ties (λ x y. is_lt (nat_cmp (digits_number x.hash) (digits_number y.hash))) (like v q) one
-
-  found : (v : V) (q : K) (list : List (Hashed (K × V))) → HaveTheirHashes hash list →
-      entry_at (digit_order hash cmp) (with_pairs (digit_order hash cmp) (hashed_pairs (filter (test v q) list)) []) q
-      ≡ entry_at (digit_order hash cmp) (with_pairs (digit_order hash cmp) (hashed_pairs list) []) q
-  found v q list have =
-      found_kept (λ (one : Hashed (K × V)). one.pair) (digit_order hash cmp) (digit_total hash cmp h) (test v q) q (λ one. one.hash ≡ hash one.pair.0)
-      (λ p p_is same. tied (like v q) p refl p_is same) list have [] [] refl
-
   -- pairs that were sorted by digits, those of one hash in their order, make the same map
   pub sorted_made : (old new : List (Hashed (K × V))) → HaveTheirHashes hash old → HaveTheirHashes hash new →
       IsStableByKey (λ one. digits_number one.hash) nat_cmp old new → length new ≡ length old →
@@ -96,9 +90,26 @@ module _ {K V : Type 0} (hash : K → ℕ) (cmp : K → K → Ordering) (h : Hav
   sorted_made [] [] hashed also stable long = refl
   sorted_made [] (n ∷ new) hashed also stable long = absurd (omega arith)
   sorted_made (o ∷ old) new hashed also stable long =
-      let order = digit_order hash cmp in
-      let total = digit_total hash cmp h in
-      let v = o.pair.1 in
-      same_by_entries order total (λ k. ⊤) _ _ (with_pairs-sorted order total (hashed_pairs new) [] tt)
-      (with_pairs-sorted order total (hashed_pairs (o ∷ old)) [] tt) (all-each (λ _. ⊤) (λ _. tt) _) (all-each (λ _. ⊤) (λ _. tt) _)
-      (λ q _. sym (found v q new also) ∙ ap (λ list. entry_at order (with_pairs order (hashed_pairs list) []) q) (stable (like v q)) ∙ found v q (o ∷ old) hashed)
+      kept_made (λ (one : Hashed (K × V)). one.pair) (digit_order hash cmp) (digit_total hash cmp h) (λ one. one.hash ≡ hash one.pair.0)
+      (λ q one. ties (λ x y. is_lt (nat_cmp (digits_number x.hash) (digits_number y.hash))) (like o.pair.1 q) one)
+      (λ q one one_is same. tied (like o.pair.1 q) one refl one_is same) (o ∷ old) new hashed also (λ q. stable (like o.pair.1 q))
+
+-- so do pairs of one hash that were sorted by their keys
+module _ {K V : Type 0} (cmp : K → K → Ordering) (total : IsTotalOrder cmp) where
+  abbrev is_below : Arc (K × V) Global → Arc (K × V) Global → Bool
+  is_below x y = is_lt (cmp x.value.0 y.value.0)
+
+  tied_keys : (one p : Arc (K × V) Global) → eq_by_cmp cmp one.value.0 p.value.0 ≡ true → ties is_below one p ≡ true
+  tied_keys one p same =
+      let equal : cmp one.value.0 p.value.0 ≡ Equal = is_Equal _ same in
+      let back : cmp p.value.0 one.value.0 ≡ Equal = total.antisymm p.value.0 one.value.0 ∙ ap ordering_reverse equal in
+      rw (equal, back) refl
+
+  pub in_order_made : (old new : List (Arc (K × V) Global)) → IsStableBy is_below old new → length new ≡ length old →
+      with_pairs cmp (pairs_of new) [] ≡ with_pairs cmp (pairs_of old) []
+  in_order_made [] [] stable long = refl
+  in_order_made [] (n ∷ new) stable long = absurd (omega arith)
+  in_order_made (o ∷ old) new stable long =
+      kept_made (λ (p : Arc (K × V) Global). p.value) cmp total (λ _. ⊤) (λ q p. ties is_below (arc_with_value o (q, o.value.1)) p)
+      (λ q p _ same. tied_keys (arc_with_value o (q, o.value.1)) p same) (o ∷ old) new (λ k d lt. tt) (λ k d lt. tt)
+      (λ q. stable (arc_with_value o (q, o.value.1)))

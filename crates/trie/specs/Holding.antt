@@ -1,8 +1,9 @@
 -- What the functions on nodes answer.
-use Rattle.std.specs.Prelude.{◌≡◌, ℕ, ◌+◌, ◌<◌, ◌^◌, List, [], ◌∷◌, length, map, set, Option, Some, None, Result, Ok, Err, Vec, if◌then◌else◌, ◌==◌}
-use Rattle.std.specs.List.{flat_map}
+use Rattle.std.specs.Prelude.{◌≡◌, ℕ, ◌+◌, ◌<◌, ◌≤◌, ◌^◌, List, [], ◌∷◌, length, map, set, Option, Some, None, Result, Ok, Err, Vec, if◌then◌else◌, ◌==◌}
+use Rattle.std.specs.List.{AllWithin, flat_map, HoldsAt}
 use Rattle.std.specs.declared.alloc.Global.{Global}
 use Rattle.std.specs.declared.cmp.Ordering.{Ordering}
+use Rattle.std.specs.declared.cmp.Ordering.TheVariants.{Less, Equal, Greater}
 use Rattle.std.specs.declared.sync.Arc.{Arc}
 use Rattle.std.specs.Borrow.{Bor}
 use Rattle.trie.specs.Digits.{digit, digit_count, digit_order, first_digits, slot_count}
@@ -23,6 +24,14 @@ use Rattle.trie.specs.declared.remove.Removed.TheVariants.{Missing, Left}
 -- the pairs, whoever owns them
 abbrev pub pairs_of : {X : Type 0} → List (Arc X Global) → List X
 pairs_of pairs = map (λ p. p.value) pairs
+
+-- where a key stands among elements that rise, by how it compares with each: at one that equals it, or else between those below
+-- it and those above it
+abbrev pub IsPlace : {X : Type 0} → (X → Ordering) → List X → Result ℕ ℕ → Type 0
+IsPlace order xs (Ok place) =
+    (place < length xs) × AllWithin (λ x. order x ≡ Greater) xs 0 place × HoldsAt (λ x. order x ≡ Equal) xs place
+IsPlace order xs (Err place) =
+    (place ≤ length xs) × AllWithin (λ x. order x ≡ Greater) xs 0 place × AllWithin (λ x. order x ≡ Less) xs place (length xs)
 
 -- the new entries are the old ones with the pair
 abbrev pub IsWith : {K V : Type 0} → (K → K → Ordering) → K × V → List (K × V) → List (K × V) → Type 0

@@ -82,16 +82,33 @@ fn have_key_of<K: Ord, V>(pairs: &[Hashed<Arc<(K, V)>>], last: &Hashed<Arc<(K, V
     pairs.iter().all(|one| one.hash == last.hash && one.pair.0.cmp(&last.pair.0).is_eq())
 }
 
-/// The entries of a bucket with these pairs: of pairs of one key the last stands.
+/// The owners of the pairs in the order of their keys, those of one key in the order of the list.
+fn in_key_order<K: Ord + Drop, V: Drop>(
+    alloc: Global,
+    pairs: &[Hashed<Arc<(K, V)>>],
+) -> Result<Vec<Arc<(K, V)>>, AllocError>
+    ensures { IfOk result (λ v. with_pairs K.cmp (pairs_of v.items) [] ≡ with_pairs K.cmp (pairs_in pairs.now) []) }
+{
+    let mut owners = Vec::with_capacity(alloc, pairs.len())?;
+    for one in pairs {
+        owners.push(one.pair.clone()?)?;
+    }
+    owners.sort_by(|one, other| one.0.cmp(&other.0))?;
+    Ok(owners)
+}
+
+/// The entries of a bucket with these pairs: of pairs of one key the last stands. They are sorted first, so that each is put
+/// at the end of those before it.
 fn bucket_of<K: Ord + Drop, V: Drop>(
     alloc: Global,
     pairs: &[Hashed<Arc<(K, V)>>],
 ) -> Result<Vec<Arc<(K, V)>>, AllocError>
     ensures { IfOk result (λ v. pairs_of v.items ≡ with_pairs K.cmp (pairs_in pairs.now) []) }
 {
-    let mut rising = Vec::new(alloc);
-    for one in pairs {
-        rising = placed(rising, &one.pair)?;
+    let sorted = in_key_order(alloc, pairs)?;
+    let mut rising = Vec::with_capacity(alloc, sorted.len())?;
+    for pair in &sorted {
+        rising = placed(rising, pair)?;
     }
     Ok(rising)
 }

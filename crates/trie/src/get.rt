@@ -11,8 +11,7 @@ use crate::node::{Seen, View, step, view_of};
 use cells::KeyHash;
 use std::sync::Arc;
 
-/// The entry of the key below the prefix, lent with its owner, so that it can be shared. It takes no
-/// memory.
+/// The entry of the key below the prefix, lent with its owner, so that it can be shared.
 pub fn get_at<'a, K: Ord, V, H: KeyHash<K>, S: Beside<K, V>>(
     slot: Seen<'a, K, V, S>,
     key: &K,

@@ -41,14 +41,14 @@ impl Model for Prefix {
 }
 
 impl Prefix {
-    /// Its digits. It takes no memory.
+    /// Its digits.
     pub fn digits(&self) -> &[u8]
         ensures { result.now ≡ self.now }
     {
         self.digits.as_slice()
     }
 
-    /// The prefix of no digits. It takes no memory.
+    /// The prefix of no digits.
     fn empty(alloc: Global) -> Prefix
         ensures { result ≡ [] }
     {

@@ -50,7 +50,7 @@ impl<K: Ord, V, H: KeyHash<K>, S: Beside<K, V>> Piece<K, V, H, S> {
         walk_node(&self.node, visitor)
     }
 
-    /// How many entries there are. It takes no memory.
+    /// How many entries there are.
     pub fn len(&self) -> u64
         ensures { result ≡ length self.now }
     {

@@ -52,7 +52,7 @@ impl<K: Ord, V, H: KeyHash<K>, S: Beside<K, V>> Model for Trie<K, V, H, S> {
 }
 
 impl<K: Ord, V, H: KeyHash<K>, S: Beside<K, V>> Trie<K, V, H, S> {
-    /// The map with no entry. It takes no memory.
+    /// The map with no entry.
     pub fn empty() -> Self
         ensures { result ≡ [] }
     {
@@ -62,7 +62,7 @@ impl<K: Ord, V, H: KeyHash<K>, S: Beside<K, V>> Trie<K, V, H, S> {
         }
     }
 
-    /// The value of the key. It takes no memory.
+    /// The value of the key.
     pub fn get(&self, key: &K) -> Option<&V>
         ensures { option_copied result ≡ value_at (digit_order H.hash_of K.cmp) self.now key.now }
     {
@@ -73,7 +73,7 @@ impl<K: Ord, V, H: KeyHash<K>, S: Beside<K, V>> Trie<K, V, H, S> {
         Some(&entry.1)
     }
 
-    /// How many entries there are. It takes no memory.
+    /// How many entries there are.
     pub fn len(&self) -> u64
         ensures { result ≡ length self.now }
     {

@@ -39,7 +39,8 @@ impl Widths {
 
     /// The widths of a table that has one row more. The only error is that a growth was refused.
     pub fn widen(&mut self, alloc: Global, totals: &[Total]) -> Result<(), AllocError>
-        ensures { OnOk result ((headings : List (List ℕ)) (rows : List (List Total)) → self.old ≡ widths_of headings rows → self.new ≡ widths_of headings (rows ++ totals.now ∷ [])) }
+        ensures { OnOk result ((headings : List (List ℕ)) (rows : List (List Total)) → self.old ≡ widths_of headings rows →
+            self.new ≡ widths_of headings (rows ++ totals.now ∷ [])) }
     {
         let wider = wider(alloc, self.widths.as_slice(), totals)?;
         self.widths = wider;

@@ -1,9 +1,8 @@
-use Rattle.std.proofs.Common.{sym, ap, subst, ◌∙◌}
+use Rattle.std.proofs.Common.{sym, ap, subst, ◌∙◌, IsUtf8}
 use Rattle.std.proofs.lemmas.List.{length-take-le, nil_from_length}
 use Rattle.std.proofs.lemmas.Int.{to_z-of_z}
 use Rattle.std.proofs.lemmas.Str.{IsUtf8-had}
 use Rattle.std.specs.Int.{w64}
-use Rattle.std.specs.Prelude.{IsUtf8}
 use Rattle.cells.specs.Packing.{first_cell}
 use Rattle.cells.specs.declared.cell.Cell.TheVariants as cell
 use Rattle.cells.proofs.PackingLemmas.{cell_is, first_of_none, spelt_behind, within}

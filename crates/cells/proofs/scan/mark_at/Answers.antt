@@ -1,5 +1,4 @@
-use Rattle.std.proofs.Common.{◌∙◌, sym, ap}
-use Rattle.std.specs.Prelude.{slice_index}
+use Rattle.std.proofs.Common.{◌∙◌, sym, ap, slice_index}
 use Rattle.cells.specs.Scanning.{mark_of}
 use Rattle.cells.proofs.MarksLemmas.{mark_boundary}
 use Rattle.cells.proofs.scan.mark_at.Goals as goal

@@ -1,5 +1,4 @@
-use Rattle.std.proofs.Common.{◌∙◌, sym, ap, subst}
-use Rattle.std.specs.Prelude.{take, drop}
+use Rattle.std.proofs.Common.{◌∙◌, sym, ap, subst, take, drop}
 use Rattle.std.specs.Str.{IsCharBoundary}
 use Rattle.cells.specs.Scanning.{number_len}
 use Rattle.cells.proofs.NumbersLemmas.{number_boundary, take_number, drop_number}

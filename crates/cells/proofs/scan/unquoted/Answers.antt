@@ -1,5 +1,4 @@
-use Rattle.std.proofs.Common.{◌∙◌, ◌++◌, ◌∷◌, [], Some, None, inr, refl, sym, ap, lit<, rules}
-use Rattle.std.specs.Prelude.{string_bytes}
+use Rattle.std.proofs.Common.{◌∙◌, ◌++◌, ◌∷◌, [], Some, None, inr, refl, sym, ap, lit<, rules, string_bytes}
 use Rattle.std.proofs.lemmas.Str.Pattern.{split_parts, strip_prefix_char}
 use Rattle.cells.specs.Scanning.{after, unquoted}
 use Rattle.cells.proofs.QuotesLemmas.{part_ends, part_goes_on, unquoted_none}

@@ -1,5 +1,4 @@
-use Rattle.std.proofs.Common.{rules, ◌≡◌, true, false, take}
-use Rattle.std.specs.Prelude.{bytes_eq}
+use Rattle.std.proofs.Common.{rules, ◌≡◌, true, false, take, bytes_eq}
 use Rattle.std.specs.List.{list_any}
 use Rattle.cells.proofs.NamesLemmas.{distinct_more, distinct_none, found_twice}
 use Rattle.cells.proofs.schema.are_different.Goals as goal

@@ -1,5 +1,4 @@
-use Rattle.std.proofs.Common.{◌∙◌, ◌++◌, ◌∷◌, [], None, Some, sym, ap, lit<, rules}
-use Rattle.std.specs.Prelude.{string_bytes}
+use Rattle.std.proofs.Common.{◌∙◌, ◌++◌, ◌∷◌, [], None, Some, sym, ap, lit<, rules, string_bytes}
 use Rattle.std.proofs.lemmas.Str.Pattern.{split_parts}
 use Rattle.cells.specs.Spelling.{doubled}
 use Rattle.cells.proofs.LiteralsLemmas.{doubled_more, doubled_plain}

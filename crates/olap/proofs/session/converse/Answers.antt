@@ -29,7 +29,7 @@ pub returns-in-Ok-clause-beginning : goal.returns-in-Ok-clause-beginning
 returns-in-Ok-clause-beginning g c = λ early.
     let given : List Text = map string_bytes c.args.words.now in
     let file : List ℕ → Option (List ℕ) = g.F.Folder.file c.args.folder.now in
-    begins_as (IsOfJob file c.in-Ok.job (IsTalkSoFar (g.I.Read.remaining c.args.input))) (AskToTalk file given (IsTalkSoFar (g.I.Read.remaining c.args.input)))
+    inr (begins_as (IsOfJob file c.in-Ok.job (IsTalkSoFar (g.I.Read.remaining c.args.input))) (AskToTalk file given (IsTalkSoFar (g.I.Read.remaining c.args.input)))
     (writer_contents g.W.Write.contents c.args.out) (writer_contents g.W.Write.contents c.with_parts.result.1)
     (asked_to_talk file given c.in-Ok.job c.in-Ok.ensures.job (IsTalkSoFar (g.I.Read.remaining c.args.input)))
-    (c.with_parts.ensures.beginning early)
+    (c.with_parts.ensures.beginning early))

@@ -16,7 +16,7 @@ returns-clause-written g c = λ ok.
     let run : Givens = record { manner = in_form c.args.job.now.form; limit = c.args.job.now.how.rows; parts = parts } in
     writes_as (IsTalk (g.I.Read.remaining c.args.input) Through (hash_of_choice c.args.job.now.hash) run c.args.job.now.on_refusal) (IsOfJob file c.args.job.now (IsTalk (g.I.Read.remaining c.args.input) Through))
     (writer_contents g.W.Write.contents c.args.out) (writer_contents g.W.Write.contents c.hold_job.result.1)
-    (of_job file c.args.job.now parts (rw c.as_slice.ensures.value at c.in-Ok.ensures) (IsTalk (g.I.Read.remaining c.args.input) Through))
+    (of_job file c.args.job.now parts (rw c.as_slice.ensures.value at c.in-Ok.ensures.told) (IsTalk (g.I.Read.remaining c.args.input) Through))
     (rw (c.of-manner.ensures, c.as_slice-2.ensures.value) at c.hold_job.ensures.written ok)
 
 pub returns-clause-stopped : goal.returns-clause-stopped
@@ -26,7 +26,7 @@ returns-clause-stopped g c = λ stopped.
     let run : Givens = record { manner = in_form c.args.job.now.form; limit = c.args.job.now.how.rows; parts = parts } in
     writes_as (IsTalk (g.I.Read.remaining c.args.input) Stopped (hash_of_choice c.args.job.now.hash) run c.args.job.now.on_refusal) (IsOfJob file c.args.job.now (IsTalk (g.I.Read.remaining c.args.input) Stopped))
     (writer_contents g.W.Write.contents c.args.out) (writer_contents g.W.Write.contents c.hold_job.result.1)
-    (of_job file c.args.job.now parts (rw c.as_slice.ensures.value at c.in-Ok.ensures) (IsTalk (g.I.Read.remaining c.args.input) Stopped))
+    (of_job file c.args.job.now parts (rw c.as_slice.ensures.value at c.in-Ok.ensures.told) (IsTalk (g.I.Read.remaining c.args.input) Stopped))
     (rw (c.of-manner.ensures, c.as_slice-2.ensures.value) at c.hold_job.ensures.stopped stopped)
 
 pub returns-clause-beginning : goal.returns-clause-beginning
@@ -36,5 +36,5 @@ returns-clause-beginning g c = λ early.
     let run : Givens = record { manner = in_form c.args.job.now.form; limit = c.args.job.now.how.rows; parts = parts } in
     begins_as (IsTalkSoFar (g.I.Read.remaining c.args.input) (hash_of_choice c.args.job.now.hash) run c.args.job.now.on_refusal) (IsOfJob file c.args.job.now (IsTalkSoFar (g.I.Read.remaining c.args.input)))
     (writer_contents g.W.Write.contents c.args.out) (writer_contents g.W.Write.contents c.hold_job.result.1)
-    (of_job file c.args.job.now parts (rw c.as_slice.ensures.value at c.in-Ok.ensures) (IsTalkSoFar (g.I.Read.remaining c.args.input)))
+    (of_job file c.args.job.now parts (rw c.as_slice.ensures.value at c.in-Ok.ensures.told) (IsTalkSoFar (g.I.Read.remaining c.args.input)))
     (rw (c.of-manner.ensures, c.as_slice-2.ensures.value) at c.hold_job.ensures.beginning early)

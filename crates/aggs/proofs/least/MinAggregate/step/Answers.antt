@@ -1,5 +1,4 @@
-use Rattle.std.proofs.Common.{◌≡◌, ◌≢◌, ◌∙◌, ap, false, sym}
-use Rattle.std.specs.Ordering.{is_ge}
+use Rattle.std.proofs.Common.{◌≡◌, ◌≢◌, ◌∙◌, ap, false, sym, is_ge}
 use Rattle.aggs.specs.Values.{lesser}
 use Rattle.aggs.proofs.NeededLemmas.{before, first_kept, lesser_is, not_null, on_err, other_kept}
 use Rattle.cells.specs.CellOrder.{cell_cmp}

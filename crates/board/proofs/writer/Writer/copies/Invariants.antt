@@ -1,5 +1,4 @@
-use Rattle.std.proofs.Common.{◌≡◌, length, All}
-use Rattle.std.specs.Prelude.{vec_capacity, vec_len}
+use Rattle.std.proofs.Common.{◌≡◌, length, All, vec_capacity, vec_len}
 use Rattle.board.proofs.writer.Writer.copies.Given as goal
 
 abbrev pub invariant-loop-viewer : goal.invariant-loop-viewer

@@ -1,7 +1,7 @@
 use Rattle.std.proofs.Common.{rules, ◌≡◌, ◌+◌, ◌*◌, refl, ap, ◌∙◌, get_or, length, replicate}
 use lib.ListN.{length-replicate}
 use Rattle.board.proofs.HistoryLemmas.{zeros_at}
-use Rattle.board.proofs.RuleLemmas.{starts}
+use Rattle.board.proofs.OpeningLemmas.{starts}
 use Rattle.board.proofs.writer.Writer.new.Goals as goal
 
 pub vacant-requires : goal.vacant-requires
