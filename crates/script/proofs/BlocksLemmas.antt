@@ -8,14 +8,11 @@ use Rattle.cells.specs.declared.refused.Refused.TheVariants.{Limit}
 use Rattle.script.specs.Deeds.{Declares, Deed, Loads, Nothing, Publishes, Reports, Shapes, Updates}
 use Rattle.script.specs.Givens.{Givens}
 use Rattle.script.specs.Limits.{part_limit, script_limit}
-use Rattle.script.specs.Output.{AreBlocks, InThree, IsAnswer, IsBlock, IsOutput, IsTooMuch, deed_behind, line_first, no_line, of_lines, too_much}
+use Rattle.script.specs.Output.{AreBlocks, InThree, IsAnswer, IsBlock, IsOutput, IsTooMuch, Lines, deed_behind, line_first, no_line, of_lines, too_much}
 use Rattle.script.specs.Spelling.{refusal}
 use Rattle.script.specs.declared.fault.Fault.{Fault}
 use Rattle.script.specs.declared.fault.Fault.TheVariants.{Line}
 use Rattle.script.proofs.SaysLemmas.{EachAnswered, OneAnswer, one_report, some_report}
-
-abbrev Lines : Type 0
-Lines = List (List ℕ)
 
 -- ---- each line has a block, and so each script an output
 

@@ -20,7 +20,7 @@ use Rattle.script.specs.Deeds.{Declares, Deed, Loads, Nothing, Publishes, Report
 use Rattle.script.specs.Desks.{Executes, IsBehind, LaysOrOverflows, schema_of_desk}
 use Rattle.script.specs.Givens.{Givens}
 use Rattle.script.specs.Keys.{key_of_text}
-use Rattle.script.specs.Output.{IsBlock, deed_behind, declared, edition}
+use Rattle.script.specs.Output.{IsBlock, Lines, declared, deed_behind, edition}
 use Rattle.script.specs.Sessions.{StandsBehind, counted, heard, is_heard, line_limit, next_number, not_heard, refused_unheard}
 use Rattle.script.specs.Spelling.{refusal}
 use Rattle.script.specs.Statements.{first_deed}
@@ -30,10 +30,8 @@ use Rattle.script.specs.declared.fault.Fault.{Fault}
 use Rattle.script.specs.declared.fault.Fault.TheVariants.{Line}
 use Rattle.script.proofs.RefusalsLemmas.{IsPlain, accepted_by_text, refused_by_text}
 use Rattle.script.proofs.SessionsLemmas.{heard_small, length-counted, stands_more, told_after}
-use Rattle.script.proofs.StepsLemmas.{executes_refused, none_published}
-
-abbrev Lines : Type 0
-Lines = List (List ℕ)
+use Rattle.script.proofs.StepsLemmas.{executes_refused}
+use Rattle.script.proofs.UpdatesLemmas.{none_published}
 
 -- ---- what such a line may say
 

@@ -1,17 +1,13 @@
 -- How viewers show their blocks as they come.
-use Rattle.std.proofs.Common.{◌≡◌, ◌∙◌, ℕ, zero, suc, ◌+◌, ◌<◌, ◌≤◌, Option, Ok, Err, List, [], ◌∷◌, ◌++◌, inl, inr, length, map, refl, sym, ap, subst, arith, append_assoc, length-append}
+use Rattle.std.proofs.Common.{◌≡◌, ◌∙◌, ℕ, zero, suc, ◌+◌, ◌<◌, ◌≤◌, Option, Err, List, [], ◌∷◌, ◌++◌, inl, inr, length, map, refl, sym, ap, subst, arith, append_assoc, length-append}
 use mathlib.Core.List.{IsPrefix}
-use Rattle.std.proofs.KnownBytes.{Appends-nil, Appends-trans}
 use Rattle.std.proofs.lemmas.List.{append-nil, map-append, nil_from_length}
 use Rattle.std.proofs.lemmas.List.Sums.{sum_by-append, sum_by-cons}
-use Rattle.std.specs.Io.KnownBytes.{Appends}
 use Rattle.std.specs.List.{AllByRecursion}
 use Rattle.board.specs.Editions.{Editions, History, IsNewViewer, Known}
 use Rattle.board.specs.Editions as keeper
 use Rattle.cells.specs.declared.cell.Cell.{Cell}
-use Rattle.report.specs.Laws.{takes_beginning}
 use Rattle.report.specs.Onlooking.{Glanced, HasGlanced, Onlooking, OnlookersValue, Shows, TakesOut, onlooking, sent, sent_by}
-use Rattle.report.specs.Taken.{TakesBeginning}
 use Rattle.report.specs.Watching.{IsLastShot, Sight}
 use Rattle.report.specs.declared.question.Question.{Question}
 use Rattle.script.specs.Coming.{IsLastViewOf, TakesTurn, blocks_left}
@@ -22,14 +18,12 @@ use Rattle.script.specs.Givens.{Givens}
 use Rattle.script.specs.Tails.{Viewing}
 use Rattle.script.specs.Turns.{AreBlocksBeside, ShowsLast, ShowsNext, Turn, view_at_last, lines_end, nobody_left, turns_from, view_next}
 use Rattle.script.specs.Viewers.{AreLate, AreOnlooking, IsAskedSo, IsGoing, IsOnlooking, IsWaiting, ShowAll, none_came, one_came, turn_of, turns_in, view_block}
+use Rattle.script.specs.Output.{Lines}
 use Rattle.script.specs.declared.finish.Finish.TheVariants.{Through}
 use Rattle.script.specs.declared.manner.Manner.{Manner}
 use Rattle.script.specs.declared.on_refusal.OnRefusal.{OnRefusal}
 use Rattle.script.proofs.TurnsLemmas.{some_turns}
 use Rattle.script.proofs.ViewsLemmas.{all_more, some_view, view_of}
-
-abbrev Lines : Type 0
-Lines = List (List ℕ)
 
 longer : (xs ys : History) → IsPrefix xs ys → length xs ≤ length ys
 longer xs ys a = let e : length (xs ++ a.0) ≡ length ys = ap length a.1 in omega (arith, e, length-append xs a.0)
@@ -238,15 +232,6 @@ all_then {givens = givens} {viewing = viewing} {lines = lines} {old = old} new b
 
 -- ---- the blocks that are still to come
 
--- those that were written, before the others
-pub record TurnsSoFar (old new : Option (List ℕ)) (hash : Cell → ℕ) (givens : Givens) (on : OnRefusal) (viewing : Viewing) (lines : Lines) (first left : List Turn) : Type 0 where
-  pub front : List ℕ
-  pub taken : Appends old new front
-  pub goes_on : (rest : List ℕ) → AreBlocksBeside hash givens on viewing lines [] left Through rest → AreBlocksBeside hash givens on viewing lines [] first Through (front ++ rest)
-
-pub none_yet : (told : Option (List ℕ)) (hash : Cell → ℕ) (givens : Givens) (on : OnRefusal) (viewing : Viewing) (lines : Lines) (turns : List Turn) → TurnsSoFar told told hash givens on viewing lines turns turns
-none_yet told hash givens on viewing lines turns = record { front = []; taken = Appends-nil told; goes_on = λ rest are. are }
-
 late_turns : (manner : Manner) (viewing : Viewing) (k : Editions) (P : Onlooking → Type 0) (all : List Onlooking) → AllByRecursion (λ o. IsOnlooking manner viewing k o × P o) all → AreLate (keeper.edition k) (map turn_of all)
 late_turns manner viewing k P [] are = tt
 late_turns manner viewing k P (o ∷ more) (is, are) = (is.0.late, late_turns manner viewing k P more are)
@@ -274,51 +259,15 @@ module _ (manner : Manner) (viewing : Viewing) (k : Editions) (hash : Cell → �
   pub some_left : (o : OnlookersValue) → AreOnlooking manner viewing k o → (bytes : List ℕ) × AreBlocksBeside hash givens on viewing lines [] (turns_in o) Through bytes
   some_left o are = some_of o.going o.waiting are.going are.waiting (onlookers_late manner viewing k o are)
 
-module _ (old new : Option (List ℕ)) (hash : Cell → ℕ) (givens : Givens) (on : OnRefusal) (viewing : Viewing) (lines : Lines) (first left : List Turn) (so_far : TurnsSoFar old new hash givens on viewing lines first left) where
-  -- nothing more, before what might follow
-  pub begins_turns : (bytes : List ℕ) → AreBlocksBeside hash givens on viewing lines [] left Through bytes → BeginsToWrite (AreBlocksBeside hash givens on viewing lines [] first Through) old new
-  begins_turns bytes are = record {
-    whole = so_far.front ++ bytes;
-    is_whole = so_far.goes_on bytes are;
-    beginning = record { rest = bytes; up_to = record { front = so_far.front; whole_is = refl; taken = so_far.taken } };
-  }
+module _ (hash : Cell → ℕ) (givens : Givens) (on : OnRefusal) (viewing : Viewing) (lines : Lines) (left : List Turn) where
+  -- a turn comes first
+  pub after_turn : (after : List Turn) (text : List ℕ) → TakesTurn givens viewing lines left after text → (rest : List ℕ) → AreBlocksBeside hash givens on viewing lines [] after Through rest →
+      AreBlocksBeside hash givens on viewing lines [] left Through (text ++ rest)
+  after_turn after text turn rest are = elim turn [ inl next ↦ view_next text rest next are | inr last ↦ view_at_last text rest last are ]
 
-  module _ (after : List Turn) (text : List ℕ) (turn : TakesTurn givens viewing lines left after text) where
-    after_turn : (rest : List ℕ) → AreBlocksBeside hash givens on viewing lines [] after Through rest → AreBlocksBeside hash givens on viewing lines [] left Through (text ++ rest)
-    after_turn rest are = elim turn [ inl next ↦ view_next text rest next are | inr last ↦ view_at_last text rest last are ]
-
-    -- a block more
-    pub one_turn : (newer : Option (List ℕ)) → Appends new newer text → TurnsSoFar old newer hash givens on viewing lines first after
-    one_turn newer wrote = record {
-      front = so_far.front ++ text;
-      taken = Appends-trans old new newer so_far.front text so_far.taken wrote;
-      goes_on = λ rest are. subst (AreBlocksBeside hash givens on viewing lines [] first Through) (sym (append_assoc so_far.front text rest)) (so_far.goes_on (text ++ rest) (after_turn rest are));
-    }
-
-    -- or a beginning of it
-    pub begins_turn : (newer : Option (List ℕ)) (bytes : List ℕ) → AreBlocksBeside hash givens on viewing lines [] after Through bytes → TakesBeginning new newer text →
-        BeginsToWrite (AreBlocksBeside hash givens on viewing lines [] first Through) old newer
-    begins_turn newer bytes are beginning =
-        let whole = so_far.front ++ (text ++ bytes) in
-        record {
-          whole = whole;
-          is_whole = so_far.goes_on (text ++ bytes) (after_turn bytes are);
-          beginning = takes_beginning old new newer whole text bytes (record { front = so_far.front; whole_is = refl; taken = so_far.taken }) beginning;
-        }
-
--- nobody is left
-pub delivers_so_far : {W T : Type 0} {x : T} (taken : W → Option (List ℕ)) (faults : W → ℕ) (old new : W) (hash : Cell → ℕ) (givens : Givens) (on : OnRefusal) (viewing : Viewing) (lines : Lines) (first left : List Turn) →
-    TurnsSoFar (taken old) (taken new) hash givens on viewing lines first left → left ≡ [] → faults new ≡ faults old → Delivers taken faults old new (AreBlocksBeside hash givens on viewing lines [] first Through) (Ok x)
-delivers_so_far taken faults old new hash givens on viewing lines first left so_far none sound = record {
-  output = record {
-    whole = so_far.front ++ [];
-    is_whole = so_far.goes_on [] (rw none (lines_end nobody_left));
-    taken = rw append-nil so_far.taken;
-  };
-  beginning = tt;
-  fault = λ late. absurd cc;
-  sound = sound;
-}
+  -- nobody is left
+  pub no_blocks : left ≡ [] → AreBlocksBeside hash givens on viewing lines [] left Through []
+  no_blocks none = rw none (lines_end nobody_left)
 
 -- the writer failed
 pub writer_failed : {W T : Type 0} (taken : W → Option (List ℕ)) (faults : W → ℕ) (old middle new : W) (IsWhole : List ℕ → Type 0) → BeginsToWrite IsWhole (taken old) (taken new) → faults new ≡ faults middle + 1 → faults middle ≡ faults old →

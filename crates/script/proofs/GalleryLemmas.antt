@@ -16,11 +16,11 @@ use Rattle.report.specs.declared.question.Question.{Question}
 use Rattle.script.specs.Desks.{Keeps}
 use Rattle.script.specs.Endings.{BeginsToWrite, Delivers}
 use Rattle.script.specs.Givens.{Givens}
-use Rattle.script.specs.Output.{edition, editions}
+use Rattle.script.specs.Output.{Lines, edition, editions}
 use Rattle.script.specs.Says.{IsRefused}
-use Rattle.script.specs.Tails.{AreViewers, AreViews, Viewing}
+use Rattle.script.specs.Tails.{AreViewers, AreViews, Viewing, viewer_first}
 use Rattle.script.specs.Turns.{Turn, first_turns, turns_from}
-use Rattle.script.specs.Viewers.{AreOnlooking, Attend, HasAttended, HasViewers, IsAskedSo, IsStarted, MayShow, MayShowIn, ShowAll, begun, nobody, none_came, sent, turned, turns_by, turns_in, turns_of, view_block, expected}
+use Rattle.script.specs.Viewers.{AreOnlooking, Attend, HasAttended, HasViewers, IsAskedSo, IsStarted, MayShow, MayShowIn, ShowAll, begun, nobody, none_came, sent, turned, turns_by, turns_in, turns_of, view_block}
 use Rattle.script.specs.declared.viewing.Showing.{Showing}
 use Rattle.script.specs.declared.viewing.Showing.TheVariants.{AsTheyCome, Last}
 use Rattle.script.specs.declared.ended.Ended.{Ended}
@@ -28,11 +28,8 @@ use Rattle.script.specs.declared.ended.Ended.TheVariants.{WriteFailed}
 use Rattle.script.specs.declared.manner.Manner.{Manner}
 use Rattle.script.specs.declared.stage.Stage.{Stage}
 use Rattle.script.specs.declared.stage.Stage.TheVariants.{Begun, Expected, Turned}
-use Rattle.script.proofs.TailsLemmas.{SoFar, begins_more}
+use Rattle.script.proofs.EndingsLemmas.{SoFar, begins_more}
 use Rattle.script.proofs.ViewsLemmas.{some_view, some_viewers, views_of}
-
-abbrev Lines : Type 0
-Lines = List (List ℕ)
 
 -- ---- how they are started
 
@@ -76,14 +73,11 @@ turns_turned AsTheyCome viewing fault onlookers = refl
 -- it is the same of a run's viewers
 pub turns_kept : {T E : Type 0} (asked : Option Viewing) (viewing : Viewing) (old new : Stage) (was is : OnlookersValue) (result : Result T E) → asked ≡ Some viewing → old ≡ Expected → OnOk result (turns_by viewing.showing viewing new is ≡ first_turns viewing) →
     OnOk result (turns_of asked new is ≡ turns_of asked old was)
-turns_kept None viewing old new was is result same first turns = absurd cc
-turns_kept (Some other) viewing old new was is (Err e) same first turns = tt
-turns_kept (Some other) viewing old new was is (Ok x) same first turns =
-    let one : viewing ≡ other = cc in
-    (subst (λ v. turns_by v.showing v new is ≡ first_turns v) one turns) ∙ sym (ap (λ st. turns_by other.showing other st was) first ∙ at_first other.showing) where
-      at_first : (showing : Showing) → turns_by showing other Expected was ≡ first_turns other
-      at_first Last = refl
-      at_first AsTheyCome = refl
+turns_kept asked viewing old new was is (Err e) same first turns = tt
+turns_kept asked viewing old new was is (Ok x) same first turns = rw (same, first) (turns ∙ sym (at_first viewing.showing)) where
+  at_first : (showing : Showing) → turns_by showing viewing Expected was ≡ first_turns viewing
+  at_first Last = refl
+  at_first AsTheyCome = refl
 
 -- their query is refused
 pub turned_all : {manner : Manner} (viewing : Viewing) (k : Editions) (fault : Refused) (watches : List Watch) (onlookers : OnlookersValue) → (watches ≡ []) × (onlookers ≡ nobody) → (fault ≡ refused.OutOfMemory → ⊥) → IsRefused (keeper.schema k) viewing.query fault →
@@ -94,20 +88,11 @@ turned_all {manner = manner} viewing k fault watches onlookers none memory (inr 
 -- they attend once they were started or turned away
 pub attended_begun : {T E : Type 0} (manner : Manner) (asked : Option Viewing) (viewing : Viewing) (desk : Option Editions) (k : Editions) (stage : Stage) (watches : List Watch) (onlookers : OnlookersValue) (result : Result T E) →
     asked ≡ Some viewing → desk ≡ Some k → OnOk result (Attend manner viewing (Some k) stage watches onlookers) → OnOk result (stage ≡ Expected → ⊥) → OnOk result (HasAttended manner asked desk stage watches onlookers)
-attended_begun manner None viewing desk k stage watches onlookers result same there attend late = absurd cc
-attended_begun manner (Some other) viewing None k stage watches onlookers result same there attend late = absurd cc
-attended_begun manner (Some other) viewing (Some l) k stage watches onlookers (Err e) same there attend late = tt
-attended_begun manner (Some other) viewing (Some l) k stage watches onlookers (Ok x) same there attend late =
-    let one : viewing ≡ other = cc in
-    let kept : k ≡ l = cc in
-    record {
-      attend = subst (λ v. Attend manner v (Some l) stage watches onlookers) one (subst (λ n. Attend manner viewing (Some n) stage watches onlookers) kept attend);
-      declared = λ has is. absurd (late is);
-    }
+attended_begun manner asked viewing desk k stage watches onlookers (Ok x) same there attend late = rw (same, there) (record { attend = attend; declared = λ has is. absurd (late is) })
+attended_begun manner asked viewing desk k stage watches onlookers (Err e) same there attend late = tt
 
 pub has_viewers : (asked : Option Viewing) (viewing : Viewing) → asked ≡ Some viewing → HasViewers asked
-has_viewers None viewing same = absurd cc
-has_viewers (Some other) viewing same = tt
+has_viewers asked viewing same = rw same tt
 
 -- ---- how their blocks come
 
@@ -126,14 +111,12 @@ pub attended_still : {T E : Type 0} (manner : Manner) (asked : Option Viewing) (
 attended_still manner asked viewing desk new_desk k stage watches old new (Err e) same is coming there kept has are = tt
 attended_still manner asked viewing desk new_desk k stage watches old new (Ok x) same is coming there kept has are =
     rw (kept, there, same, is) (record {
-      attend = go (rw (there, same) at has.attend) is;
+      attend = go (rw (there, same, is) at has.attend);
       declared = λ has_viewers late. absurd cc;
     }) where
-      go : {desk : Option Editions} {st : Stage} {ws : List Watch} {o : OnlookersValue} → Attend manner viewing desk st ws o → st ≡ Begun → Attend manner viewing (Some k) Begun ws new
-      go expected is = absurd cc
-      go (turned says) is = absurd cc
-      go (begun shown many all) is = absurd (let late = sym shown ∙ coming in cc)
-      go (sent shown was) is = sent coming are
+      go : {ws : List Watch} {o : OnlookersValue} → Attend manner viewing (Some k) Begun ws o → Attend manner viewing (Some k) Begun ws new
+      go (begun shown many all) = absurd (let late = sym shown ∙ coming in cc)
+      go (sent shown was) = sent coming are
 
 pub shows_those : {E : Type 0} (givens : Givens) (asked : Option Viewing) (viewing : Viewing) (before : Lines) (stage : Stage) (old new : OnlookersValue) (result : Result (Vec ℕ Global) E) →
     asked ≡ Some viewing → stage ≡ Begun → viewing.showing ≡ AsTheyCome → IfOk result (λ text. ShowAll givens viewing before (turns_in old) (turns_in new) text.items) →
@@ -188,17 +171,19 @@ some_back {manner = manner} givens before viewing k old new result keeps back al
 
 -- one of them ended the run behind a beginning of its blocks
 pub delivers_more : {W S T : Type 0} {manner : Manner} (taken : W → Option (List ℕ)) (faults : W → ℕ) (old middle new : W) (givens : Givens) (before : Lines) (viewing : Viewing) (k : Editions) (number many left : ℕ) (e : Ended) (one : Result S Ended) (result : Result T Ended) →
-    SoFar manner (taken old) (taken middle) (keeper.schema k) (editions givens before) (keeper.edition k) viewing number left many → (fewer : ℕ) → left ≡ suc fewer →
+    SoFar (taken old) (taken middle) (AreViewers manner (keeper.schema k) (editions givens before) (keeper.edition k) viewing (number + 1) left) (AreViewers manner (keeper.schema k) (editions givens before) (keeper.edition k) viewing 1 many) → (fewer : ℕ) → left ≡ suc fewer →
     ((viewer count : ℕ) → (bytes : List ℕ) × AreViewers manner (keeper.schema k) (editions givens before) (keeper.edition k) viewing viewer count bytes) → faults middle ≡ faults old →
     one ≡ Err e → Delivers taken faults middle new (AreViews manner (keeper.schema k) (editions givens before) viewing.query (keeper.edition k) (number + 1) 0 viewing.shots) one → result ≡ Err e →
     Delivers taken faults old new (AreViewers manner (keeper.schema k) (editions givens before) (keeper.edition k) viewing 1 many) result
 delivers_more {S = S} {manner = manner} taken faults old middle new givens before viewing k number many left e one result so_far fewer is some sound met one_is ended =
     let d : Delivers {T = S} taken faults middle new (AreViews manner (keeper.schema k) (editions givens before) viewing.query (keeper.edition k) (number + 1) 0 viewing.shots) (Err e) =
     subst (Delivers taken faults middle new (AreViews manner (keeper.schema k) (editions givens before) viewing.query (keeper.edition k) (number + 1) 0 viewing.shots)) met one_is in
+    let (rest, are) = some (number + 1 + 1) fewer in
+    let p = d.beginning in
     subst (Delivers taken faults old new (AreViewers manner (keeper.schema k) (editions givens before) (keeper.edition k) viewing 1 many)) (sym ended) (record {
       output = tt;
-      beginning = begins_more (taken old) (taken middle) (keeper.schema k) (editions givens before) (keeper.edition k) viewing number many (taken new) fewer
-          (subst (λ n. SoFar manner (taken old) (taken middle) (keeper.schema k) (editions givens before) (keeper.edition k) viewing number n many) is so_far) some d.beginning;
+      beginning = begins_more (subst (λ n. SoFar (taken old) (taken middle) (AreViewers manner (keeper.schema k) (editions givens before) (keeper.edition k) viewing (number + 1) n) (AreViewers manner (keeper.schema k) (editions givens before) (keeper.edition k) viewing 1 many)) is so_far)
+          (taken new) (AreViewers manner (keeper.schema k) (editions givens before) (keeper.edition k) viewing (number + 1 + 1) fewer) p.whole (λ more views. viewer_first p.whole more p.is_whole views) rest are p.beginning;
       fault = λ late. let writer : e ≡ WriteFailed = cc in let failed = d.fault (ap Err writer) in omega (arith, failed, sound);
       sound = tt;
     })

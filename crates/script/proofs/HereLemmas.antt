@@ -14,14 +14,11 @@ use Rattle.script.specs.Blocks.{Steps, WillBe}
 use Rattle.script.specs.Desks.{IsBehind}
 use Rattle.script.specs.Givens.{Givens, givens_in}
 use Rattle.script.specs.Limits.{part_limit, script_limit}
-use Rattle.script.specs.Output.{AreBlocks, IsOutput, line_first, no_line, of_lines, too_much}
+use Rattle.script.specs.Output.{AreBlocks, IsOutput, Lines, line_first, no_line, of_lines, too_much}
 use Rattle.script.specs.Spelling.{refusal}
 use Rattle.script.specs.declared.block.Block.{Block}
 use Rattle.script.specs.declared.fault.Fault.TheVariants.{Line}
 use Rattle.script.specs.declared.manner.Manner.{Manner}
-
-abbrev Lines : Type 0
-Lines = List (List ℕ)
 
 -- the lines before have this text: behind it, any blocks of the rest are the script's
 pub record Made (hash : Cell → ℕ) (givens : Givens) (before rest script : Lines) (text : List ℕ) (desk : Option Editions) (number : ℕ) : Type 0 where

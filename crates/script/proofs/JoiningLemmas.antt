@@ -16,7 +16,7 @@ use Rattle.script.specs.Deeds.{Declares, Deed, Loads, Nothing, Publishes, Report
 use Rattle.script.specs.Givens.{Givens}
 use Rattle.script.specs.Joining.{AreAlike, AreTogether, Joins}
 use Rattle.script.specs.Limits.{script_limit}
-use Rattle.script.specs.Output.{declared, deed_behind, published}
+use Rattle.script.specs.Output.{Lines, declared, deed_behind, published}
 use Rattle.script.specs.Retelling.{TellsKept}
 use Rattle.script.specs.Says.{MeansPlan, Says, no_plan, no_query}
 use Rattle.script.specs.Told.{AreTold, IsKeptFor, IsRefusedReport, IsTold, IsToldReport}
@@ -29,7 +29,7 @@ use Rattle.script.specs.declared.walk.Doing.TheVariants as doing
 use Rattle.script.specs.declared.walk.Walk.{Walk}
 use Rattle.script.proofs.SaysLemmas.{OneAnswer}
 use Rattle.script.proofs.RetellingLemmas.{one_plan, same_table}
-use Rattle.script.proofs.WalksLemmas.{Lines, does_behind, given_so, stands_more}
+use Rattle.script.proofs.WalksLemmas.{does_behind, given_so, stands_more}
 
 -- ---- the rows of both
 

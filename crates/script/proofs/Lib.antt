@@ -1,4 +1,3 @@
-pub mod LoadsLemmas
 pub mod BlocksLemmas
 pub mod ChangesLemmas
 pub mod ComingLemmas
@@ -9,11 +8,13 @@ pub mod HereLemmas
 pub mod JoiningLemmas
 pub mod LinesLemmas
 pub mod ListingsLemmas
+pub mod LoadsLemmas
 pub mod OwnLemmas
 pub mod ParametersLemmas
 pub mod ProgressLemmas
 pub mod RefusalsLemmas
 pub mod RetellingLemmas
+pub mod RunsLemmas
 pub mod SaysLemmas
 pub mod SessionsLemmas
 pub mod StatementsLemmas
@@ -22,6 +23,7 @@ pub mod StopsLemmas
 pub mod TailsLemmas
 pub mod TellingLemmas
 pub mod TurnsLemmas
+pub mod UpdatesLemmas
 pub mod ViewsLemmas
 pub mod WalksLemmas
 pub mod WorkedLemmas

@@ -7,7 +7,6 @@ use Rattle.std.proofs.lemmas.Bool.Decides.{nat_tests}
 use Rattle.std.proofs.lemmas.List.Elements.{filter-append}
 use Rattle.std.specs.List.{AllByRecursion}
 use Rattle.std.specs.Prelude.{⊤}
-use Rattle.std.specs.Str.Lines.{lines}
 use Rattle.cells.specs.Updates.{Delete, Put, Update, key_of, puts, rows, touches}
 use Rattle.cells.specs.Values.{RowValue, Table}
 use Rattle.cells.specs.declared.cell.Cell.{Cell}
@@ -15,7 +14,7 @@ use Rattle.loader.specs.Shards.{taken, takes, whole}
 use Rattle.script.specs.Deeds.{Declares, Deed, Loads, Nothing, Publishes, Reports, Shapes, Updates, deed}
 use Rattle.script.specs.Givens.{Givens}
 use Rattle.script.specs.Listings.{rows_loaded}
-use Rattle.script.specs.Output.{added, declared, declared_by, deed_behind, is_overfull, is_publish, published, updates, within, within_loaded}
+use Rattle.script.specs.Output.{Lines, added, declared, declared_by, deed_behind, is_overfull, is_publish, published, updates, within, within_loaded}
 use Rattle.script.specs.Own.{HasItsRows, HasOwn, HaveOwn, IsBadLoad, IsRefusedAt, LoadsBadly, NoneRefused, PutNoRows, Puts, PutsNoRow}
 use Rattle.script.specs.Telling.{IsLineOf, share}
 use Rattle.script.specs.Told.{AreTold, FitAll, Fits, FitsLoaded, IsTold, IsToldReport, told_load}
@@ -28,8 +27,9 @@ use Rattle.script.specs.declared.walk.Doing.TheVariants as doing
 use Rattle.script.specs.declared.walk.Walk.{Walk}
 use Rattle.script.proofs.BlocksLemmas.{reversed_onto}
 use Rattle.script.proofs.RetellingLemmas.{all_taken}
-use Rattle.script.proofs.TellingLemmas.{published_more, share_puts, stays, taken_rows, updates_more}
-use Rattle.script.proofs.WalksLemmas.{Lines, does_behind, stands_more}
+use Rattle.script.proofs.StepsLemmas.{published_more, updates_more}
+use Rattle.script.proofs.TellingLemmas.{share_puts, stays, taken_rows}
+use Rattle.script.proofs.WalksLemmas.{does_behind, stands_more}
 
 -- ---- updates of the own parts, and those of the run over all rows
 

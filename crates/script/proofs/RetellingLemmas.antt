@@ -27,7 +27,7 @@ use Rattle.script.specs.Deeds.{Declares, Deed, Loads, Nothing, Publishes, Report
 use Rattle.script.specs.Givens.{Givens}
 use Rattle.script.specs.Limits.{script_limit}
 use Rattle.script.specs.Listings.{rows_loaded}
-use Rattle.script.specs.Output.{AreBlocks, IsAnswer, IsReport, declared, deed_behind, edition, is_publish, line_first, loaded, no_line, published, report, updates}
+use Rattle.script.specs.Output.{AreBlocks, IsAnswer, IsReport, Lines, declared, deed_behind, edition, is_publish, line_first, loaded, no_line, published, report, updates}
 use Rattle.script.specs.Manners.{question_in}
 use Rattle.script.specs.Retelling.{GivesBlock, TellsKept}
 use Rattle.script.specs.Says.{Answer, IsRefused, MeansPlan, Says, answer_of, spelt}
@@ -43,7 +43,7 @@ use Rattle.script.specs.declared.walk.Doing.{Doing}
 use Rattle.script.specs.declared.walk.Doing.TheVariants as doing
 use Rattle.script.specs.declared.walk.Walk.{Walk}
 use Rattle.script.proofs.SaysLemmas.{OneAnswer, says_one}
-use Rattle.script.proofs.WalksLemmas.{Lines, does_behind, given_so, stands_more}
+use Rattle.script.proofs.WalksLemmas.{does_behind, given_so, stands_more}
 
 -- ---- what a plan keeps is what its marked plan keeps
 

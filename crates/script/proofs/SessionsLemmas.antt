@@ -1,6 +1,7 @@
 -- Where the lines of a session have left it, and what it wrote.
 use Rattle.std.proofs.Common.{◌≡◌, ◌∙◌, ◌+◌, ◌<◌, ◌≤◌, ℕ, suc, Bool, true, false, cond, Option, Some, None, Result, Ok, Err, List, [], ◌∷◌, ◌++◌, inl, inr, length, reverse, refl, sym, ap, ap₂, subst, append_assoc, arith}
 use Rattle.std.proofs.lemmas.Bool.{cases_lt, lt-ltb, ltb-true}
+use Rattle.std.proofs.lemmas.Bool.Decides.{nat_tests}
 use Rattle.std.proofs.lemmas.List.{append-nil, length-reverse, reverse-reverse}
 use Rattle.std.specs.List.{AllByRecursion}
 use Rattle.std.specs.Prelude.{◌&&◌, min, nat_lt, not}
@@ -22,10 +23,9 @@ use Rattle.script.specs.Endings.{BeginsToWrite, Ends, HasWorkers, ended_for, end
 use Rattle.script.specs.Deeds.{deed}
 use Rattle.script.specs.Givens.{Givens}
 use Rattle.script.specs.Limits.{part_limit, script_limit}
-use Rattle.script.specs.Output.{AreBlocks, IsBlock, IsOutput, deed_behind, line_first, no_line, of_lines, published}
+use Rattle.script.specs.Output.{AreBlocks, IsBlock, IsOutput, Lines, deed_behind, line_first, no_line, of_lines, published}
 use Rattle.script.specs.Says.{GivesValues, Values}
-use Rattle.script.specs.Sessions.{AnswersAfter, AreReplies, IsRefusedAfter, IsReply, SaysAfter, StandsBehind, answered, counted, faulty, no_table, heard, is_heard, line_limit, next_number, not_heard, refused_heard, refused_unheard}
-use Rattle.script.specs.Sessions.{last_line as last_reply, no_line as no_reply}
+use Rattle.script.specs.Sessions.{AnswersAfter, AreReplies, IsRefusedAfter, IsReply, SaysAfter, StandsBehind, answered, counted, faulty, no_table, heard, is_heard, line_limit, next_number, not_heard, refused_heard, refused_unheard, last_line as last_reply, no_line as no_reply}
 use Rattle.script.specs.Spelling.{refusal}
 use Rattle.script.specs.Stops.{IsRefusedLine, Tells}
 use Rattle.script.specs.declared.block.Block.{Block}
@@ -37,9 +37,6 @@ use Rattle.script.proofs.ProgressLemmas.{delivers_whole, edition-le, length-line
 use Rattle.script.proofs.SaysLemmas.{EachAnswered}
 use Rattle.script.proofs.StepsLemmas.{does_so, executes_nothing, left_published}
 
-abbrev Lines : Type 0
-Lines = List (List ℕ)
-
 -- ---- which lines are heard
 
 both : (a b : Bool) → (a && b) ≡ true → (a ≡ true) × (b ≡ true)
@@ -48,13 +45,10 @@ both true false h = absurd cc
 both false b h = absurd cc
 
 not_less : (m n : ℕ) → not (nat_lt m n) ≡ true → n ≤ m
-not_less m n h = elim (cases_lt m n) [ inl less ↦ absurd (let is = lt-ltb m n less in cc) | inr within ↦ within ]
+not_less m n h = grind (arith, nat_tests)
 
 less_not : (m n : ℕ) → n ≤ m → nat_lt m n ≡ false
-less_not m n within = go (nat_lt m n) refl where
-  go : (b : Bool) → nat_lt m n ≡ b → b ≡ false
-  go true is = absurd (let less = ltb-true m n is in omega (arith, less, within))
-  go false is = refl
+less_not m n within = grind (arith, nat_tests)
 
 -- there is a number for it, and it is not too long
 pub heard_small : (before : Lines) (line : List ℕ) → is_heard before line ≡ true → (length before < line_limit) × (length line ≤ script_limit)

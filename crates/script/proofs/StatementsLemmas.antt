@@ -1,13 +1,17 @@
--- A statement that puts no row fits any table.
-use Rattle.std.proofs.Common.{◌≡◌, Option, Some, None, Result, Ok, Err}
+-- What a statement that was read does, and which fit any table.
+use Rattle.std.proofs.Common.{◌≡◌, ◌∙◌, ℕ, List, Option, Some, None, Result, Ok, Err, ap, subst}
 use Rattle.std.specs.Prelude.{IfOk}
 use Rattle.cells.specs.Values.{Table}
 use Rattle.cells.specs.declared.cell.Cell.{Cell}
-use Rattle.script.specs.Deeds.{Deed, deletes}
+use Rattle.script.specs.Deeds.{Deed, deed, deletes}
 use Rattle.script.specs.declared.fault.Fault.{Fault}
 use Rattle.script.specs.Statements.{Asks, IsStatementOf, deed_of_statement}
 use Rattle.script.specs.declared.statement.Statement.{Statement}
 use Rattle.script.specs.declared.statement.Statement.TheVariants as statement
+
+-- what a line does, by the statement that was read of it under the keeper's table
+pub deed_read : {t kept : Table} {s said : Statement} (line : List ℕ) → t ≡ kept → deed (Some t) line ≡ Ok (deed_of_statement t s) → s ≡ said → deed (Some kept) line ≡ Ok (deed_of_statement kept said)
+deed_read {t} {kept} {s} {said} line same exact is = subst (λ u. deed (Some u) line ≡ Ok (deed_of_statement u said)) same (exact ∙ ap (λ x. Ok (deed_of_statement t x)) is)
 
 -- a statement that puts a row does what no other does
 other_fits : (t : Table) (said : Result Deed Fault) (s : Statement) → ((row : _) → said ≡ Ok (deed_of_statement t (statement.Put row)) → ⊥) →

@@ -6,8 +6,7 @@ use Rattle.cells.specs.declared.refused.Refused.{Refused}
 use Rattle.script.specs.Deeds.{Declares, Deed, Loads, Nothing, Publishes, Reports, Shapes, Updates}
 use Rattle.script.specs.Givens.{Givens}
 use Rattle.script.specs.Listings.{rows_loaded}
-use Rattle.script.specs.Output.{AreBlocks, IsAnswer, IsBlock, deed_behind, is_overfull, published, updates}
-use Rattle.script.specs.Output.{line_first as block_first, no_line as no_block}
+use Rattle.script.specs.Output.{AreBlocks, IsAnswer, IsBlock, Lines, deed_behind, is_overfull, published, updates, line_first as block_first, no_line as no_block}
 use Rattle.script.specs.Says.{Answer, Says}
 use Rattle.script.specs.Stops.{AreBlocksUpTo, AsksWrongly, IsRefusal, IsRefusedDeed, IsRefusedLine, StoppedAt, StopsAfter, Tells, is_refused_load, last_line, line_first, no_line, stops}
 use Rattle.script.specs.declared.fault.Fault.{Fault}
@@ -18,9 +17,6 @@ use Rattle.script.specs.declared.on_refusal.OnRefusal.TheVariants.{GoesOn, Stops
 use Rattle.script.proofs.BlocksLemmas.{reversed_onto}
 use Rattle.script.proofs.RefusalsLemmas.{refusal_told}
 use Rattle.script.proofs.SaysLemmas.{OneAnswer, never_wrong}
-
-abbrev Lines : Type 0
-Lines = List (List ℕ)
 
 -- ---- which lines are
 

@@ -5,7 +5,6 @@ use Rattle.std.proofs.lemmas.List.Elements.{filter-append}
 use Rattle.std.specs.FinMap.{insert, len, remove}
 use Rattle.std.specs.List.{AllByRecursion}
 use Rattle.std.specs.Prelude.{IfOk, OnOk}
-use Rattle.std.specs.Str.Lines.{lines}
 use Rattle.cells.specs.CellOrder.{cell_cmp, cell_eq}
 use Rattle.cells.specs.Laws.{len_rows, table_rows_delete, table_rows_put}
 use Rattle.cells.specs.SameKeys.{same_cells}
@@ -19,13 +18,12 @@ use Rattle.loader.specs.Loads.{AreTaken}
 use Rattle.loader.specs.Parts.{FaultyRecord}
 use Rattle.loader.specs.Shards.{taken}
 use Rattle.trie.specs.Maps.{map_of}
-use Rattle.cells.specs.declared.refused.Refused.TheVariants as refused
 use Rattle.script.specs.Deeds.{Declares, Deed, Loads, Nothing, Publishes, Reports, deed}
 use Rattle.script.specs.Desks.{schema_of_desk}
 use Rattle.script.specs.Givens.{Givens}
 use Rattle.script.specs.Limits.{script_limit}
 use Rattle.script.specs.Listings.{rows_held, rows_loaded}
-use Rattle.script.specs.Output.{added, declared, declared_by, deed_behind, is_publish, published, updates, within_loaded}
+use Rattle.script.specs.Output.{Lines, added, declared, declared_by, deed_behind, is_publish, published, updates, within_loaded}
 use Rattle.script.specs.Telling.{AsksForShape, EndsBy, EndsLine, EndsOver, EndsWithin, FitBehind, HasLimit, IsBlank, IsFull, IsLineOf, IsShare, IsShareBehind, LacksRoom, LaysShare, LaysSilently, LoadsShare, Overfills, TellsLine, TellsReport, asked, edition_of_desk, puts_of, share}
 use Rattle.script.specs.Told.{AreTold, FitAll, Fits, FitsLoaded, IsTold, told_load}
 use Rattle.script.specs.declared.fault.Fault.{Fault}
@@ -34,10 +32,8 @@ use Rattle.script.specs.declared.telling.Untold.TheVariants.{OutOfMemory, Shape,
 use Rattle.script.specs.declared.told.Told.{Told}
 use Rattle.script.specs.declared.told.Told.TheVariants as told
 use Rattle.script.proofs.BlocksLemmas.{reversed_onto}
-use Rattle.script.proofs.StepsLemmas.{left_published}
-
-abbrev Lines : Type 0
-Lines = List (List ℕ)
+use Rattle.script.proofs.StepsLemmas.{declared_more, left_published, published_more, updates_more}
+use Rattle.script.proofs.UpdatesLemmas.{LieOver}
 
 -- ---- the updates of keys that are taken
 
@@ -131,10 +127,6 @@ module _ (takes : Cell → Bool) where
   lays_delete old new key is changes =
       lays_one old new (Delete key) (remove (keeper.draft old) key) is (λ us e. ap (λ (d : Rows). remove d key) e ∙ sym (table_rows_delete us key)) changes
 
-  -- the law of puts behind any updates: their rows lie over those that the updates leave
-  abbrev LieOver : Type 0
-  LieOver = (us : List Update) (rs : List RowValue) → table (rows (us ++ puts rs)) ≡ laid_over (table (rows (puts rs))) (table (rows us))
-
   pub lays_loaded : LieOver → (old new : Editions) (rs : List RowValue) (held : Rows) → held ≡ table (rows (puts (taken takes rs))) → ChangesDraft old new (laid_over held (keeper.draft old)) →
       LaysShare takes old new (puts rs)
   lays_loaded law old new rs held is changes = record {
@@ -156,7 +148,7 @@ module _ (takes : Cell → Bool) where
   deletes_silently old new key is changes = record { lays = lays_delete takes old new key (sym is) changes; nothing = refl }
 
   -- the rows of parts
-  pub loads_taken : ((us : List Update) (rs : List RowValue) → table (rows (us ++ puts rs)) ≡ laid_over (table (rows (puts rs))) (table (rows us))) →
+  pub loads_taken : LieOver →
       (old new : Editions) (said : Result (List RowValue) FaultyRecord) (held : List (Cell × RowValue)) (it : Result Told Untold) → AreTaken takes said held →
       OnOk it (ChangesDraft old new (laid_over (map_of cell_cmp held) (keeper.draft old))) → IfOk it (λ t. t ≡ told.Nothing) → IfOk it (LoadsShare takes old new (rows_held said))
   loads_taken law old new said held (Ok it) taken changes nothing =
@@ -176,7 +168,7 @@ module _ (takes : Cell → Bool) where
       ∙ ap (λ (more : List Update). table (rows (us ++ more))) (ap (λ b. cond b (Put row ∷ []) []) is)) full
 
   -- the same of loaded rows
-  pub ends_loaded : ((us : List Update) (rs : List RowValue) → table (rows (us ++ puts rs)) ≡ laid_over (table (rows (puts rs))) (table (rows us))) →
+  pub ends_loaded : LieOver →
       (k : Editions) (number : ℕ) (said : Result (List RowValue) FaultyRecord) (held : List (Cell × RowValue)) (e : Untold) → AreTaken takes said held →
       EndsOver k number (laid_over (map_of cell_cmp held) (keeper.draft k)) e → EndsBy takes k number (puts_of (rows_held said)) e
   ends_loaded law k number said held OutOfMemory loaded ends = tt
@@ -188,17 +180,7 @@ module _ (takes : Cell → Bool) where
         (λ us e. ap₂ laid_over loaded.map e ∙ sym (law us (taken takes loaded.rs)) ∙ ap (λ (more : List Update). table (rows (us ++ more))) (sym (share_puts takes loaded.rs))) ends.1),
   )
 
--- ---- the definitions, at a line whose deed is known
-
-module _ (givens : Givens) (before : Lines) (line : List ℕ) (r : Result Deed Fault) (does : deed_behind givens before line ≡ r) where
-  declared_more : declared givens (line ∷ before) ≡ declared_by (declared givens before) r
-  declared_more = ap (declared_by (declared givens before)) does
-
-  pub updates_more : updates givens (line ∷ before) ≡ updates givens before ++ added givens (updates givens before) r
-  updates_more = ap (λ d. updates givens before ++ added givens (updates givens before) d) does
-
-  pub published_more : published givens (line ∷ before) ≡ cond (is_publish r) (rows (updates givens before)) (published givens before)
-  published_more = ap (λ d. cond (is_publish d) (rows (updates givens before)) (published givens before)) does
+-- ---- a line that adds updates
 
 -- what is so of a line that adds these updates where there is room for them, and of which this is told
 record Adds (takes : Cell → Bool) (parts : List (List ℕ)) (r : Result Deed Fault) (more : List Update) (it : Told) : Type 0 where

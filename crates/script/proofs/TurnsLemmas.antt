@@ -3,16 +3,8 @@ use Rattle.std.proofs.Common.{◌≡◌, ◌∙◌, ◌⊎◌, ℕ, zero, suc, �
 use Rattle.std.proofs.lemmas.List.{append-nil}
 use Rattle.cells.specs.Values.{Table}
 use Rattle.cells.specs.declared.cell.Cell.{Cell}
-use Rattle.cells.specs.declared.refused.Refused.{Refused}
-use Rattle.cells.specs.declared.refused.Refused.TheVariants.{NoTable}
-use Rattle.query.specs.Checks.{fault_of}
-use Rattle.query.specs.Plans.{plan_of}
-use Rattle.query.specs.Queries.{IsAnswered, IsQuery, a_fault, a_query}
-use Rattle.query.specs.Values.{QueryTree}
 use Rattle.script.specs.Givens.{Givens}
-use Rattle.script.specs.Output.{IsAnswer, IsBlock, deed_behind, declared, edition, editions, is_publish}
-use Rattle.script.specs.Says.{answer, no_plan, no_query}
-use Rattle.script.specs.Spelling.{viewers_refused}
+use Rattle.script.specs.Output.{IsAnswer, IsBlock, Lines, declared, deed_behind, edition, editions, is_publish}
 use Rattle.script.specs.Stops.{IsRefusedLine, StopsAfter, last_line, line_first, no_line}
 use Rattle.script.specs.Tails.{IsView, Viewing}
 use Rattle.script.specs.Turns.{AreBlocksBeside, Turn, view_at_last, line_next, lines_end, no_table, nobody_left, refused_query, stopped_at, turns_from, view_next}
@@ -25,10 +17,7 @@ use Rattle.script.specs.declared.viewing.Showing.TheVariants.{AsTheyCome, Last}
 use Rattle.script.proofs.BlocksLemmas.{reversed_onto, some_answer}
 use Rattle.script.proofs.SaysLemmas.{EachAnswered, OneAnswer}
 use Rattle.script.proofs.StopsLemmas.{stops_or_goes, told_line}
-use Rattle.script.proofs.ViewsLemmas.{some_tail, some_view}
-
-abbrev Lines : Type 0
-Lines = List (List ℕ)
+use Rattle.script.proofs.ViewsLemmas.{some_shown, some_tail, some_view}
 
 -- ---- one line more
 
@@ -145,18 +134,9 @@ module _ (hash : Cell → ℕ) (givens : Givens) (on : OnRefusal) (viewing : Vie
 
 module _ (each : EachAnswered) (hash : Cell → ℕ) (givens : Givens) (on : OnRefusal) where
   some_after : (viewing : Viewing) (before : Lines) (turns : List Turn) → AreLate (edition givens before) turns → (bytes : List ℕ) × AreBlocksBeside hash givens on viewing before [] turns Through bytes
-  some_after viewing before turns late = by_table (declared givens before) refl where
-    by_fault : (t : Table) → declared givens before ≡ Some t → (q : QueryTree) → IsQuery viewing.query q → (o : Option Refused) → fault_of t q ≡ o → (bytes : List ℕ) × AreBlocksBeside hash givens on viewing before [] turns Through bytes
-    by_fault t is q spelt (Some fault) e = (viewers_refused givens.manner.form fault, lines_end (refused_query is (no_plan spelt e)))
-    by_fault t is q spelt None e = some_turns hash givens on viewing before t is (some_view givens.manner givens before t viewing (plan_of t q) (λ rs. answer spelt e)) turns late
-
-    by_text : (t : Table) → declared givens before ≡ Some t → IsAnswered viewing.query → (bytes : List ℕ) × AreBlocksBeside hash givens on viewing before [] turns Through bytes
-    by_text t is (a_query q spelt) = by_fault t is q spelt (fault_of t q) refl
-    by_text t is (a_fault fault first) = (viewers_refused givens.manner.form fault, lines_end (refused_query is (no_query first)))
-
-    by_table : (o : Option Table) → declared givens before ≡ o → (bytes : List ℕ) × AreBlocksBeside hash givens on viewing before [] turns Through bytes
-    by_table None is = (viewers_refused givens.manner.form NoTable, lines_end (no_table is))
-    by_table (Some t) is = by_text t is (each viewing.query)
+  some_after viewing before turns late =
+      some_shown each givens before viewing (λ bytes. AreBlocksBeside hash givens on viewing before [] turns Through bytes) (λ is. lines_end (no_table is)) (λ t fault is says. lines_end (refused_query is says))
+      (λ t plan is means. some_turns hash givens on viewing before t is (some_view givens.manner givens before t viewing plan means) turns late)
 
   some_end_in : (showing : Showing) (viewing : Viewing) (before : Lines) (turns : List Turn) → AreLate (edition givens before) turns → (bytes : List ℕ) × IsRestIn showing hash givens on viewing before [] turns Through bytes
   some_end_in Last viewing before turns late =

@@ -1,5 +1,5 @@
 -- The blocks of viewers, and of some tail.
-use Rattle.std.proofs.Common.{◌≡◌, ◌∙◌, ℕ, zero, suc, ◌+◌, ◌<◌, ◌≤◌, Bool, true, false, cond, Option, Some, None, List, [], ◌∷◌, ◌++◌, length, map, get_or, refl, sym, ap, subst, arith, length-append}
+use Rattle.std.proofs.Common.{◌≡◌, ◌∙◌, ℕ, zero, suc, ◌+◌, ◌<◌, ◌≤◌, Bool, true, false, cond, Option, Some, None, Err, List, [], ◌∷◌, ◌++◌, length, map, get_or, refl, sym, ap, subst, arith, length-append}
 use Rattle.std.proofs.lemmas.List.{append-nil, length-map}
 use Rattle.std.proofs.lemmas.Option.{slice_get-get_or, slice_get-map, slice_get_within}
 use Rattle.std.specs.List.{AllByRecursion, flat_map, slice_get}
@@ -19,16 +19,13 @@ use Rattle.report.specs.Reports.{answer_to}
 use Rattle.report.specs.Watching.{GoUpTo, IsShot, Sight, at_last, before_last}
 use Rattle.report.specs.declared.question.Question.{Question}
 use Rattle.script.specs.Givens.{Givens}
-use Rattle.script.specs.Output.{deed_behind, declared, edition, editions, is_publish, updates}
-use Rattle.script.specs.Says.{MeansPlan, answer, answer_of, no_plan, no_query, spelt}
+use Rattle.script.specs.Output.{Lines, declared, deed_behind, edition, editions, is_publish, updates}
+use Rattle.script.specs.Says.{MeansPlan, Says, answer, answer_of, no_plan, no_query, spelt}
 use Rattle.script.specs.Spelling.{view_heading, viewers_refused}
 use Rattle.script.specs.Tails.{AreViewers, AreViews, IsTailBehind, IsView, Viewing, last_view, no_viewer, turned_away, undeclared, view_first, viewed, viewer_first}
 use Rattle.script.specs.Viewers.{IsAskedSo, view_block}
 use Rattle.script.specs.declared.manner.Manner.{Manner}
 use Rattle.script.proofs.SaysLemmas.{EachAnswered}
-
-abbrev Lines : Type 0
-Lines = List (List ℕ)
 
 -- ---- the editions behind some lines
 
@@ -132,18 +129,27 @@ some_view manner givens before t viewing plan means viewer =
       },
     )
 
-pub some_tail : EachAnswered → (givens : Givens) (before : Lines) (viewing : Viewing) → (bytes : List ℕ) × IsTailBehind givens viewing before bytes
-some_tail each givens before viewing = by_table (declared givens before) refl where
-  by_fault : (t : Table) → declared givens before ≡ Some t → (q : QueryTree) → IsQuery viewing.query q → (o : Option Refused) → fault_of t q ≡ o → (bytes : List ℕ) × IsTailBehind givens viewing before bytes
-  by_fault t is q spelt (Some fault) e = (viewers_refused givens.manner.form fault, turned_away is (no_plan spelt e))
-  by_fault t is q spelt None e =
-      let (bytes, are) = some_viewers givens.manner t (editions givens before) (edition givens before) viewing (some_view givens.manner givens before t viewing (plan_of t q) (λ rs. answer spelt e)) 1 viewing.viewers in
-      (bytes, viewed is are)
+-- what viewers have after these lines, where it is known by the table that was declared and what their query means
+module _ (each : EachAnswered) (givens : Givens) (before : Lines) (viewing : Viewing) (P : List ℕ → Type 0) (none : declared givens before ≡ None → P (viewers_refused givens.manner.form NoTable))
+    (turned : (t : Table) (fault : Refused) → declared givens before ≡ Some t → Says t [] viewing.query (Err fault) → P (viewers_refused givens.manner.form fault))
+    (planned : (t : Table) (plan : PlanTree) → declared givens before ≡ Some t → MeansPlan t viewing.query plan → (bytes : List ℕ) × P bytes) where
+  by_fault : (t : Table) → declared givens before ≡ Some t → (q : QueryTree) → IsQuery viewing.query q → (o : Option Refused) → fault_of t q ≡ o → (bytes : List ℕ) × P bytes
+  by_fault t is q spelt (Some fault) e = (viewers_refused givens.manner.form fault, turned t fault is (no_plan spelt e))
+  by_fault t is q spelt None e = planned t (plan_of t q) is (λ rs. answer spelt e)
 
-  by_text : (t : Table) → declared givens before ≡ Some t → IsAnswered viewing.query → (bytes : List ℕ) × IsTailBehind givens viewing before bytes
+  by_text : (t : Table) → declared givens before ≡ Some t → IsAnswered viewing.query → (bytes : List ℕ) × P bytes
   by_text t is (a_query q spelt) = by_fault t is q spelt (fault_of t q) refl
-  by_text t is (a_fault fault first) = (viewers_refused givens.manner.form fault, turned_away is (no_query first))
+  by_text t is (a_fault fault first) = (viewers_refused givens.manner.form fault, turned t fault is (no_query first))
 
-  by_table : (o : Option Table) → declared givens before ≡ o → (bytes : List ℕ) × IsTailBehind givens viewing before bytes
-  by_table None is = (viewers_refused givens.manner.form NoTable, undeclared is)
+  by_table : (o : Option Table) → declared givens before ≡ o → (bytes : List ℕ) × P bytes
+  by_table None is = (viewers_refused givens.manner.form NoTable, none is)
   by_table (Some t) is = by_text t is (each viewing.query)
+
+  pub some_shown : (bytes : List ℕ) × P bytes
+  some_shown = by_table (declared givens before) refl
+
+pub some_tail : EachAnswered → (givens : Givens) (before : Lines) (viewing : Viewing) → (bytes : List ℕ) × IsTailBehind givens viewing before bytes
+some_tail each givens before viewing =
+    some_shown each givens before viewing (IsTailBehind givens viewing before) (λ is. undeclared is) (λ t fault is says. turned_away is says) (λ t plan is means.
+    let (bytes, are) = some_viewers givens.manner t (editions givens before) (edition givens before) viewing (some_view givens.manner givens before t viewing plan means) 1 viewing.viewers in
+    (bytes, viewed is are))

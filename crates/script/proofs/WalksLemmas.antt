@@ -5,14 +5,11 @@ use Rattle.script.specs.Deeds.{deed}
 use Rattle.script.specs.Givens.{Givens, givens_in}
 use Rattle.script.specs.Limits.{script_limit}
 use Rattle.script.specs.Manners.{in_form}
-use Rattle.script.specs.Output.{declared, declared_by, edition, is_publish}
+use Rattle.script.specs.Output.{Lines, declared, declared_by, edition, is_publish}
 use Rattle.script.specs.Walks.{GoesOver, IsDoing, StandsBehind}
 use Rattle.script.specs.declared.walk.Doing.{Doing}
 use Rattle.script.specs.declared.walk.Walk.{Walk}
 use Rattle.script.proofs.ProgressLemmas.{edition-le}
-
-abbrev pub Lines : Type 0
-Lines = List (List ℕ)
 
 -- what is given, in other words
 pub given_so : {X E : Type 0} (result : Result (Option X) E) (P Q : X → Type 0) → ((x : X) → P x → Q x) → IfOk result (λ o. IfSome o P) → IfOk result (λ o. IfSome o Q)

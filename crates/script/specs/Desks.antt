@@ -1,6 +1,5 @@
 -- Where lines have left a run: no table yet, or a keeper.
-use Rattle.std.specs.Prelude.{◌≡◌, ℕ, ◌+◌, ◌^◌, ◌<◌, ◌≤◌, ◌⊎◌, List, [], ◌∷◌, length, Option, Some, None, Result, Ok, Err, ⊤}
-use Rattle.std.specs.Prelude.{map as map_all}
+use Rattle.std.specs.Prelude.{◌≡◌, ℕ, ◌+◌, ◌^◌, ◌<◌, ◌≤◌, ◌⊎◌, List, [], ◌∷◌, length, Option, Some, None, Result, Ok, Err, ⊤, map as map_all}
 use Rattle.std.specs.FinMap as map
 use Rattle.cells.specs.Tables.{Rows, laid_over, table}
 use Rattle.cells.specs.Updates.{puts, rows}

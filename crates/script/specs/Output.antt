@@ -19,6 +19,10 @@ use Rattle.script.specs.declared.fault.Fault.{Fault}
 use Rattle.script.specs.declared.fault.Fault.TheVariants.{Line}
 use Rattle.script.specs.declared.manner.Manner.{Manner}
 
+-- lines; of those before a line the last one first
+abbrev pub Lines : Type 0
+Lines = List (List ℕ)
+
 -- the table of the accepted `table` line
 abbrev pub declared_by : Option Table → Result Deed Fault → Option Table
 declared_by earlier (Ok (Declares t)) = Some t
@@ -65,37 +69,37 @@ is_publish (Ok Shapes) = false
 is_publish (Err fault) = false
 
 module _ (givens : Givens) where
-  abbrev pub declared : List (List ℕ) → Option Table
+  abbrev pub declared : Lines → Option Table
   declared [] = None
   declared (line ∷ before) = declared_by (declared before) (deed (declared before) line)
 
   -- what a line does behind those before
-  abbrev pub deed_behind : List (List ℕ) → List ℕ → Result Deed Fault
+  abbrev pub deed_behind : Lines → List ℕ → Result Deed Fault
   deed_behind before line = deed (declared before) line
 
   -- the updates of the accepted lines, one after another
-  abbrev pub updates : List (List ℕ) → List Update
+  abbrev pub updates : Lines → List Update
   updates [] = []
   updates (line ∷ before) = updates before ++ added givens (updates before) (deed_behind before line)
 
   -- the number of the last published edition: how many accepted `publish` lines there are
-  abbrev pub edition : List (List ℕ) → ℕ
+  abbrev pub edition : Lines → ℕ
   edition [] = 0
   edition (line ∷ before) = if is_publish (deed_behind before line) then edition before + 1 else edition before
 
   -- its rows: those of the updates before the last accepted `publish` line, and none where there is no such line
-  abbrev pub published : List (List ℕ) → List RowValue
+  abbrev pub published : Lines → List RowValue
   published [] = []
   published (line ∷ before) = if is_publish (deed_behind before line) then rows (updates before) else published before
 
   -- the rows of all editions, in order: of edition 0 none, and of each other one those of the updates before its accepted
   -- `publish` line
-  abbrev pub editions : List (List ℕ) → List (List RowValue)
+  abbrev pub editions : Lines → List (List RowValue)
   editions [] = [] ∷ []
   editions (line ∷ before) = if is_publish (deed_behind before line) then editions before ++ rows (updates before) ∷ [] else editions before
 
 -- lines, each ended by a newline
-abbrev pub text_of : List (List ℕ) → List ℕ
+abbrev pub text_of : Lines → List ℕ
 text_of [] = []
 text_of (line ∷ more) = line ++ (newline ++ text_of more)
 
@@ -125,7 +129,7 @@ keys rs = map (λ r. r.key) rs
 -- the hash of keys decides the blocks of shapes, and nothing else
 module _ (hash : Cell → ℕ) (givens : Givens) where
   -- the bytes are the block of a line that does this
-  abbrev pub IsAnswer : List (List ℕ) → Result Deed Fault → List ℕ → Type 0
+  abbrev pub IsAnswer : Lines → Result Deed Fault → List ℕ → Type 0
   IsAnswer before (Ok Nothing) bytes = bytes ≡ []
   IsAnswer before (Ok (Declares t)) bytes = bytes ≡ []
   IsAnswer before (Ok (Loads t listing)) bytes = bytes ≡ loaded givens.manner.form (length before + 1) givens.limit (updates givens before) (rows_loaded t givens.parts listing)
@@ -136,7 +140,7 @@ module _ (hash : Cell → ℕ) (givens : Givens) where
   IsAnswer before (Err fault) bytes = bytes ≡ refusal givens.manner.form (length before + 1) fault
 
   -- the bytes are the line's block
-  abbrev pub IsBlock : List (List ℕ) → List ℕ → List ℕ → Type 0
+  abbrev pub IsBlock : Lines → List ℕ → List ℕ → Type 0
   IsBlock before line bytes = IsAnswer before (deed_behind givens before line) bytes
 
 -- the bytes are the blocks of the lines that follow those before, one after another

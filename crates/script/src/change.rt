@@ -4,7 +4,7 @@ ghost use Rattle.board.specs.Editions as editions;
 ghost use Rattle.script.specs.Changes.{IsChange, IsChangeLine, Refuses, change_text};
 ghost use Rattle.script.specs.Deeds.{Deed};
 ghost use Rattle.script.specs.Desks.{Executes, Publishable};
-ghost use Rattle.script.specs.Givens.{givens_in};
+ghost use Rattle.script.specs.Givens.{givens_of};
 ghost use Rattle.script.specs.declared.fault.Fault.{Fault};
 ghost use Rattle.script.specs.declared.fault.Fault.TheVariants.{Line};
 
@@ -27,7 +27,8 @@ pub fn change<H: KeyHash<Cell>, G: Gate, R: Wait>(
 ) -> Result<Option<Refused>, AllocError>
     requires publishable { Publishable desk.old }
     requires changes { IsChangeLine line.now }
-    ensures { IfOk result (λ rule. (number : ℕ) → Executes H.hash_of (givens_in setup.now.manner.now setup.now.how.now.rows setup.now.parts.now) line.now number desk.old desk.new (change_text setup.now.manner.now.form number rule)) }
+    ensures { IfOk result (λ rule. (number : ℕ) →
+        Executes H.hash_of (givens_of setup.now) line.now number desk.old desk.new (change_text setup.now.manner.now.form number rule)) }
 {
     if let Some(keeper) = desk {
         return change_kept(setup, keeper, line);
@@ -41,7 +42,8 @@ fn change_first<G: Gate, R: Wait>(
     line: &[u8],
 ) -> Result<Option<Refused>, AllocError>
     requires changes { IsChangeLine line.now }
-    ensures { IfOk result (λ rule. (hash : Cell → ℕ) (number : ℕ) → Executes hash (givens_in setup.now.manner.now setup.now.how.now.rows setup.now.parts.now) line.now number None None (change_text setup.now.manner.now.form number rule)) }
+    ensures { IfOk result (λ rule. (hash : Cell → ℕ) (number : ℕ) →
+        Executes hash (givens_of setup.now) line.now number None None (change_text setup.now.manner.now.form number rule)) }
 {
     match read_first(setup.alloc, line) {
         // Such a line declares nothing, and asks for something.
@@ -58,7 +60,8 @@ fn change_kept<H: KeyHash<Cell>, G: Gate, R: Wait>(
 ) -> Result<Option<Refused>, AllocError>
     requires publishable { editions.edition keeper.old + 1 < 2 ^ 64 }
     requires changes { IsChangeLine line.now }
-    ensures { IfOk result (λ rule. (number : ℕ) → Executes H.hash_of (givens_in setup.now.manner.now setup.now.how.now.rows setup.now.parts.now) line.now number (Some keeper.old) (Some keeper.new) (change_text setup.now.manner.now.form number rule)) }
+    ensures { IfOk result (λ rule. (number : ℕ) →
+        Executes H.hash_of (givens_of setup.now) line.now number (Some keeper.old) (Some keeper.new) (change_text setup.now.manner.now.form number rule)) }
 {
     match read_statement(setup.alloc, keeper.schema(), line) {
         Ok(Statement::Put(row)) => lay(keeper, row),

@@ -1,6 +1,5 @@
 //! What lines and viewers say in the classic form.
 ghost use Rattle.std.specs.Prelude.{◌≡◌, ◌++◌, IfOk, OnOk, string_bytes};
-ghost use Rattle.std.specs.List.{flat_map};
 ghost use Rattle.script.specs.ClassicSpelling.{heading, refusal, shape_body, shape_line, view_heading, viewers_refused};
 
 use crate::fault::Fault;

@@ -5,7 +5,7 @@ ghost use Rattle.board.specs.Editions.{schema as schema_of};
 ghost use Rattle.script.specs.Coming.{IsLastViewOf, TakesTurn, blocks_left};
 ghost use Rattle.script.specs.Desks.{Keeps};
 ghost use Rattle.script.specs.Endings.{Delivers};
-ghost use Rattle.script.specs.Givens.{givens_in};
+ghost use Rattle.script.specs.Givens.{givens_of};
 ghost use Rattle.script.specs.Turns.{AreBlocksBeside, ShowsNext, turns_from};
 ghost use Rattle.script.specs.Viewers.{AreAsked, AreOnlooking, IsWaiting, ShowAll, nobody, turns_in, viewing_of};
 ghost use Rattle.script.specs.declared.finish.Finish.TheVariants.{Through};
@@ -76,8 +76,8 @@ pub(crate) fn come<
     requires looking { AreOnlooking setup.now.manner.now (viewing_of viewing) keeper.old onlookers.old }
     ensures same { keeper.new ≡ keeper.old }
     ensures looking { OnOk result (AreOnlooking setup.now.manner.now (viewing_of viewing.entry) keeper.old onlookers.new) }
-    ensures came { (before : List (List ℕ)) → Keeps (givens_in setup.now.manner.now setup.now.how.now.rows setup.now.parts.now) before keeper.old →
-        IfOk result (λ text. ShowAll (givens_in setup.now.manner.now setup.now.how.now.rows setup.now.parts.now) (viewing_of viewing.entry) before (turns_in onlookers.old) (turns_in onlookers.new) text.items) }
+    ensures came { (before : List (List ℕ)) → Keeps (givens_of setup.now) before keeper.old →
+        IfOk result (λ text. ShowAll (givens_of setup.now) (viewing_of viewing.entry) before (turns_in onlookers.old) (turns_in onlookers.new) text.items) }
 {
     let mut text = Vec::new(setup.alloc);
     for _ in 0..onlookers.count() {
@@ -109,8 +109,8 @@ fn next_block<
     ensures same { keeper.new ≡ keeper.old }
     ensures looking { OnOk result (AreOnlooking setup.now.manner.now (viewing_of viewing.entry) keeper.old onlookers.new) }
     ensures fewer { OnOk result (blocks_left (turns_in onlookers.new) + 1 ≡ blocks_left (turns_in onlookers.old)) }
-    ensures next { (before : List (List ℕ)) → Keeps (givens_in setup.now.manner.now setup.now.how.now.rows setup.now.parts.now) before keeper.old →
-        IfOk result (λ text. ShowsNext (givens_in setup.now.manner.now setup.now.how.now.rows setup.now.parts.now) (viewing_of viewing.entry) before (turns_in onlookers.old) (turns_in onlookers.new) text.items) }
+    ensures next { (before : List (List ℕ)) → Keeps (givens_of setup.now) before keeper.old →
+        IfOk result (λ text. ShowsNext (givens_of setup.now) (viewing_of viewing.entry) before (turns_in onlookers.old) (turns_in onlookers.new) text.items) }
 {
     let Some(came) = onlookers.next(setup.rt) else {
         unreachable!();
@@ -131,8 +131,8 @@ fn last_block<H: KeyHash<Cell> + KeyHash<Tuple> + Send + Sync, G: Gate, R: Threa
 ) -> Result<Vec<u8>, Want>
     requires waiting { IsWaiting setup.now.manner.now (viewing_of viewing) keeper.old onlooker }
     ensures same { keeper.new ≡ keeper.old }
-    ensures last { (before : List (List ℕ)) → Keeps (givens_in setup.now.manner.now setup.now.how.now.rows setup.now.parts.now) before keeper.old →
-        IfOk result (λ text. IsLastViewOf (givens_in setup.now.manner.now setup.now.how.now.rows setup.now.parts.now) (viewing_of viewing.entry) before onlooker text.items) }
+    ensures last { (before : List (List ℕ)) → Keeps (givens_of setup.now) before keeper.old →
+        IfOk result (λ text. IsLastViewOf (givens_of setup.now) (viewing_of viewing.entry) before onlooker text.items) }
 {
     let number = onlooker.number();
     let shot = onlooker.finish(&setup.answering(), keeper)?;
@@ -159,8 +159,9 @@ fn next_turn<
     ensures looking { OnOk result (AreOnlooking setup.now.manner.now (viewing_of viewing.entry) keeper.old onlookers.new) }
     ensures fewer { IfOk result (λ block. IfSome block (λ _. blocks_left (turns_in onlookers.new) + 1 ≡ blocks_left (turns_in onlookers.old))) }
     ensures nobody { IfOk result (λ block. IsNone block → turns_in onlookers.old ≡ []) }
-    ensures turn { (before : List (List ℕ)) → Keeps (givens_in setup.now.manner.now setup.now.how.now.rows setup.now.parts.now) before keeper.old →
-        IfOk result (λ block. IfSome block (λ text. TakesTurn (givens_in setup.now.manner.now setup.now.how.now.rows setup.now.parts.now) (viewing_of viewing.entry) before (turns_in onlookers.old) (turns_in onlookers.new) text.items)) }
+    ensures turn { (before : List (List ℕ)) → Keeps (givens_of setup.now) before keeper.old →
+        IfOk result (λ block. IfSome block (λ text.
+        TakesTurn (givens_of setup.now) (viewing_of viewing.entry) before (turns_in onlookers.old) (turns_in onlookers.new) text.items)) }
 {
     if onlookers.count() > 0 {
         let block = next_block(setup, starter, viewing, keeper, onlookers)?;
@@ -191,8 +192,9 @@ pub(crate) fn write_turns<
 ) -> Result<(), Ended>
     requires looking { AreOnlooking setup.now.manner.now (viewing_of viewing) keeper.old onlookers.old }
     requires faults { O.faults out.old + 1 < 2 ^ 64 }
-    ensures views { (hash : CellValue → ℕ) (on : OnRefusal) (before : List (List ℕ)) → Keeps (givens_in setup.now.manner.now setup.now.how.now.rows setup.now.parts.now) before keeper.old →
-        Delivers O.taken O.faults out.old out.new (AreBlocksBeside hash (givens_in setup.now.manner.now setup.now.how.now.rows setup.now.parts.now) on (viewing_of viewing.entry) before [] (turns_in onlookers.old) Through) result }
+    ensures views { (hash : CellValue → ℕ) (on : OnRefusal) (before : List (List ℕ)) → Keeps (givens_of setup.now) before keeper.old →
+        Delivers O.taken O.faults out.old out.new
+        (AreBlocksBeside hash (givens_of setup.now) on (viewing_of viewing.entry) before [] (turns_in onlookers.old) Through) result }
 {
     while let Some(block) = next_turn(setup, starter, viewing, keeper, onlookers)? {
         let Ok(()) = write_whole(out, block.as_slice()) else {

@@ -7,14 +7,15 @@ ghost use Rattle.cells.specs.declared.cell.Cell.{Cell as CellValue};
 ghost use Rattle.report.specs.Watching.{IsOf};
 ghost use Rattle.script.specs.Desks.{IsBehind, Keeps};
 ghost use Rattle.script.specs.Endings.{Delivers, Ends};
-ghost use Rattle.script.specs.Givens.{Givens, givens_in};
+ghost use Rattle.script.specs.Givens.{Givens, givens_of};
 ghost use Rattle.script.specs.Output.{editions};
 ghost use Rattle.script.specs.Says.{IsRefused};
 ghost use Rattle.script.specs.Spelling.{viewers_refused};
 ghost use Rattle.script.specs.Tails.{AreViewers, AreViews};
 ghost use Rattle.script.specs.declared.manner.Manner.{Manner as MannerValue};
 ghost use Rattle.script.specs.Turns.{first_turns};
-ghost use Rattle.script.specs.Viewers.{AreAsked, Attend, HasAttended, HasViewers, IsAskedSo, IsRest, IsStarted, MayAttend, MayShow, asked_of, nobody, turns_by, turns_of, viewing_of};
+ghost use Rattle.script.specs.Viewers.{AreAsked, Attend, HasAttended, HasViewers, IsAskedSo, IsRest, IsStarted, MayAttend, MayShow};
+ghost use Rattle.script.specs.Viewers.{asked_of, nobody, turns_by, turns_of, viewing_of};
 ghost use Rattle.script.specs.declared.finish.Finish.TheVariants.{Through};
 ghost use Rattle.script.specs.declared.on_refusal.OnRefusal.{OnRefusal};
 
@@ -88,8 +89,11 @@ impl<H: KeyHash<Cell> + KeyHash<Tuple> + Send + Sync> Gallery<H> {
         H: 's,
         requires attend { MayAttend setup.now.manner.now (asked_of setup.now.viewing) desk.old self.old.stage self.old.audience.watches self.old.onlookers }
         ensures same { desk.new ≡ desk.old }
-        ensures attended { OnOk result (HasAttended setup.now.manner.now (asked_of setup.now.viewing) desk.new self.new.stage self.new.audience.watches self.new.onlookers) }
-        ensures turns { OnOk result (turns_of (asked_of setup.now.viewing) self.new.stage self.new.onlookers ≡ turns_of (asked_of setup.now.viewing) self.old.stage self.old.onlookers) }
+        ensures attended { OnOk result
+            (HasAttended setup.now.manner.now (asked_of setup.now.viewing) desk.new self.new.stage self.new.audience.watches self.new.onlookers) }
+        ensures turns { OnOk result
+            (turns_of (asked_of setup.now.viewing) self.new.stage self.new.onlookers
+            ≡ turns_of (asked_of setup.now.viewing) self.old.stage self.old.onlookers) }
         ensures asked { IfErr result (λ _. HasViewers (asked_of setup.now.viewing)) }
     {
         let Some(viewing) = setup.viewing else {
@@ -117,9 +121,11 @@ impl<H: KeyHash<Cell> + KeyHash<Tuple> + Send + Sync> Gallery<H> {
         H: 's,
         requires nobody { (self.old.audience.watches ≡ []) × (self.old.onlookers ≡ nobody) }
         ensures same { keeper.new ≡ keeper.old }
-        ensures attend { OnOk result (Attend manner.now (viewing_of viewing.entry) (Some keeper.old) self.new.stage self.new.audience.watches self.new.onlookers) }
+        ensures attend { OnOk result
+            (Attend manner.now (viewing_of viewing.entry) (Some keeper.old) self.new.stage self.new.audience.watches self.new.onlookers) }
         ensures stage { OnOk result (self.new.stage ≡ Stage.Expected → ⊥) }
-        ensures turns { OnOk result (turns_by viewing.entry.showing (viewing_of viewing.entry) self.new.stage self.new.onlookers ≡ first_turns (viewing_of viewing.entry)) }
+        ensures turns { OnOk result
+            (turns_by viewing.entry.showing (viewing_of viewing.entry) self.new.stage self.new.onlookers ≡ first_turns (viewing_of viewing.entry)) }
     {
         match questions_of(alloc, manner, viewing, keeper.schema()) {
             Ok(questions) => {
@@ -150,7 +156,8 @@ impl<H: KeyHash<Cell> + KeyHash<Tuple> + Send + Sync> Gallery<H> {
         ensures same { keeper.new ≡ keeper.old }
         ensures attend { (manner : MannerValue) → AreAsked manner (schema_of keeper.old) viewing.entry.query.now questions.items →
             OnOk result (Attend manner (viewing_of viewing.entry) (Some keeper.old) Stage.Begun self.new.audience.watches self.new.onlookers) }
-        ensures turns { OnOk result (turns_by viewing.entry.showing (viewing_of viewing.entry) Stage.Begun self.new.onlookers ≡ first_turns (viewing_of viewing.entry)) }
+        ensures turns { OnOk result
+            (turns_by viewing.entry.showing (viewing_of viewing.entry) Stage.Begun self.new.onlookers ≡ first_turns (viewing_of viewing.entry)) }
     {
         match viewing.showing {
             Showing::Last => self.start_all(starter, viewing, keeper, questions),
@@ -197,10 +204,12 @@ impl<H: KeyHash<Cell> + KeyHash<Tuple> + Send + Sync> Gallery<H> {
         H: 's,
         requires attended { HasAttended setup.now.manner.now (asked_of setup.now.viewing) desk.old self.old.stage self.old.audience.watches self.old.onlookers }
         ensures same { desk.new ≡ desk.old }
-        ensures attended { OnOk result (HasAttended setup.now.manner.now (asked_of setup.now.viewing) desk.new self.new.stage self.new.audience.watches self.new.onlookers) }
-        ensures came { (before : List (List ℕ)) → IsBehind (givens_in setup.now.manner.now setup.now.how.now.rows setup.now.parts.now) before desk.old →
-            IfOk result (λ text. MayShow (givens_in setup.now.manner.now setup.now.how.now.rows setup.now.parts.now) (asked_of setup.now.viewing) before
-            (turns_of (asked_of setup.now.viewing) self.old.stage self.old.onlookers) (turns_of (asked_of setup.now.viewing) self.new.stage self.new.onlookers) text.items) }
+        ensures attended { OnOk result
+            (HasAttended setup.now.manner.now (asked_of setup.now.viewing) desk.new self.new.stage self.new.audience.watches self.new.onlookers) }
+        ensures came { (before : List (List ℕ)) → IsBehind (givens_of setup.now) before desk.old →
+            IfOk result (λ text. MayShow (givens_of setup.now) (asked_of setup.now.viewing) before
+            (turns_of (asked_of setup.now.viewing) self.old.stage self.old.onlookers)
+            (turns_of (asked_of setup.now.viewing) self.new.stage self.new.onlookers) text.items) }
         ensures asked { IfErr result (λ _. HasViewers (asked_of setup.now.viewing)) }
     {
         let Some(viewing) = setup.viewing else {
@@ -231,8 +240,8 @@ impl<H: KeyHash<Cell> + KeyHash<Tuple> + Send + Sync> Gallery<H> {
         H: 's,
         requires attended { HasAttended setup.now.manner.now (asked_of setup.now.viewing) desk.old self.old.stage self.old.audience.watches self.old.onlookers }
         requires faults { O.faults out.old + 1 < 2 ^ 64 }
-        ensures tail { (hash : CellValue → ℕ) (on : OnRefusal) (before : List (List ℕ)) → IsBehind (givens_in setup.now.manner.now setup.now.how.now.rows setup.now.parts.now) before desk.old →
-            Delivers O.taken O.faults out.old out.new (IsRest hash (givens_in setup.now.manner.now setup.now.how.now.rows setup.now.parts.now) on (asked_of setup.now.viewing) before []
+        ensures tail { (hash : CellValue → ℕ) (on : OnRefusal) (before : List (List ℕ)) → IsBehind (givens_of setup.now) before desk.old →
+            Delivers O.taken O.faults out.old out.new (IsRest hash (givens_of setup.now) on (asked_of setup.now.viewing) before []
             (turns_of (asked_of setup.now.viewing) self.old.stage self.old.onlookers) Through) result }
         ensures asked { IfErr result (λ _. HasViewers (asked_of setup.now.viewing)) }
     {
@@ -260,10 +269,11 @@ impl<H: KeyHash<Cell> + KeyHash<Tuple> + Send + Sync> Gallery<H> {
     ) -> Result<(), Ended>
     where
         H: 's,
-        requires attended { HasAttended setup.now.manner.now (Some (viewing_of viewing)) (Some keeper.old) Stage.Begun self.old.audience.watches self.old.onlookers }
+        requires attended { HasAttended setup.now.manner.now (Some (viewing_of viewing)) (Some keeper.old)
+            Stage.Begun self.old.audience.watches self.old.onlookers }
         requires faults { O.faults out.old + 1 < 2 ^ 64 }
-        ensures tail { (hash : CellValue → ℕ) (on : OnRefusal) (before : List (List ℕ)) → Keeps (givens_in setup.now.manner.now setup.now.how.now.rows setup.now.parts.now) before keeper.old →
-            Delivers O.taken O.faults out.old out.new (IsRest hash (givens_in setup.now.manner.now setup.now.how.now.rows setup.now.parts.now) on (Some (viewing_of viewing.entry)) before []
+        ensures tail { (hash : CellValue → ℕ) (on : OnRefusal) (before : List (List ℕ)) → Keeps (givens_of setup.now) before keeper.old →
+            Delivers O.taken O.faults out.old out.new (IsRest hash (givens_of setup.now) on (Some (viewing_of viewing.entry)) before []
             (turns_of (Some (viewing_of viewing.entry)) Stage.Begun self.old.onlookers) Through) result }
     {
         match viewing.showing {
@@ -286,7 +296,9 @@ impl<H: KeyHash<Cell> + KeyHash<Tuple> + Send + Sync> Gallery<H> {
         requires many { length self.old.audience.watches ≡ viewing.viewers }
         requires faults { O.faults out.old + 1 < 2 ^ 64 }
         ensures views { (givens : Givens) (before : List (List ℕ)) → Keeps givens before keeper.old →
-            Delivers O.taken O.faults out.old out.new (AreViewers setup.now.manner.now (schema_of keeper.old) (editions givens before) (edition keeper.old) (viewing_of viewing.entry) 1 (length self.old.audience.watches)) result }
+            Delivers O.taken O.faults out.old out.new
+            (AreViewers setup.now.manner.now (schema_of keeper.old) (editions givens before) (edition keeper.old)
+            (viewing_of viewing.entry) 1 (length self.old.audience.watches)) result }
     {
         let answering = setup.answering();
         let mut number = 0u64;
@@ -403,7 +415,9 @@ fn write_viewer<
     ensures same { keeper.new ≡ keeper.old }
     ensures sound { OnOk result (O.faults out.new ≡ O.faults out.old) }
     ensures views { (givens : Givens) (before : List (List ℕ)) → Keeps givens before keeper.old →
-        Delivers O.taken O.faults out.old out.new (AreViews manner.now (schema_of keeper.old) (editions givens before) viewing.entry.query.now (edition keeper.old) number 0 viewing.entry.shots) result }
+        Delivers O.taken O.faults out.old out.new
+        (AreViews manner.now (schema_of keeper.old) (editions givens before) viewing.entry.query.now
+        (edition keeper.old) number 0 viewing.entry.shots) result }
 {
     let shots = watcher.finish(answering, keeper)?;
     let text = view_text(answering.alloc, manner.form, number, shots.as_slice())?;

@@ -7,13 +7,12 @@ ghost use Rattle.trie.specs.Maps.{map_of};
 ghost use Rattle.board.specs.Editions.{Publishes};
 ghost use Rattle.board.specs.Editions as editions;
 ghost use Rattle.crew.specs.Limits.{piece_limit};
-ghost use Rattle.loader.specs.Limits.{listed_limit};
 ghost use Rattle.loader.specs.Parts.{part_len, part_of, rows_of_parts};
 ghost use Rattle.report.specs.Waiting.{Heads};
 ghost use Rattle.report.specs.declared.want.Want.TheVariants as want;
 ghost use Rattle.script.specs.Blocks.{Steps, WillBe};
 ghost use Rattle.script.specs.Desks.{Executes, LaysOrOverflows, LoadsRows, Publishable};
-ghost use Rattle.script.specs.Givens.{givens_in};
+ghost use Rattle.script.specs.Givens.{givens_in, givens_of};
 ghost use Rattle.script.specs.Limits.{script_limit};
 ghost use Rattle.script.specs.Listings.{rows_held, rows_loaded};
 ghost use Rattle.script.specs.Output.{AreBlocks, IsOutput};
@@ -92,7 +91,7 @@ fn blocks_here<H: KeyHash<Cell> + KeyHash<Tuple>>(
     script: &[u8],
 ) -> Result<Vec<u8>, AllocError>
     requires { length script.now ≤ script_limit }
-    ensures { IfOk result (λ text. AreBlocks H.KeyHash-1.hash_of (givens_in setup.now.manner.now setup.now.how.now.rows setup.now.parts.now) [] (lines script.now) text.items) }
+    ensures { IfOk result (λ text. AreBlocks H.KeyHash-1.hash_of (givens_of setup.now) [] (lines script.now) text.items) }
 {
     let mut text = Vec::new(setup.alloc);
     let mut desk: Option<Ledger<H>> = None;
@@ -116,7 +115,7 @@ fn execute_here<H: KeyHash<Cell>>(
 ) -> Result<Block<H>, Want>
     requires publishable { Publishable desk.old }
     requires short { length line.bytes.now ≤ script_limit }
-    ensures step { IfOk result (Steps H.hash_of (givens_in setup.now.manner.now setup.now.how.now.rows setup.now.parts.now) line.entry.bytes.now line.entry.number desk.old desk.new) }
+    ensures step { IfOk result (Steps H.hash_of (givens_of setup.now) line.entry.bytes.now line.entry.number desk.old desk.new) }
 {
     if let Some(ledger) = desk {
         return execute_kept_here(setup, ledger, line);
@@ -132,7 +131,7 @@ fn execute_first_here<H: KeyHash<Cell>>(
     setup: &Here<'_>,
     line: Line<'_>,
 ) -> Result<(Option<Ledger<H>>, Vec<u8>), AllocError>
-    ensures step { IfOk result (λ r. Executes H.hash_of (givens_in setup.now.manner.now setup.now.how.now.rows setup.now.parts.now) line.entry.bytes.now line.entry.number None r.0 r.1.items) }
+    ensures step { IfOk result (λ r. Executes H.hash_of (givens_of setup.now) line.entry.bytes.now line.entry.number None r.0 r.1.items) }
     ensures writes { IfOk result (λ r. IsQuiet line.entry.number r.1.items) }
 {
     let alloc = setup.alloc;
@@ -158,7 +157,7 @@ fn execute_kept_here<H: KeyHash<Cell>>(
 ) -> Result<Block<H>, Want>
     requires publishable { editions.edition ledger.old + 1 < 2 ^ 64 }
     requires short { length line.bytes.now ≤ script_limit }
-    ensures step { IfOk result (Steps H.hash_of (givens_in setup.now.manner.now setup.now.how.now.rows setup.now.parts.now) line.entry.bytes.now line.entry.number (Some ledger.old) (Some ledger.new)) }
+    ensures step { IfOk result (Steps H.hash_of (givens_of setup.now) line.entry.bytes.now line.entry.number (Some ledger.old) (Some ledger.new)) }
 {
     let alloc = setup.alloc;
     match read_statement(alloc, ledger.schema(), line.bytes) {
@@ -207,7 +206,8 @@ fn execute_load_here<H: KeyHash<Cell>>(
     number: u64,
 ) -> Result<Vec<u8>, AllocError>
     requires { length listing.now ≤ script_limit }
-    ensures step { IfOk result (λ block. LoadsRows setup.now.manner.now.form ledger.old ledger.new (rows_loaded (editions.schema ledger.old) (map (λ p. p.items) setup.now.parts.now) listing.now) number block.items) }
+    ensures step { IfOk result (λ block. LoadsRows setup.now.manner.now.form ledger.old ledger.new
+        (rows_loaded (editions.schema ledger.old) (map (λ p. p.items) setup.now.parts.now) listing.now) number block.items) }
 {
     match read_listing(setup.alloc, setup.parts, listing) {
         Ok(listed) => {
@@ -227,7 +227,8 @@ fn load_listed_here<H: KeyHash<Cell>>(
     number: u64,
 ) -> Result<Vec<u8>, AllocError>
     requires many { length listed.now ≤ piece_limit }
-    ensures step { IfOk result (λ block. LoadsRows setup.now.manner.now.form ledger.old ledger.new (rows_held (rows_of_parts (editions.schema ledger.old) (map part_of listed.now))) number block.items) }
+    ensures step { IfOk result (λ block. LoadsRows setup.now.manner.now.form ledger.old ledger.new
+        (rows_held (rows_of_parts (editions.schema ledger.old) (map part_of listed.now))) number block.items) }
 {
     match load_here(setup.alloc, listed, ledger.schema()) {
         Ok(rows) => lay_over_here(setup, ledger, rows, number),
@@ -250,7 +251,8 @@ fn lay_over_here<H: KeyHash<Cell>>(
     number: u64,
 ) -> Result<Vec<u8>, AllocError>
     requires { AreRowsOf (editions.schema ledger.old) (map_of cell_cmp rows) }
-    ensures step { IfOk result (λ block. LaysOrOverflows setup.now.manner.now.form ledger.old ledger.new (laid_over (map_of cell_cmp rows) (editions.draft ledger.old)) number block.items) }
+    ensures step { IfOk result (λ block. LaysOrOverflows setup.now.manner.now.form ledger.old ledger.new
+        (laid_over (map_of cell_cmp rows) (editions.draft ledger.old)) number block.items) }
 {
     match ledger.absorb(rows) {
         Ok(()) => Ok(Vec::new(setup.alloc)),

@@ -5,7 +5,6 @@ ghost use Rattle.cells.specs.Values.{RowValue, Table};
 ghost use Rattle.groups.specs.Groups.{kept};
 ghost use Rattle.groups.specs.Partials.{Stands};
 ghost use Rattle.groups.specs.Told.{Tells};
-ghost use Rattle.query.specs.Plans.{PlanTree};
 ghost use Rattle.script.specs.Givens.{Givens};
 ghost use Rattle.script.specs.Joining.{AreAlike, AreTogether, Joins};
 ghost use Rattle.script.specs.Limits.{script_limit};
@@ -173,7 +172,8 @@ fn kept_of_both<H: KeyHash<Cell> + KeyHash<Tuple>>(
     firsts: Vec<SetGroups>,
     seconds: Vec<SetGroups>,
 ) -> Result<Option<Told>, AllocError>
-    ensures { (xs ys zs : List RowValue) → AreTogether xs ys zs → Tells plan.now (kept plan.now.condition xs) firsts.items → Tells plan.now (kept plan.now.condition ys) seconds.items →
+    ensures { (xs ys zs : List RowValue) → AreTogether xs ys zs →
+        Tells plan.now (kept plan.now.condition xs) firsts.items → Tells plan.now (kept plan.now.condition ys) seconds.items →
         IfOk result (λ o. IfSome o (TellsKept plan.now zs)) }
 {
     // The law by which the order of the rows does not count; it does nothing.

@@ -65,12 +65,16 @@ pub fn worked_scripts()
     ensures capitals { IsOutput plain_hash (givens 1 []) (text_of (codes "Table T (K INT KEY)" ∷ [])) (text_of (codes "line 1 refused 3" ∷ [])) }
     ensures counted { IsOutput plain_hash (givens 1 []) (text_of (codes "table T (K INT KEY)" ∷ codes "publish" ∷ codes "report SELECT COUNT(*) FROM T" ∷ []))
         (text_of (codes "line 3 edition 1" ∷ codes "COUNT(*)" ∷ codes "0" ∷ [])) }
-    ensures replaced { IsOutput plain_hash (givens 9 []) (text_of (codes "table T (K INT KEY)" ∷ codes "put 1" ∷ codes "put 2" ∷ codes "put 1" ∷ codes "publish" ∷ codes "report SELECT COUNT(*) FROM T" ∷ codes "put x" ∷ []))
+    ensures replaced { IsOutput plain_hash (givens 9 [])
+        (text_of (codes "table T (K INT KEY)" ∷ codes "put 1" ∷ codes "put 2" ∷ codes "put 1"
+        ∷ codes "publish" ∷ codes "report SELECT COUNT(*) FROM T" ∷ codes "put x" ∷ []))
         (text_of (codes "line 6 edition 1" ∷ codes "COUNT(*)" ∷ codes "2" ∷ codes "line 7 refused 7" ∷ [])) }
-    ensures deleted { IsOutput plain_hash (givens 9 []) (text_of (codes "table T (K INT KEY)" ∷ codes "put 1" ∷ codes "delete 1" ∷ codes "publish" ∷ codes "report SELECT COUNT(*) FROM T" ∷ []))
+    ensures deleted { IsOutput plain_hash (givens 9 [])
+        (text_of (codes "table T (K INT KEY)" ∷ codes "put 1" ∷ codes "delete 1" ∷ codes "publish" ∷ codes "report SELECT COUNT(*) FROM T" ∷ []))
         (text_of (codes "line 5 edition 1" ∷ codes "COUNT(*)" ∷ codes "0" ∷ [])) }
     ensures rolled_up { IsOutput plain_hash (givens 9 [])
-        (text_of (codes "table T (K INT KEY, V INT)" ∷ codes "put 1,5" ∷ codes "put 2,5" ∷ codes "put 3," ∷ codes "publish" ∷ codes "report SELECT V, COUNT(*) FROM T GROUP BY ROLLUP (V)" ∷ []))
+        (text_of (codes "table T (K INT KEY, V INT)" ∷ codes "put 1,5" ∷ codes "put 2,5" ∷ codes "put 3," ∷ codes "publish"
+        ∷ codes "report SELECT V, COUNT(*) FROM T GROUP BY ROLLUP (V)" ∷ []))
         (text_of (codes "line 6 edition 1" ∷ codes "V | COUNT(*)" ∷ codes "NULL | 1" ∷ codes "5 | 2" ∷ codes "NULL | 3" ∷ [])) }
 {}
 

@@ -1,6 +1,6 @@
 //! Scripts: the runner, which goes from line to line over one table, what a script writes, and the laws of that. A
-//! program that runs scripts calls [`run`] or [`run_by`], with viewers beside the lines [`live`], and where it ends behind its
-//! run [`run_in`], in a manner of its choice. One that answers lines as they come holds a [`Session`].
+//! program that runs scripts calls [`run`], with viewers beside the lines [`live`], and where it ends after its run [`run_in`],
+//! in a manner and by a hash of its choice. One that answers lines as they come holds a [`Session`].
 #![tactic(auto)]
 
 mod answer;
@@ -71,7 +71,7 @@ pub use manner::Manner;
 pub use on_refusal::OnRefusal;
 pub use own::{OwnUntold, tell_own_here};
 pub use retelling::output_of_told;
-pub use running::{live, run, run_by, run_in};
+pub use running::{live, run, run_in};
 pub use session::Session;
 pub use setup::Setup;
 pub use telling::{Untold, tell_here};

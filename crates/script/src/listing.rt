@@ -88,7 +88,8 @@ fn parts_spelt<'a>(
     parts: &'a [Vec<u8>],
     text: &str,
 ) -> Result<Vec<Listed<'a>>, Fault>
-    ensures exact { ReadsBy (Line Refused.OutOfMemory) (λ v. map part_of v.items) (handed_in (all_there (map (part_spelt (map (λ p. p.items) parts.now)) (between_spaces text.now)))) result }
+    ensures exact { ReadsBy (Line Refused.OutOfMemory) (λ v. map part_of v.items)
+        (handed_in (all_there (map (part_spelt (map (λ p. p.items) parts.now)) (between_spaces text.now)))) result }
     ensures many { IfOk result (λ v. length v.items ≤ length text.now + 1) }
 {
     let mut listed = Vec::new(alloc);

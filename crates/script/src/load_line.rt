@@ -37,7 +37,8 @@ pub fn execute_load<H: KeyHash<Cell> + Send + Sync, G: Gate, R: Threads + Wait>(
     number: u64,
 ) -> Result<Vec<u8>, Want>
     requires { length listing.now ≤ script_limit }
-    ensures step { IfOk result (λ block. LoadsRows setup.now.manner.now.form keeper.old keeper.new (rows_loaded (editions.schema keeper.old) (map (λ p. p.items) setup.now.parts.now) listing.now) number block.items) }
+    ensures step { IfOk result (λ block. LoadsRows setup.now.manner.now.form keeper.old keeper.new
+        (rows_loaded (editions.schema keeper.old) (map (λ p. p.items) setup.now.parts.now) listing.now) number block.items) }
 {
     match read_listing(setup.alloc, setup.parts, listing) {
         Ok(listed) => {
@@ -58,7 +59,8 @@ fn load_listed<H: KeyHash<Cell> + Send + Sync, G: Gate, R: Threads + Wait>(
 ) -> Result<Vec<u8>, Want>
     requires many { length listed.now ≤ piece_limit }
     requires within { sum_by part_len (map part_of listed.now) ≤ listed_limit }
-    ensures step { IfOk result (λ block. LoadsRows setup.now.manner.now.form keeper.old keeper.new (rows_held (rows_of_parts (editions.schema keeper.old) (map part_of listed.now))) number block.items) }
+    ensures step { IfOk result (λ block. LoadsRows setup.now.manner.now.form keeper.old keeper.new
+        (rows_held (rows_of_parts (editions.schema keeper.old) (map part_of listed.now))) number block.items) }
 {
     let workers = setup.how.workers();
     match load(
@@ -99,7 +101,8 @@ fn lay_over<H: KeyHash<Cell>, G: Gate, R>(
     number: u64,
 ) -> Result<Vec<u8>, AllocError>
     requires { AreRowsOf (editions.schema keeper.old) (map_of cell_cmp rows) }
-    ensures step { IfOk result (λ block. LaysOrOverflows setup.now.manner.now.form keeper.old keeper.new (laid_over (map_of cell_cmp rows) (editions.draft keeper.old)) number block.items) }
+    ensures step { IfOk result (λ block. LaysOrOverflows setup.now.manner.now.form keeper.old keeper.new
+        (laid_over (map_of cell_cmp rows) (editions.draft keeper.old)) number block.items) }
 {
     match keeper.absorb(rows) {
         Ok(()) => Ok(Vec::new(setup.alloc)),

@@ -67,7 +67,8 @@ pub fn tell_own_here<H: KeyHash<Cell> + KeyHash<Tuple>>(
     parts: &[Vec<u8>],
     how: &How,
 ) -> Result<Vec<Told>, OwnUntold>
-    ensures told { (givens : Givens) (takes : Cell → Bool) → HaveOwn givens takes (map (λ p. p.items) parts.now) [] (lines script.now) → FitAll givens [] (lines script.now) →
+    ensures told { (givens : Givens) (takes : Cell → Bool) →
+        HaveOwn givens takes (map (λ p. p.items) parts.now) [] (lines script.now) → FitAll givens [] (lines script.now) →
         IfOk result (λ tolds. AreTold givens takes [] (lines script.now) tolds.items) }
     ensures loaded { IfOk result (λ tolds. NoneRefused tolds.items) }
     ensures much { IsErrOf result (OwnUntold.Untold Untold.TooMuch) ↔ ((script_limit < length script.now) ⊎ (part_limit < length parts.now)) }
@@ -95,7 +96,8 @@ fn tell_parts<H: KeyHash<Cell> + KeyHash<Tuple>>(
     requires script { length script.now ≤ script_limit }
     requires parts { length parts.now ≤ part_limit }
     requires rows { (givens : Givens) → PutNoRows givens [] (lines script.now) }
-    ensures told { (givens : Givens) (takes : Cell → Bool) → HaveOwn givens takes (map (λ p. p.items) parts.now) [] (lines script.now) → FitAll givens [] (lines script.now) →
+    ensures told { (givens : Givens) (takes : Cell → Bool) →
+        HaveOwn givens takes (map (λ p. p.items) parts.now) [] (lines script.now) → FitAll givens [] (lines script.now) →
         IfOk result (λ tolds. AreTold givens takes [] (lines script.now) tolds.items) }
     ensures loaded { IfOk result (λ tolds. NoneRefused tolds.items) }
     ensures little { result ≡ Err (OwnUntold.Untold Untold.TooMuch) → ⊥ }

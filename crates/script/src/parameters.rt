@@ -57,7 +57,8 @@ fn push_mark<'c>(
     quoted: bool,
     cells: &'c [Cell],
 ) -> Result<Option<&'c [Cell]>, Refused>
-    ensures left { IfOk result (λ left. MatchOption left (at_mark quoted cells.now ≡ None) (λ more. PutsMark quoted cells.now (string_bytes full.old) (string_bytes full.new) more.now)) }
+    ensures left { IfOk result (λ left. MatchOption left (at_mark quoted cells.now ≡ None) (λ more.
+        PutsMark quoted cells.now (string_bytes full.old) (string_bytes full.new) more.now)) }
     ensures refused { IfErr result (λ e. e ≡ Refused.OutOfMemory) }
 {
     if quoted {

@@ -43,7 +43,8 @@ pub fn output_of_told<H: KeyHash<Cell> + KeyHash<Tuple>>(
     tolds: Vec<Told>,
     manner: &Manner,
 ) -> Result<Option<Vec<u8>>, AllocError>
-    ensures { (hash : Cell → ℕ) (givens : Givens) (all : Cell → Bool) → givens.manner ≡ manner.now → length givens.parts ≤ part_limit → length script.now ≤ script_limit → FitAll givens [] (lines script.now) →
+    ensures { (hash : Cell → ℕ) (givens : Givens) (all : Cell → Bool) → givens.manner ≡ manner.now →
+        length givens.parts ≤ part_limit → length script.now ≤ script_limit → FitAll givens [] (lines script.now) →
         ((key : Cell) → all key ≡ true) → AreTold givens all [] (lines script.now) tolds.items →
         IfOk result (λ o. IfSome o (λ text. IsOutput hash givens script.now text.items)) }
 {
@@ -61,7 +62,8 @@ fn blocks_of_told<H: KeyHash<Cell> + KeyHash<Tuple>>(
     manner: &Manner,
 ) -> Result<Option<Vec<u8>>, AllocError>
     requires { length script.now ≤ script_limit }
-    ensures { (hash : Cell → ℕ) (givens : Givens) (all : Cell → Bool) → givens.manner ≡ manner.now → ((key : Cell) → all key ≡ true) → FitAll givens [] (lines script.now) →
+    ensures { (hash : Cell → ℕ) (givens : Givens) (all : Cell → Bool) → givens.manner ≡ manner.now →
+        ((key : Cell) → all key ≡ true) → FitAll givens [] (lines script.now) →
         AreTold givens all [] (lines script.now) tolds.items →
         IfOk result (λ o. IfSome o (λ text. AreBlocks hash givens [] (lines script.now) text.items)) }
 {

@@ -6,7 +6,7 @@ ghost use Rattle.report.specs.declared.unwritten.Unwritten.TheVariants as unwrit
 ghost use Rattle.report.specs.declared.want.Want.TheVariants as want;
 ghost use Rattle.script.specs.Blocks.{IsAsked, WillBe};
 ghost use Rattle.script.specs.Endings.{AsksForWorkers, Delivers};
-ghost use Rattle.script.specs.Givens.{givens, givens_in};
+ghost use Rattle.script.specs.Givens.{givens, givens_in, givens_of};
 ghost use Rattle.script.specs.Hows.{hash_of_choice};
 ghost use Rattle.script.specs.Limits.{script_limit};
 ghost use Rattle.script.specs.Output.{IsOutput};
@@ -123,7 +123,9 @@ pub fn live<
     out: &mut O,
 ) -> Result<(), Ended>
     requires { O.faults out.old + 1 < 2 ^ 64 }
-    ensures delivered { Delivers O.taken O.faults out.old out.new (IsLive H.KeyHash-1.hash_of (givens how.now.rows parts.now) (record { query = query.now; viewers = viewers; shots = shots; showing = Showing.Last }) script.now) result }
+    ensures delivered { Delivers O.taken O.faults out.old out.new
+        (IsLive H.KeyHash-1.hash_of (givens how.now.rows parts.now)
+        (record { query = query.now; viewers = viewers; shots = shots; showing = Showing.Last }) script.now) result }
 {
     let viewing = Viewing {
         query,
@@ -142,28 +144,6 @@ pub fn live<
     };
     let manner = Manner::of(alloc, Form::Classic);
     run_through::<H, O, G, R>(&setup, &manner, script, out)
-}
-
-/// [`run`] with the hash of this choice. Only the blocks of shapes depend on it.
-pub fn run_by<O: Out, G: Gate, R: Threads + Wait + Sync>(
-    rt: &R,
-    alloc: Global,
-    hash: HashChoice,
-    script: &[u8],
-    parts: &[Vec<u8>],
-    how: &How,
-    gate: &G,
-    out: &mut O,
-) -> Result<(), Ended>
-    requires { O.faults out.old + 1 < 2 ^ 64 }
-    ensures delivered { Delivers O.taken O.faults out.old out.new (IsOutput (hash_of_choice hash) (givens how.now.rows parts.now) script.now) result }
-    ensures worker { IsErrOf result Ended.NoWorker → AsksForWorkers (givens how.now.rows parts.now) (lines script.now) }
-    ensures place { IsErrOf result Ended.NotShown → ⊥ }
-{
-    match hash {
-        HashChoice::Fnv => run::<Fnv, O, G, R>(rt, alloc, script, parts, how, gate, out),
-        HashChoice::Plain => run::<Plain, O, G, R>(rt, alloc, script, parts, how, gate, out),
-    }
 }
 
 /// [`run`] or [`live`], by what viewers are asked, with the hash of this choice, for a program that ends after it, however the
@@ -185,8 +165,10 @@ pub fn run_in<'a, O: Out, G: Gate, R: Threads + Wait + Sync>(
     out: &mut O,
 ) -> Result<Finish, Ended>
     requires { O.faults out.old + 1 < 2 ^ 64 }
-    ensures by { EndsBy setup.now.on_refusal (hash_of_choice hash) O.taken O.faults out.old out.new (givens_in manner.now setup.now.how.now.rows setup.now.parts.now) (asked_of setup.now.viewing) script.now result }
-    ensures goes_on { setup.now.on_refusal ≡ OnRefusal.GoesOn → EndsRun (hash_of_choice hash) O.taken O.faults out.old out.new (givens_in manner.now setup.now.how.now.rows setup.now.parts.now) (asked_of setup.now.viewing) script.now result }
+    ensures by { EndsBy setup.now.on_refusal (hash_of_choice hash) O.taken O.faults out.old out.new
+        (givens_in manner.now setup.now.how.now.rows setup.now.parts.now) (asked_of setup.now.viewing) script.now result }
+    ensures goes_on { setup.now.on_refusal ≡ OnRefusal.GoesOn → EndsRun (hash_of_choice hash) O.taken O.faults out.old out.new
+        (givens_in manner.now setup.now.how.now.rows setup.now.parts.now) (asked_of setup.now.viewing) script.now result }
 {
     let closing = Closing::LeavesToSystem;
     match hash {
@@ -205,7 +187,8 @@ fn run_through<
 >(setup: &Setup<'a, R, G>, manner: &'a Manner, script: &[u8], out: &mut O) -> Result<(), Ended>
     requires faults { O.faults out.old + 1 < 2 ^ 64 }
     requires goes_on { setup.now.on_refusal ≡ OnRefusal.GoesOn }
-    ensures { EndsRun H.KeyHash-1.hash_of O.taken O.faults out.old out.new (givens_in manner.now setup.now.how.now.rows setup.now.parts.now) (asked_of setup.now.viewing) script.now result }
+    ensures { EndsRun H.KeyHash-1.hash_of O.taken O.faults out.old out.new
+        (givens_in manner.now setup.now.how.now.rows setup.now.parts.now) (asked_of setup.now.viewing) script.now result }
 {
     match run_whole::<H, O, G, R>(setup, manner, script, out, Closing::GivesBack) {
         Ok(_) => Ok(()),
@@ -228,7 +211,8 @@ fn run_whole<
     closing: Closing,
 ) -> Result<Finish, Ended>
     requires { O.faults out.old + 1 < 2 ^ 64 }
-    ensures { EndsBy setup.now.on_refusal H.KeyHash-1.hash_of O.taken O.faults out.old out.new (givens_in manner.now setup.now.how.now.rows setup.now.parts.now) (asked_of setup.now.viewing) script.now result }
+    ensures { EndsBy setup.now.on_refusal H.KeyHash-1.hash_of O.taken O.faults out.old out.new
+        (givens_in manner.now setup.now.how.now.rows setup.now.parts.now) (asked_of setup.now.viewing) script.now result }
 {
     let spelt = SpeltSetup {
         rt: setup.rt,
@@ -261,7 +245,8 @@ fn run_lines<
 ) -> Result<Finish, Ended>
     requires faults { O.faults out.old + 1 < 2 ^ 64 }
     requires short { length script.now ≤ script_limit }
-    ensures { EndsLines setup.now.on_refusal H.KeyHash-1.hash_of O.taken O.faults out.old out.new (givens_in setup.now.manner.now setup.now.how.now.rows setup.now.parts.now) (asked_of setup.now.viewing) (lines script.now) result }
+    ensures { EndsLines setup.now.on_refusal H.KeyHash-1.hash_of O.taken O.faults out.old out.new
+        (givens_of setup.now) (asked_of setup.now.viewing) (lines script.now) result }
 {
     let (ended, _out) = thread::scope(
         thread::scope_env(),
@@ -269,7 +254,8 @@ fn run_lines<
         move |scope| -> (Result<Finish, Ended>, &mut O)
             requires { (O.faults out.now + 1 < 2 ^ 64) × (length script.now ≤ script_limit) }
             ensures same { result.1.ghost_name ≡ out.entry.ghost_name }
-            ensures ends { EndsLines setup.entry.now.on_refusal H.KeyHash-1.hash_of O.taken O.faults out.entry.now result.1.now (givens_in setup.entry.now.manner.now setup.entry.now.how.now.rows setup.entry.now.parts.now) (asked_of setup.entry.now.viewing) (lines script.entry.now) result.0 }
+            ensures ends { EndsLines setup.entry.now.on_refusal H.KeyHash-1.hash_of O.taken O.faults out.entry.now result.1.now
+                (givens_of setup.entry.now) (asked_of setup.entry.now.viewing) (lines script.entry.now) result.0 }
         {
             let starter = Starter {
                 scope,
@@ -317,7 +303,8 @@ fn run_beside<
     requires short { length script.now ≤ script_limit }
     requires fresh { IsFresh desk.old × (backlog.old ≡ record { reports = []; after = [] }) }
     requires nobody { (gallery.old.stage ≡ Stage.Expected) × (gallery.old.audience.watches ≡ []) × (gallery.old.onlookers ≡ nobody) }
-    ensures { EndsLines setup.now.on_refusal H.KeyHash-1.hash_of O.taken O.faults out.old out.new (givens_in setup.now.manner.now setup.now.how.now.rows setup.now.parts.now) (asked_of setup.now.viewing) (lines script.now) result }
+    ensures { EndsLines setup.now.on_refusal H.KeyHash-1.hash_of O.taken O.faults out.old out.new
+        (givens_of setup.now) (asked_of setup.now.viewing) (lines script.now) result }
 {
     // The law by which what was written is a beginning of an output, where a report ends the run; it does
     // nothing.
@@ -353,8 +340,10 @@ fn go_over<
     requires fresh { IsFresh desk.old × (backlog.old ≡ record { reports = []; after = [] }) }
     requires nobody { (gallery.old.stage ≡ Stage.Expected) × (gallery.old.audience.watches ≡ []) × (gallery.old.onlookers ≡ nobody) }
     ensures { MatchResult result
-        (GoesOverBeside O.taken O.faults out.old out.new H.KeyHash-1.hash_of (givens_in setup.now.manner.now setup.now.how.now.rows setup.now.parts.now) setup.now.on_refusal (asked_of setup.now.viewing) (lines script.now) desk.new backlog.new gallery.new.stage gallery.new.audience.watches gallery.new.onlookers)
-        (EndsEarly setup.now.on_refusal H.KeyHash-1.hash_of O.taken O.faults out.old out.new (givens_in setup.now.manner.now setup.now.how.now.rows setup.now.parts.now) (asked_of setup.now.viewing) (lines script.now)) }
+        (GoesOverBeside O.taken O.faults out.old out.new H.KeyHash-1.hash_of (givens_of setup.now) setup.now.on_refusal
+        (asked_of setup.now.viewing) (lines script.now) desk.new backlog.new gallery.new.stage gallery.new.audience.watches gallery.new.onlookers)
+        (EndsEarly setup.now.on_refusal H.KeyHash-1.hash_of O.taken O.faults out.old out.new
+        (givens_of setup.now) (asked_of setup.now.viewing) (lines script.now)) }
 {
     // The laws by which what was written is a beginning of an output, where a line ends the run; they do
     // nothing.

@@ -43,15 +43,16 @@ pub struct Session<'a, H: KeyHash<Cell>, R, G: Gate> {
 
 impl<'a, H: KeyHash<Cell>, R, G: Gate> Model for Session<'a, H, R, G> {
     ghost use Rattle.std.specs.Prelude.{◌≡◌, None, Some};
-    ghost use Rattle.script.specs.Givens.{givens_in};
+    ghost use Rattle.script.specs.Givens.{givens_of};
     ghost use Rattle.script.specs.Sessions.{AnswersAfter, AnswersFilled, Hearing, StandsBehind};
     ghost use Rattle.script.specs.declared.ended.Ended.TheVariants.{NotShown};
 
     ghost Value = { Hearing };
 
-    ghost view = { λ s. record { givens = givens_in s.setup.manner.now s.setup.how.now.rows s.setup.parts.now; lines = s.standing.lines.items; ended = s.ended } };
+    ghost view = { λ s. record { givens = givens_of s.setup; lines = s.standing.lines.items; ended = s.ended } };
 
-    ghost invariant = { λ s. (s.ended ≡ None → StandsBehind (givens_in s.setup.manner.now s.setup.how.now.rows s.setup.parts.now) s.standing.lines.items s.standing.desk s.standing.number) × (s.ended ≡ Some NotShown → ⊥) };
+    ghost invariant = { λ s. (s.ended ≡ None →
+        StandsBehind (givens_of s.setup) s.standing.lines.items s.standing.desk s.standing.number) × (s.ended ≡ Some NotShown → ⊥) };
 }
 
 impl<'a, H: KeyHash<Cell>, R, G: Gate> Session<'a, H, R, G> {
@@ -105,7 +106,9 @@ impl<
     /// with the same error, and writes nothing.
     pub fn line<O: Out>(&mut self, bytes: &[u8], out: &mut O) -> Result<Heard, Ended>
         requires { O.faults out.old + 1 < 2 ^ 64 }
-        ensures replies { self.old.ended ≡ None → Ends O.taken O.faults out.old out.new (IsReply H.KeyHash-1.hash_of self.old.givens self.old.lines bytes.now) (HasWorkers (deed_behind self.old.givens (counted self.old.lines) bytes.now)) ⊥ result }
+        ensures replies { self.old.ended ≡ None → Ends O.taken O.faults out.old out.new
+            (IsReply H.KeyHash-1.hash_of self.old.givens self.old.lines bytes.now)
+            (HasWorkers (deed_behind self.old.givens (counted self.old.lines) bytes.now)) ⊥ result }
         ensures tells { IfOk result (λ heard. Tells (was_refused heard) (IsRefusedAfter self.old.givens self.old.lines bytes.now)) }
         ensures goes_on { OnOk result ((self.old.ended ≡ None) × (self.new ≡ with_line self.old bytes.now)) }
         ensures ends { IfErr result (λ why. self.new ≡ ended_by self.old why) }

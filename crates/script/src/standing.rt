@@ -6,7 +6,7 @@ ghost use Rattle.report.specs.declared.want.Want.TheVariants as want;
 ghost use Rattle.script.specs.Blocks.{IsAsked, WillBe, is_refused};
 ghost use Rattle.script.specs.Changes.{IsChangeLine, IsRuled};
 ghost use Rattle.script.specs.Endings.{Ends, HasWorkers};
-ghost use Rattle.script.specs.Givens.{Givens, givens_in};
+ghost use Rattle.script.specs.Givens.{Givens, givens_of};
 ghost use Rattle.script.specs.Output.{deed_behind, edition};
 ghost use Rattle.script.specs.Sessions.{AnswersAfter, IsRefusedAfter, IsReply, StandsBehind, counted, is_heard, line_limit, was_refused};
 ghost use Rattle.script.specs.Stops.{Tells};
@@ -99,10 +99,12 @@ impl<H: KeyHash<Cell> + KeyHash<Tuple> + Send + Sync> Standing<H> {
         out: &mut O,
     ) -> Result<Heard, Ended>
         requires faults { O.faults out.old + 1 < 2 ^ 64 }
-        requires stands { StandsBehind (givens_in setup.now.manner.now setup.now.how.now.rows setup.now.parts.now) self.old.lines.items self.old.desk self.old.number }
-        ensures ends { Ends O.taken O.faults out.old out.new (IsReply H.KeyHash-1.hash_of (givens_in setup.now.manner.now setup.now.how.now.rows setup.now.parts.now) self.old.lines.items line.now) (HasWorkers (deed_behind (givens_in setup.now.manner.now setup.now.how.now.rows setup.now.parts.now) (counted self.old.lines.items) line.now)) ⊥ result }
-        ensures tells { IfOk result (λ heard. Tells (was_refused heard) (IsRefusedAfter (givens_in setup.now.manner.now setup.now.how.now.rows setup.now.parts.now) self.old.lines.items line.now)) }
-        ensures stands { OnOk result (StandsBehind (givens_in setup.now.manner.now setup.now.how.now.rows setup.now.parts.now) self.new.lines.items self.new.desk self.new.number) }
+        requires stands { StandsBehind (givens_of setup.now) self.old.lines.items self.old.desk self.old.number }
+        ensures ends { Ends O.taken O.faults out.old out.new
+            (IsReply H.KeyHash-1.hash_of (givens_of setup.now) self.old.lines.items line.now)
+            (HasWorkers (deed_behind (givens_of setup.now) (counted self.old.lines.items) line.now)) ⊥ result }
+        ensures tells { IfOk result (λ heard. Tells (was_refused heard) (IsRefusedAfter (givens_of setup.now) self.old.lines.items line.now)) }
+        ensures stands { OnOk result (StandsBehind (givens_of setup.now) self.new.lines.items self.new.desk self.new.number) }
         ensures lines { OnOk result (self.new.lines.items ≡ line.now ∷ self.old.lines.items) }
         ensures early { OnErr result (self.new.lines.items ≡ self.old.lines.items) }
     {
@@ -118,8 +120,8 @@ impl<H: KeyHash<Cell> + KeyHash<Tuple> + Send + Sync> Standing<H> {
         setup: &SpeltSetup<'_, R, G>,
         query: &str,
     ) -> Result<Answer, Refused>
-        requires { StandsBehind (givens_in setup.now.manner.now setup.now.how.now.rows setup.now.parts.now) self.now.lines.items self.now.desk self.now.number }
-        ensures { AnswersAfter (givens_in setup.now.manner.now setup.now.how.now.rows setup.now.parts.now) self.now.lines.items query.now result }
+        requires { StandsBehind (givens_of setup.now) self.now.lines.items self.now.desk self.now.number }
+        ensures { AnswersAfter (givens_of setup.now) self.now.lines.items query.now result }
     {
         let Some(keeper) = &self.desk else {
             return Err(Refused::NoTable);
@@ -135,11 +137,13 @@ impl<H: KeyHash<Cell> + KeyHash<Tuple> + Send + Sync> Standing<H> {
         out: &mut O,
     ) -> Result<Heard, Ended>
         requires faults { O.faults out.old + 1 < 2 ^ 64 }
-        requires stands { StandsBehind (givens_in setup.now.manner.now setup.now.how.now.rows setup.now.parts.now) self.old.lines.items self.old.desk self.old.number }
+        requires stands { StandsBehind (givens_of setup.now) self.old.lines.items self.old.desk self.old.number }
         requires heard { is_heard self.old.lines.items line.now ≡ true }
-        ensures ends { Ends O.taken O.faults out.old out.new (IsReply H.KeyHash-1.hash_of (givens_in setup.now.manner.now setup.now.how.now.rows setup.now.parts.now) self.old.lines.items line.now) (HasWorkers (deed_behind (givens_in setup.now.manner.now setup.now.how.now.rows setup.now.parts.now) (counted self.old.lines.items) line.now)) ⊥ result }
-        ensures tells { IfOk result (λ heard. Tells (was_refused heard) (IsRefusedAfter (givens_in setup.now.manner.now setup.now.how.now.rows setup.now.parts.now) self.old.lines.items line.now)) }
-        ensures stands { OnOk result (StandsBehind (givens_in setup.now.manner.now setup.now.how.now.rows setup.now.parts.now) self.new.lines.items self.new.desk self.new.number) }
+        ensures ends { Ends O.taken O.faults out.old out.new
+            (IsReply H.KeyHash-1.hash_of (givens_of setup.now) self.old.lines.items line.now)
+            (HasWorkers (deed_behind (givens_of setup.now) (counted self.old.lines.items) line.now)) ⊥ result }
+        ensures tells { IfOk result (λ heard. Tells (was_refused heard) (IsRefusedAfter (givens_of setup.now) self.old.lines.items line.now)) }
+        ensures stands { OnOk result (StandsBehind (givens_of setup.now) self.new.lines.items self.new.desk self.new.number) }
         ensures lines { OnOk result (self.new.lines.items ≡ line.now ∷ self.old.lines.items) }
         ensures early { OnErr result (self.new.lines.items ≡ self.old.lines.items) }
     {
@@ -168,11 +172,13 @@ impl<H: KeyHash<Cell> + KeyHash<Tuple> + Send + Sync> Standing<H> {
         out: &mut O,
     ) -> Result<Heard, Ended>
         requires faults { O.faults out.old + 1 < 2 ^ 64 }
-        requires stands { StandsBehind (givens_in setup.now.manner.now setup.now.how.now.rows setup.now.parts.now) self.old.lines.items self.old.desk self.old.number }
+        requires stands { StandsBehind (givens_of setup.now) self.old.lines.items self.old.desk self.old.number }
         requires unheard { is_heard self.old.lines.items line.now ≡ false }
-        ensures ends { Ends O.taken O.faults out.old out.new (IsReply H.KeyHash-1.hash_of (givens_in setup.now.manner.now setup.now.how.now.rows setup.now.parts.now) self.old.lines.items line.now) (HasWorkers (deed_behind (givens_in setup.now.manner.now setup.now.how.now.rows setup.now.parts.now) (counted self.old.lines.items) line.now)) ⊥ result }
-        ensures tells { IfOk result (λ heard. Tells (was_refused heard) (IsRefusedAfter (givens_in setup.now.manner.now setup.now.how.now.rows setup.now.parts.now) self.old.lines.items line.now)) }
-        ensures stands { OnOk result (StandsBehind (givens_in setup.now.manner.now setup.now.how.now.rows setup.now.parts.now) self.new.lines.items self.new.desk self.new.number) }
+        ensures ends { Ends O.taken O.faults out.old out.new
+            (IsReply H.KeyHash-1.hash_of (givens_of setup.now) self.old.lines.items line.now)
+            (HasWorkers (deed_behind (givens_of setup.now) (counted self.old.lines.items) line.now)) ⊥ result }
+        ensures tells { IfOk result (λ heard. Tells (was_refused heard) (IsRefusedAfter (givens_of setup.now) self.old.lines.items line.now)) }
+        ensures stands { OnOk result (StandsBehind (givens_of setup.now) self.new.lines.items self.new.desk self.new.number) }
         ensures lines { OnOk result (self.new.lines.items ≡ line.now ∷ self.old.lines.items) }
         ensures early { OnErr result (self.new.lines.items ≡ self.old.lines.items) }
     {
@@ -192,10 +198,10 @@ impl<H: KeyHash<Cell>> Standing<H> {
         setup: &SpeltSetup<'_, R, G>,
         line: &[u8],
     ) -> Result<Option<Refused>, AllocError>
-        requires stands { StandsBehind (givens_in setup.now.manner.now setup.now.how.now.rows setup.now.parts.now) self.old.lines.items self.old.desk self.old.number }
+        requires stands { StandsBehind (givens_of setup.now) self.old.lines.items self.old.desk self.old.number }
         requires changes { IsChangeLine line.now }
-        ensures ruled { IfOk result (IsRuled H.hash_of (givens_in setup.now.manner.now setup.now.how.now.rows setup.now.parts.now) self.old.lines.items line.now) }
-        ensures stands { OnOk result (StandsBehind (givens_in setup.now.manner.now setup.now.how.now.rows setup.now.parts.now) self.new.lines.items self.new.desk self.new.number) }
+        ensures ruled { IfOk result (IsRuled H.hash_of (givens_of setup.now) self.old.lines.items line.now) }
+        ensures stands { OnOk result (StandsBehind (givens_of setup.now) self.new.lines.items self.new.desk self.new.number) }
         ensures lines { OnOk result (self.new.lines.items ≡ line.now ∷ self.old.lines.items) }
         ensures early { OnErr result (self.new.lines.items ≡ self.old.lines.items) }
     {
@@ -211,11 +217,11 @@ impl<H: KeyHash<Cell>> Standing<H> {
         setup: &SpeltSetup<'_, R, G>,
         line: &[u8],
     ) -> Result<Option<Refused>, AllocError>
-        requires stands { StandsBehind (givens_in setup.now.manner.now setup.now.how.now.rows setup.now.parts.now) self.old.lines.items self.old.desk self.old.number }
+        requires stands { StandsBehind (givens_of setup.now) self.old.lines.items self.old.desk self.old.number }
         requires heard { is_heard self.old.lines.items line.now ≡ true }
         requires changes { IsChangeLine line.now }
-        ensures ruled { IfOk result (IsRuled H.hash_of (givens_in setup.now.manner.now setup.now.how.now.rows setup.now.parts.now) self.old.lines.items line.now) }
-        ensures stands { OnOk result (StandsBehind (givens_in setup.now.manner.now setup.now.how.now.rows setup.now.parts.now) self.new.lines.items self.new.desk self.new.number) }
+        ensures ruled { IfOk result (IsRuled H.hash_of (givens_of setup.now) self.old.lines.items line.now) }
+        ensures stands { OnOk result (StandsBehind (givens_of setup.now) self.new.lines.items self.new.desk self.new.number) }
         ensures lines { OnOk result (self.new.lines.items ≡ line.now ∷ self.old.lines.items) }
         ensures early { OnErr result (self.new.lines.items ≡ self.old.lines.items) }
     {
@@ -227,10 +233,10 @@ impl<H: KeyHash<Cell>> Standing<H> {
 
     /// Passes over a line that is not heard.
     fn leave<G: Gate, R>(&mut self, setup: &SpeltSetup<'_, R, G>, line: &[u8]) -> Option<Refused>
-        requires stands { StandsBehind (givens_in setup.now.manner.now setup.now.how.now.rows setup.now.parts.now) self.old.lines.items self.old.desk self.old.number }
+        requires stands { StandsBehind (givens_of setup.now) self.old.lines.items self.old.desk self.old.number }
         requires unheard { is_heard self.old.lines.items line.now ≡ false }
-        ensures ruled { IsRuled H.hash_of (givens_in setup.now.manner.now setup.now.how.now.rows setup.now.parts.now) self.old.lines.items line.now result }
-        ensures stands { StandsBehind (givens_in setup.now.manner.now setup.now.how.now.rows setup.now.parts.now) self.new.lines.items self.new.desk self.new.number }
+        ensures ruled { IsRuled H.hash_of (givens_of setup.now) self.old.lines.items line.now result }
+        ensures stands { StandsBehind (givens_of setup.now) self.new.lines.items self.new.desk self.new.number }
         ensures lines { self.new.lines.items ≡ line.now ∷ self.old.lines.items }
     {
         self.count(line);
@@ -241,7 +247,8 @@ impl<H: KeyHash<Cell>> Standing<H> {
 
     /// The number of the last edition, 0 where no table is declared.
     pub(crate) fn edition(&self) -> u64
-        ensures { (givens : Givens) → StandsBehind givens self.now.lines.items self.now.desk self.now.number → result ≡ edition givens (counted self.now.lines.items) }
+        ensures { (givens : Givens) → StandsBehind givens self.now.lines.items self.now.desk self.now.number →
+            result ≡ edition givens (counted self.now.lines.items) }
     {
         match &self.desk {
             Some(keeper) => keeper.edition(),

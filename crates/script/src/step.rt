@@ -10,7 +10,7 @@ ghost use Rattle.script.specs.Changes.{change_text};
 ghost use Rattle.script.specs.Deeds.{deed};
 ghost use Rattle.report.specs.declared.want.Want.TheVariants as want;
 ghost use Rattle.script.specs.Endings.{HasWorkers};
-ghost use Rattle.script.specs.Givens.{givens_in};
+ghost use Rattle.script.specs.Givens.{givens_of};
 ghost use Rattle.script.specs.Limits.{script_limit};
 ghost use Rattle.script.specs.Stops.{IsQuiet};
 ghost use Rattle.script.specs.Desks.{Executes, Publishable, PutsRow, schema_of_desk};
@@ -46,7 +46,7 @@ pub fn execute<H: KeyHash<Cell> + Send + Sync, G: Gate, R: Threads + Wait>(
 ) -> Result<Block<H>, Want>
     requires publishable { Publishable desk.old }
     requires short { length line.bytes.now ≤ script_limit }
-    ensures step { IfOk result (Steps H.hash_of (givens_in setup.now.manner.now setup.now.how.now.rows setup.now.parts.now) line.entry.bytes.now line.entry.number desk.old desk.new) }
+    ensures step { IfOk result (Steps H.hash_of (givens_of setup.now) line.entry.bytes.now line.entry.number desk.old desk.new) }
     ensures worker { IsErrOf result want.Worker → HasWorkers (deed (schema_of_desk desk.old) line.entry.bytes.now) }
 {
     if let Some(keeper) = desk {
@@ -63,7 +63,7 @@ fn execute_first<H: KeyHash<Cell>, G: Gate, R>(
     setup: &SpeltSetup<'_, R, G>,
     line: Line<'_>,
 ) -> Result<(Option<Keeper<H>>, Vec<u8>), AllocError>
-    ensures step { IfOk result (λ r. Executes H.hash_of (givens_in setup.now.manner.now setup.now.how.now.rows setup.now.parts.now) line.entry.bytes.now line.entry.number None r.0 r.1.items) }
+    ensures step { IfOk result (λ r. Executes H.hash_of (givens_of setup.now) line.entry.bytes.now line.entry.number None r.0 r.1.items) }
     ensures writes { IfOk result (λ r. IsQuiet line.entry.number r.1.items) }
 {
     let alloc = setup.alloc;
@@ -89,7 +89,7 @@ fn execute_kept<H: KeyHash<Cell> + Send + Sync, G: Gate, R: Threads + Wait>(
 ) -> Result<Block<H>, Want>
     requires publishable { editions.edition keeper.old + 1 < 2 ^ 64 }
     requires short { length line.bytes.now ≤ script_limit }
-    ensures step { IfOk result (Steps H.hash_of (givens_in setup.now.manner.now setup.now.how.now.rows setup.now.parts.now) line.entry.bytes.now line.entry.number (Some keeper.old) (Some keeper.new)) }
+    ensures step { IfOk result (Steps H.hash_of (givens_of setup.now) line.entry.bytes.now line.entry.number (Some keeper.old) (Some keeper.new)) }
     ensures worker { IsErrOf result want.Worker → HasWorkers (deed (Some (editions.schema keeper.old)) line.entry.bytes.now) }
 {
     let alloc = setup.alloc;
@@ -160,7 +160,8 @@ pub fn put<D: Drafts, G: Gate, R>(
 #[tactic(auto, using(crate::proofs::ChangesLemmas::laid, crate::proofs::ChangesLemmas::overflown))]
 pub fn lay<D: Drafts>(table: &mut D, row: Row) -> Result<Option<Refused>, AllocError>
     requires row { IsRowOf (editions.schema (D.editions table.old)) row }
-    ensures step { IfOk result (λ rule. (form : Form) (number : ℕ) → PutsRow form (D.editions table.old) (D.editions table.new) row number (change_text form number rule)) }
+    ensures step { IfOk result (λ rule. (form : Form) (number : ℕ) →
+        PutsRow form (D.editions table.old) (D.editions table.new) row number (change_text form number rule)) }
 {
     match table.put(row) {
         Ok(()) => Ok(None),

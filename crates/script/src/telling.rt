@@ -102,7 +102,8 @@ fn tell_lines<H: KeyHash<Cell> + KeyHash<Tuple>>(
     requires { length script.now ≤ script_limit }
     ensures told { (givens : Givens) → givens.parts ≡ map (λ p. p.items) sharing.now.parts.now → FitAll givens [] (lines script.now) →
         IfOk result (λ tolds. AreTold givens (takes H.KeyHash-1.hash_of sharing.now.shard.now) [] (lines script.now) tolds.items) }
-    ensures ends { IfErr result (EndsWithin (takes H.KeyHash-1.hash_of sharing.now.shard.now) (map (λ p. p.items) sharing.now.parts.now) sharing.now.how.now.rows (lines script.now)) }
+    ensures ends { IfErr result (EndsWithin (takes H.KeyHash-1.hash_of sharing.now.shard.now) (map (λ p. p.items) sharing.now.parts.now)
+        sharing.now.how.now.rows (lines script.now)) }
 {
     let mut tolds = Vec::new(sharing.alloc);
     let mut desk: Option<Ledger<H>> = None;
@@ -125,8 +126,10 @@ fn tell_line<H: KeyHash<Cell> + KeyHash<Tuple>>(
 ) -> Result<Told, Untold>
     requires publishable { Publishable desk.old }
     requires short { length line.bytes.now ≤ script_limit }
-    ensures step { IfOk result (TellsLine (takes H.KeyHash-1.hash_of sharing.now.shard.now) (map (λ p. p.items) sharing.now.parts.now) sharing.now.how.now.rows line.entry.bytes.now desk.old desk.new) }
-    ensures ends { IfErr result (EndsLine (takes H.KeyHash-1.hash_of sharing.now.shard.now) (map (λ p. p.items) sharing.now.parts.now) desk.old line.entry.number line.entry.bytes.now) }
+    ensures step { IfOk result (TellsLine (takes H.KeyHash-1.hash_of sharing.now.shard.now) (map (λ p. p.items) sharing.now.parts.now)
+        sharing.now.how.now.rows line.entry.bytes.now desk.old desk.new) }
+    ensures ends { IfErr result (EndsLine (takes H.KeyHash-1.hash_of sharing.now.shard.now) (map (λ p. p.items) sharing.now.parts.now)
+        desk.old line.entry.number line.entry.bytes.now) }
 {
     if let Some(ledger) = desk {
         return tell_kept(sharing, ledger, line);
@@ -141,7 +144,8 @@ fn tell_first<H: KeyHash<Cell> + KeyHash<Tuple>>(
     sharing: &Sharing<'_>,
     line: &[u8],
 ) -> Result<Option<Ledger<H>>, Untold>
-    ensures step { IfOk result (λ desk. TellsLine (takes H.KeyHash-1.hash_of sharing.now.shard.now) (map (λ p. p.items) sharing.now.parts.now) sharing.now.how.now.rows line.now None desk Told.Nothing) }
+    ensures step { IfOk result (λ desk. TellsLine (takes H.KeyHash-1.hash_of sharing.now.shard.now) (map (λ p. p.items) sharing.now.parts.now)
+        sharing.now.how.now.rows line.now None desk Told.Nothing) }
     ensures ends { IfErr result (λ e. e ≡ Untold.OutOfMemory) }
 {
     match read_first(sharing.alloc, line) {
@@ -165,8 +169,10 @@ fn tell_kept<H: KeyHash<Cell> + KeyHash<Tuple>>(
 ) -> Result<Told, Untold>
     requires publishable { editions.edition ledger.old + 1 < 2 ^ 64 }
     requires short { length line.bytes.now ≤ script_limit }
-    ensures step { IfOk result (TellsLine (takes H.KeyHash-1.hash_of sharing.now.shard.now) (map (λ p. p.items) sharing.now.parts.now) sharing.now.how.now.rows line.entry.bytes.now (Some ledger.old) (Some ledger.new)) }
-    ensures ends { IfErr result (EndsLine (takes H.KeyHash-1.hash_of sharing.now.shard.now) (map (λ p. p.items) sharing.now.parts.now) (Some ledger.old) line.entry.number line.entry.bytes.now) }
+    ensures step { IfOk result (TellsLine (takes H.KeyHash-1.hash_of sharing.now.shard.now) (map (λ p. p.items) sharing.now.parts.now)
+        sharing.now.how.now.rows line.entry.bytes.now (Some ledger.old) (Some ledger.new)) }
+    ensures ends { IfErr result (EndsLine (takes H.KeyHash-1.hash_of sharing.now.shard.now) (map (λ p. p.items) sharing.now.parts.now)
+        (Some ledger.old) line.entry.number line.entry.bytes.now) }
 {
     match read_statement(sharing.alloc, ledger.schema(), line.bytes) {
         Ok(Statement::Nothing) => Ok(Told::Nothing),
@@ -266,8 +272,10 @@ fn tell_load<H: KeyHash<Cell>>(
     line: u64,
 ) -> Result<Told, Untold>
     requires { length listing.now ≤ script_limit }
-    ensures step { IfOk result (LoadsShare (takes H.hash_of sharing.now.shard.now) ledger.old ledger.new (rows_loaded (editions.schema ledger.old) (map (λ p. p.items) sharing.now.parts.now) listing.now)) }
-    ensures ends { IfErr result (EndsBy (takes H.hash_of sharing.now.shard.now) ledger.old line (puts_of (rows_loaded (editions.schema ledger.old) (map (λ p. p.items) sharing.now.parts.now) listing.now))) }
+    ensures step { IfOk result (LoadsShare (takes H.hash_of sharing.now.shard.now) ledger.old ledger.new
+        (rows_loaded (editions.schema ledger.old) (map (λ p. p.items) sharing.now.parts.now) listing.now)) }
+    ensures ends { IfErr result (EndsBy (takes H.hash_of sharing.now.shard.now) ledger.old line
+        (puts_of (rows_loaded (editions.schema ledger.old) (map (λ p. p.items) sharing.now.parts.now) listing.now))) }
 {
     match read_listing(sharing.alloc, sharing.parts, listing) {
         Ok(listed) => {
@@ -290,8 +298,10 @@ fn load_listed<H: KeyHash<Cell>>(
     line: u64,
 ) -> Result<Told, Untold>
     requires many { length listed.now ≤ piece_limit }
-    ensures step { IfOk result (LoadsShare (takes H.hash_of sharing.now.shard.now) ledger.old ledger.new (rows_held (rows_of_parts (editions.schema ledger.old) (map part_of listed.now)))) }
-    ensures ends { IfErr result (EndsBy (takes H.hash_of sharing.now.shard.now) ledger.old line (puts_of (rows_held (rows_of_parts (editions.schema ledger.old) (map part_of listed.now))))) }
+    ensures step { IfOk result (LoadsShare (takes H.hash_of sharing.now.shard.now) ledger.old ledger.new
+        (rows_held (rows_of_parts (editions.schema ledger.old) (map part_of listed.now)))) }
+    ensures ends { IfErr result (EndsBy (takes H.hash_of sharing.now.shard.now) ledger.old line
+        (puts_of (rows_held (rows_of_parts (editions.schema ledger.old) (map part_of listed.now))))) }
 {
     match load_shard_here(sharing.alloc, listed, ledger.schema(), sharing.shard) {
         Ok(rows) => {

@@ -22,7 +22,8 @@ pub fn refuse_whole<O: Out, R, G: Gate>(
     out: &mut O,
 ) -> Result<Finish, Ended>
     requires { O.faults out.old + 1 < 2 ^ 64 }
-    ensures ends { Ends O.taken O.faults out.old out.new (λ bytes. bytes ≡ too_much_by setup.now.manner.now.form setup.now.on_refusal (asked_of setup.now.viewing)) ⊥ ⊥ result }
+    ensures ends { Ends O.taken O.faults out.old out.new
+        (λ bytes. bytes ≡ too_much_by setup.now.manner.now.form setup.now.on_refusal (asked_of setup.now.viewing)) ⊥ ⊥ result }
     ensures finish { IfOk result (λ finish. finish ≡ finish_of_refused setup.now.on_refusal) }
 {
     let finish = setup.on_refusal.finish_of_refused();

@@ -1,10 +1,10 @@
-//! Plain runs of a script, by a hash that is chosen, and in the thread that calls.
+//! Plain runs of a script, by each hash, and in the thread that calls.
 
-use cells::Plain;
+use cells::{Cell, Fnv, KeyHash, Plain, Tuple};
 use crew::Open;
 use forms::Form;
 use report::Pour;
-use script::{Ended, HashChoice, How, Manner, output_here, run_by};
+use script::{Ended, How, Manner, output_here, run};
 use std::alloc::{AllocError, Global};
 use std::sync::Wait;
 use std::test::Fail;
@@ -45,24 +45,23 @@ line 8 refused 3
 
 const PART: &[u8] = b"K\n2\n34\n";
 
-/// Whether the script writes this under the hash of this choice. Want of memory is an error.
-fn writes_by<R: Threads + Wait + Sync>(
+/// Whether the script writes this by this hash. Want of memory is an error.
+fn writes_by<H: KeyHash<Cell> + KeyHash<Tuple> + Send + Sync, R: Threads + Wait + Sync>(
     rt: &R,
     alloc: Global,
-    hash: HashChoice,
     wanted: &str,
 ) -> Result<bool, Ended> {
     let parts = [Vec::from_slice(alloc, PART)?];
     let how = How::default();
     let mut out = Pour::new(Vec::new(alloc));
-    run_by(rt, alloc, hash, LINES, &parts, &how, &Open, &mut out)?;
+    run::<H, _, _, _>(rt, alloc, LINES, &parts, &how, &Open, &mut out)?;
     Ok(out.into_inner().as_slice() == wanted.as_bytes())
 }
 
 #[test]
 fn a_script_is_run_by_either_hash(rt: HostRuntime) -> Result<(), Fail> {
-    assert!(rt; writes_by(&rt, rt.alloc(), HashChoice::Plain, BY_PLAIN)?);
-    assert!(rt; writes_by(&rt, rt.alloc(), HashChoice::Fnv, BY_FNV)?);
+    assert!(rt; writes_by::<Plain, _>(&rt, rt.alloc(), BY_PLAIN)?);
+    assert!(rt; writes_by::<Fnv, _>(&rt, rt.alloc(), BY_FNV)?);
     Ok(())
 }
 

@@ -1,7 +1,7 @@
 use Rattle.std.proofs.Common.{◌∙◌, ap, refl}
 use Rattle.std.specs.Result.{result_from_control_flow}
 use Rattle.report.specs.Onlooking.{sent}
-use Rattle.script.specs.Givens.{givens_in}
+use Rattle.script.specs.Givens.{givens_of}
 use Rattle.script.specs.Viewers.{view_block, viewing_of}
 use Rattle.script.proofs.ComingLemmas.{one_block_fewer, shows_next, still_onlooking}
 use Rattle.script.proofs.GalleryLemmas.{ok_so}
@@ -31,4 +31,4 @@ returns-clause-next g c = λ before keeps.
     let next = c.in_ok-send.ensures.sent ∙ ap (sent c.next.new.self) c.in_ok-onlooker-2.ensures.1 in
     let text = ok_so c.view_text_of-text.result c.in_ok-onlooker-2.block _ c.view_text_of-text.ensures c.in_ok-onlooker-2.ensures.0 ∙ ap (λ n. view_block c.args.setup.now.manner.now.form n c.in_ok-onlooker.shot) c.number.ensures in
     shows_next c.args.setup.now.manner.now (viewing_of c.args.viewing) c.args.keeper.now c.args.onlookers.now c.next.new.self c.send.new.self back.onlooker c.in_ok-came.field-0 c.in_ok-onlooker.onlooker c.in_ok-onlooker.shot back.first back.waiting glanced c.in_ok-onlooker.ensures.shown c.requires.looking next
-    (givens_in c.args.setup.now.manner.now c.args.setup.now.how.now.rows c.args.setup.now.parts.now) before c.in_ok-onlooker-2.block.items refl keeps text
+    (givens_of c.args.setup.now) before c.in_ok-onlooker-2.block.items refl keeps text

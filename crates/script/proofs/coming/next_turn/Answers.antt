@@ -1,5 +1,5 @@
 use Rattle.std.proofs.Common.{inl, inr, rules}
-use Rattle.script.specs.Givens.{givens_in}
+use Rattle.script.specs.Givens.{givens_of}
 use Rattle.script.specs.Viewers.{viewing_of}
 use Rattle.script.proofs.ComingLemmas.{is_waiting, left_onlooking, no_going, no_turns, one_viewer_fewer, shows_last}
 use Rattle.script.proofs.coming.next_turn.Goals as goal
@@ -20,4 +20,4 @@ pub returns-clause-fewer : goal.returns-clause-fewer
 returns-clause-fewer g c = one_viewer_fewer c.args.setup.now.manner.now (viewing_of c.args.viewing) c.args.keeper.now c.args.onlookers.now c.next_waiting.new.self c.in-Some.onlooker (no_going c.args.onlookers.now c.count.result c.count.ensures (search rules)) c.in-Some.ensures.some c.requires.looking
 
 pub returns-clause-turn : goal.returns-clause-turn
-returns-clause-turn g c = λ before keeps. inr (shows_last c.args.setup.now.manner.now (viewing_of c.args.viewing) c.args.keeper.now c.args.onlookers.now c.next_waiting.new.self c.in-Some.onlooker (no_going c.args.onlookers.now c.count.result c.count.ensures (search rules)) c.in-Some.ensures.some c.requires.looking (givens_in c.args.setup.now.manner.now c.args.setup.now.how.now.rows c.args.setup.now.parts.now) before c.in_ok-block-2.block.items (c.in_ok-block-2.ensures.last before keeps))
+returns-clause-turn g c = λ before keeps. inr (shows_last c.args.setup.now.manner.now (viewing_of c.args.viewing) c.args.keeper.now c.args.onlookers.now c.next_waiting.new.self c.in-Some.onlooker (no_going c.args.onlookers.now c.count.result c.count.ensures (search rules)) c.in-Some.ensures.some c.requires.looking (givens_of c.args.setup.now) before c.in_ok-block-2.block.items (c.in_ok-block-2.ensures.last before keeps))

@@ -1,6 +1,6 @@
 use Rattle.script.specs.Givens.{givens_in}
 use Rattle.script.specs.Viewers.{asked_of}
-use Rattle.script.proofs.TailsLemmas.{ends_going_on}
+use Rattle.script.proofs.RunsLemmas.{ends_going_on}
 use Rattle.script.proofs.running.run_in.Goals as goal
 
 pub returns-in-Fnv-clause-goes_on : goal.returns-in-Fnv-clause-goes_on

@@ -1,6 +1,6 @@
 use Rattle.script.specs.Givens.{givens_in}
 use Rattle.script.specs.Viewers.{asked_of}
-use Rattle.script.proofs.TailsLemmas.{ends_err, ends_going_on, ends_ok}
+use Rattle.script.proofs.RunsLemmas.{ends_err, ends_going_on, ends_ok}
 use Rattle.script.proofs.running.run_through.Goals as goal
 
 pub returns-in-Ok : goal.returns-in-Ok

@@ -1,6 +1,6 @@
 use Rattle.std.proofs.Common.{inl, inr, rules}
 use Rattle.script.specs.Viewers.{asked_of}
-use Rattle.script.proofs.TailsLemmas.{ends_too_much, ends_within}
+use Rattle.script.proofs.RunsLemmas.{ends_too_much, ends_within}
 use Rattle.script.proofs.running.run_whole.Goals as goal
 use Rattle.script.proofs.running.run_whole.Goals.{then-script-gt-MAX_SCRIPT_BYTES-via-then-script-gt-MAX_SCRIPT_BYTES, then-script-gt-MAX_SCRIPT_BYTES-via-else-script-gt-MAX_SCRIPT_BYTES+then-setup-gt-MAX_PARTS}
 

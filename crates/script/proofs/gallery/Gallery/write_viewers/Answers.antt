@@ -1,18 +1,16 @@
 use Rattle.std.proofs.Common.{◌∙◌, ◌+◌, ◌≤◌, Err, ap, arith, length, refl, rules}
 use Rattle.std.proofs.lemmas.Result.{err_from_is_err_and}
 use Rattle.std.specs.Result.{result_from_control_flow}
-use Rattle.board.specs.Editions.{edition, schema}
-use Rattle.script.specs.Output.{editions}
+use Rattle.script.specs.Tails.{no_viewer, viewer_first}
 use Rattle.script.specs.Viewers.{viewing_of}
-use Rattle.script.proofs.EndingsLemmas.{delivers_for}
+use Rattle.script.proofs.EndingsLemmas.{begins_so_far, delivers_for, more_so_far, none_so_far, whole_so_far}
 use Rattle.script.proofs.GalleryLemmas.{came_back, delivers_more, left_back, ok_so, some_back}
 use Rattle.script.proofs.ProgressLemmas.{delivers_whole}
-use Rattle.script.proofs.TailsLemmas.{begins_so_far, more_so_far, none_so_far, whole_so_far}
 use Rattle.script.proofs.gallery.Gallery.write_viewers.Goals as goal
 
 pub loop-watched-init : goal.loop-watched-init
 loop-watched-init g c = record {
-  so_far = λ given before keeps. none_so_far (g.O.Out.taken c.args.out.now) (schema c.args.keeper.now) (editions given before) (edition c.args.keeper.now) (viewing_of c.args.viewing) (length c.args.self.now.audience.watches);
+  so_far = λ given before keeps. none_so_far _ _;
   started = c.requires.started;
   same = refl;
   counted = omega arith;
@@ -26,9 +24,8 @@ returns-in_err-watcher g c = record {
       let p = err_from_is_err_and c.from_residual.result c.from_residual.ensures.1 in
       let viewing = viewing_of c.args.viewing in
       let some = some_back given before viewing c.args.keeper.now c.loop-watched.self.audience.watches c.next.new.self.watches c.in-Some.watched keeps c.in-Some.ensures.some inv.started in
-      delivers_for g.O.Out.taken g.O.Out.faults c.args.out.now c.loop-watched.out _ _ c.from_residual.result p.1
-      (begins_so_far (g.O.Out.taken c.args.out.now) (g.O.Out.taken c.loop-watched.out) (schema c.args.keeper.now) (editions given before) (edition c.args.keeper.now) viewing c.loop-watched.number (length c.args.self.now.audience.watches)
-      (length c.loop-watched.self.audience.watches) (inv.so_far given before keeps) some) _ p.2;
+      let (rest, are) = some (c.loop-watched.number + 1) (length c.loop-watched.self.audience.watches) in
+      delivers_for g.O.Out.taken g.O.Out.faults c.args.out.now c.loop-watched.out _ _ c.from_residual.result p.1 (begins_so_far (inv.so_far given before keeps) rest are) _ p.2;
 }
 
 pub overflow_add-number : goal.overflow_add-number
@@ -73,8 +70,8 @@ loop-watched-preserved g c =
     let fewer = left.1 in
     record {
       so_far = λ given before keeps.
-          more_so_far (g.O.Out.taken c.args.out.now) (g.O.Out.taken c.loop-watched.out) (schema c.args.keeper.now) (editions given before) (edition c.args.keeper.now) viewing c.loop-watched.number (length c.args.self.now.audience.watches)
-          (g.O.Out.taken c.write_viewer.new.out) (length c.next.new.self.watches) (rw fewer at (inv.so_far given before keeps)) (rw inv.same at (c.in_ok-write_viewer.ensures.views given before (rw inv.same keeps))).output;
+          let wrote = (rw inv.same at (c.in_ok-write_viewer.ensures.views given before (rw inv.same keeps))).output in
+          more_so_far (rw fewer at (inv.so_far given before keeps)) (g.O.Out.taken c.write_viewer.new.out) _ wrote.whole (λ rest are. viewer_first wrote.whole rest wrote.is_whole are) wrote.taken;
       started = left.0;
       same = c.in_ok-write_viewer.ensures.same ∙ inv.same;
       counted = omega (arith, inv.counted, fewer);
@@ -87,6 +84,5 @@ returns g c = record {
       let inv = c.loop-watched.invariant in
       let none = ap length (c.in_default.ensures.none refl) in
       delivers_whole g.O.Out.taken g.O.Out.faults c.args.out.now c.loop-watched.out _ _
-      (whole_so_far (g.O.Out.taken c.args.out.now) (g.O.Out.taken c.loop-watched.out) (schema c.args.keeper.now) (editions given before) (edition c.args.keeper.now) (viewing_of c.args.viewing) c.loop-watched.number (length c.args.self.now.audience.watches)
-      (rw none at (inv.so_far given before keeps))) inv.sound;
+      (whole_so_far (rw none at (inv.so_far given before keeps)) no_viewer) inv.sound;
 }
