@@ -209,9 +209,6 @@ module _ (n i : ℕ) (xs : List Cell) (rest : List ℕ) (inside : i < n) (left :
 Cell-prop : (x y : Cell) → IsProp (x ≡ y)
 Cell-prop x y = hlevel (codes, coded_cell)
 
-pub left_begin : (n : ℕ) (bytes : List ℕ) → ∥ Fills n bytes ∥₁ → ∥ IsLeft n 0 (cells_in n bytes) bytes ∥₁
-left_begin n bytes had = merely (left_all n bytes (Fills-had n bytes had))
-
 pub left_fills : (n i : ℕ) (xs : List Cell) (rest : List ℕ) → ∥ IsLeft n i xs rest ∥₁ → Fills (n - i) rest
 left_fills n i xs rest had = ∥∥₁_elim had (Fills-prop (n - i) rest) (λ left. left.fills)
 

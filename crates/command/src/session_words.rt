@@ -1,7 +1,6 @@
 //! The words of `session`, as `clap` reads them.
 ghost use Rattle.std.specs.Prelude.{◌≡◌, IfErr, IfOk, map, string_bytes};
 ghost use Rattle.clap.specs.Words.{FailsBy, app_of, fault_of, found_of, matches_of, rows_of};
-ghost use Rattle.command.specs.CommandLine.{IsLocal};
 ghost use Rattle.command.specs.SessionWords.{AskForSession, ExplainsSessionFault, IsFoundIn, IsSessionFault, bare_session, session};
 
 use crate::command_line::{parts, strict, with, with_settings};

@@ -29,8 +29,3 @@ module _ {Made : Type 0} (deal : DealValue) (makes : List ℕ → Made → Type 
         given_are = more_given ∙ (ap (λ l. l ++ back.given ∷ []) old.given_are ∙ sym (map_push given_of old.all back));
         each = added (IsBack deal makes) old.all (old.all ++ back ∷ []) back refl old.each (subst (λ n. IsBack deal makes n back) long is);
       }
-
-  pub reached_all : (seats : List SeatValue) (given : List (Result Made Refused)) → Reached seats given → length seats ≡ deal.seats → AreBack deal makes seats given
-  reached_all seats given reached whole =
-      let long = length-map reached.all seat_of in
-      record { all = reached.all; seats_are = reached.seats_are; given_are = reached.given_are; many = omega (arith, whole, ap length reached.seats_are, long); each = reached.each }

@@ -65,38 +65,6 @@ module _ {H : Type 0} where
     short = omega (arith, ap (λ l. length l) e, length-take (length others) old);
   }
 
-  pub adding_all : {old others accs : List (Acc H)} {i : ℕ} → Adding old others i accs → length accs ≤ i → accs ≡ accs_together old others
-  adding_all {old} {others} {accs} {i} now past =
-      let none : drop i accs ≡ [] = drop_all i accs past in
-      sym (take_all i accs past) ∙ sym (append-nil (take i accs)) ∙ (rw none at now.same)
-
-  module _ {old others accs : List (Acc H)} {i : ℕ} (now : Adding old others i accs) (x y : Acc H) (there : i < length accs) (here : x ≡ get_or accs i x)
-      (within : i < length others) (beside : y ≡ get_or others i y) where
-    own_left : drop i accs ≡ x ∷ drop (i + 1) accs
-    own_left = drop_more accs i x there ∙ ap (λ b. b ∷ drop (i + 1) accs) (sym here)
-
-    others_left : drop i others ≡ y ∷ drop (i + 1) others
-    others_left = drop_more others i y within ∙ ap (λ b. b ∷ drop (i + 1) others) (sym beside)
-
-    fit_here : AllFit (x ∷ drop (i + 1) accs) (y ∷ drop (i + 1) others)
-    fit_here = subst (λ l. AllFit l (y ∷ drop (i + 1) others)) own_left (subst (λ l. AllFit (drop i accs) l) others_left now.fit)
-
-    pub adding_may : AccsFit x y
-    adding_may = fit_here.0
-
-    pub adding_more : (v : Acc H) → v ≡ acc_together x y → Adding old others (i + 1) (set accs i v)
-    adding_more v e =
-        let after : drop (i + 1) (set accs i v) ≡ drop (i + 1) accs = drop-set-lt (i + 1) accs i v (omega arith) in
-        let before : take (i + 1) (set accs i v) ≡ take i accs ++ v ∷ [] = take_more_set accs i v there in
-        record {
-          same = rw (before, after) (append_assoc (take i accs) (v ∷ []) (accs_together (drop (i + 1) accs) (drop (i + 1) others))
-              ∙ ap (λ w. take i accs ++ w ∷ accs_together (drop (i + 1) accs) (drop (i + 1) others)) e
-              ∙ ap (λ l. take i accs ++ accs_together l (y ∷ drop (i + 1) others)) (sym own_left)
-              ∙ ap (λ l. take i accs ++ accs_together (drop i accs) l) (sym others_left) ∙ now.same);
-          fit = rw after fit_here.1;
-          short = omega (arith, now.short, length-set accs i v);
-        }
-
 -- ---- the aggregates of a select list, item by item
 module _ (items : List (Item ℕ)) (i : ℕ) (d : Item ℕ) (h : i < length items) where
   one_item_more : (o : Option Aggregation) → aggregation_of (get_or items i d) ≡ o →

@@ -107,11 +107,6 @@ module _ {H : Type 0} (tuples : List (List Cell)) (tallies : List (List (Acc H))
             within = omega (arith, long, listed_below);
           }
 
-    pub listed_through : left ≡ [] → groups ≡ groups_from tuples tallies
-    listed_through none =
-        let all : length groups ≡ length tuples = omega (arith, now.within, ap (λ l. length l) (sym now.rest ∙ none), length-drop (length groups) tuples) in
-        now.made ∙ ap (λ n. map (λ n. (get_or tuples n [], accs_at n tallies)) (range_with_len 0 n)) all
-
 -- ---- the aggregates, one after another
 pub zip_next : {A B C : Type 0} (R : A → B → Type 0) (f : C → B) (xs : List A) (ys added : List C) (i : ℕ) (x d : A) (y : C) → i < length xs → x ≡ get_or xs i d → AllZip R (take i xs) (map f ys) →
     R x (f y) → added ≡ ys ++ y ∷ [] → AllZip R (take (i + 1) xs) (map f added)

@@ -6,7 +6,6 @@ use Rattle.std.proofs.Common.{ap, sym, ◌∙◌, subst}
 use Rattle.std.proofs.lemmas.List.Sorted.{IsPermutation-sym, IsPermutation-trans}
 use Rattle.cells.specs.Values.{RowValue}
 use Rattle.cells.specs.declared.cell.Cell.{Cell}
-use Rattle.cells.specs.declared.total.Total.{Total}
 use Rattle.groups.specs.Accumulators.{aggregations_of}
 use Rattle.groups.specs.Bags.{Group, joined}
 use Rattle.groups.specs.Folds.{Folds, MayEnd}
@@ -60,11 +59,6 @@ module _ {H : Type 0} where
   -- the plan of a folding that may end asks for its aggregates
   pub end_asked : (folding : Folding H) (aggregations : List Aggregation) → aggregations ≡ folding.aggregations.items → MayEnd folding → aggregations ≡ aggregations_of folding.plan.now.items
   end_asked folding aggregations is may = is ∙ (may.folds).aggregations ∙ ap (λ (p : PlanTree). aggregations_of p.items) (sym (may.folds).planned)
-
-  pub rows_end : (folding : Folding H) (aggregations : List Aggregation) (made : List (List Total)) (plan : PlanTree) (rows : List RowValue) → aggregations ≡ folding.aggregations.items →
-      Folds plan rows folding → ((kept : List RowValue) → IsPool aggregations kept folding.sources.items → made ≡ rows_over folding.plan.now kept) → made ≡ rows_over plan rows
-  rows_end folding aggregations made plan rows is folds all =
-      all rows (rw (is, folds.aggregations) folds.covers) ∙ ap (λ (p : PlanTree). rows_over p rows) folds.planned
 
 -- the order of rows does not count
 pub folds_any_order : (H : Type 0) (plan : PlanTree) (xs ys : List RowValue) (folding : Folding H) → IsPermutation xs ys → Folds plan xs folding → Folds plan ys folding

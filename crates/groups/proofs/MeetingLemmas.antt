@@ -173,9 +173,6 @@ module _ {H : Type 0} where
   pub record SameTo (at : ℕ) (sources others : List (SetBag H)) : Type 0 where
     pub same : take at (sets_of others) ≡ take at (sets_of sources)
 
-  pub same_none : (sources others : List (SetBag H)) → SameTo 0 sources others
-  same_none sources others = record { same = refl }
-
   pub same_more : (at : ℕ) (sources others : List (SetBag H)) (s o : SetBag H) (x y : List ℕ) → length sources ≡ length others → at < length sources → x ≡ (get_or sources at s).set.items →
       y ≡ (get_or others at o).set.items → pointwise nat_eq x y ≡ true → SameTo at sources others → SameTo (at + 1) sources others
   same_more at sources others s o x y count h p q e now =
@@ -187,11 +184,6 @@ module _ {H : Type 0} where
             (get_or-map (λ (f : SetBag H). f.set.items) others at o [] within ∙ sym q ∙ sym (same_set x y e) ∙ p
             ∙ sym (get_or-map (λ (f : SetBag H). f.set.items) sources at s [] h));
       }
-
-  pub same_all : (at : ℕ) (sources others : List (SetBag H)) → length sources ≡ length others → length sources ≤ at → SameTo at sources others → sets_of others ≡ sets_of sources
-  same_all at sources others count past now =
-      sym (take_all at (sets_of others) (omega (arith, past, count, length-map others (λ (f : SetBag H). f.set.items)))) ∙ now.same
-      ∙ take_all at (sets_of sources) (omega (arith, past, length-map sources (λ (f : SetBag H). f.set.items)))
 
   -- the last of the others are beside the sources that are left
   pub record AreBeside (others left lasts : List (SetBag H)) : Type 0 where

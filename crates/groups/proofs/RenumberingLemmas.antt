@@ -11,10 +11,6 @@ pub all_places : (P : ℕ → Type 0) (xs : List ℕ) → ((n : ℕ) → n < len
 all_places P [] each = tt
 all_places P (x ∷ xs) each = (each 0 (omega arith), all_places P xs (λ n h. each (suc n) (omega (arith, h))))
 
-pub in_order_within : (parts : List Part) (order ranks : List ℕ) → AreTurned (length parts) order ranks → AllByRecursion (λ n. n < length parts) order
-in_order_within parts order ranks turned =
-    all_places (λ n. n < length parts) order (λ n h. omega (arith, (turned.there n (omega (arith, h, turned.ordered))).0, turned.ranked))
-
 module _ (parts : List Part) (order ranks : List ℕ) (turned : AreTurned (length parts) order ranks) where
   abbrev part_of : ℕ → Part
   part_of n = get_or parts n no_part

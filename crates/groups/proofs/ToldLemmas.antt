@@ -41,10 +41,6 @@ abbrev pub before : {A : Type 0} → List A → Option (List A) → Option (List
 before xs None = None
 before xs (Some ys) = Some (xs ++ ys)
 
-pub before_none : {A : Type 0} (o : Option (List A)) → before [] o ≡ o
-before_none None = refl
-before_none (Some ys) = refl
-
 or_false : (b : Bool) → (b || false) ≡ b
 or_false true = refl
 or_false false = refl
@@ -93,22 +89,8 @@ module _ {H : Type 0} where
   made_again (a ∷ aggregations) rows (k ∷ kepts) are =
       ap₂ and_acc (kept_again a.kind (column_of a.column rows) k are.0) (made_again aggregations rows kepts are.1)
 
-  pub acc_before : (accs : List (Acc H)) (a : Acc H) (one : Option (Acc H)) (o : Option (List (Acc H))) → one ≡ Some a → before accs (and_acc one o) ≡ before (accs ++ a ∷ []) o
-  acc_before accs a one None is = ap (λ (x : Option (Acc H)). before accs (and_acc x None)) is
-  acc_before accs a one (Some more) is = ap (λ (x : Option (Acc H)). before accs (and_acc x (Some more))) is ∙ ap Some (sym (append_assoc accs (a ∷ []) more))
-
   pub no_acc : (accs : List (Acc H)) (one : Option (Acc H)) (o : Option (List (Acc H))) → one ≡ None → before accs (and_acc one o) ≡ None
   no_acc accs one o is = ap (λ (x : Option (Acc H)). before accs (and_acc x o)) is
-
-  pub pair_before : (pairs : List (List Cell × List (Acc H))) (tuple : List Cell) (accs : List (Acc H)) (one : Option (List (Acc H))) (o : Option (List (List Cell × List (Acc H)))) → one ≡ Some accs →
-      before pairs (and_pair tuple one o) ≡ before (pairs ++ (tuple, accs) ∷ []) o
-  pair_before pairs tuple accs one None is = ap (λ (x : Option (List (Acc H))). before pairs (and_pair tuple x None)) is
-  pair_before pairs tuple accs one (Some more) is = ap (λ (x : Option (List (Acc H))). before pairs (and_pair tuple x (Some more))) is
-      ∙ ap Some (sym (append_assoc pairs ((tuple, accs) ∷ []) more))
-
-  pub no_pair : (pairs : List (List Cell × List (Acc H))) (tuple : List Cell) (one : Option (List (Acc H))) (o : Option (List (List Cell × List (Acc H)))) → one ≡ None →
-      before pairs (and_pair tuple one o) ≡ None
-  no_pair pairs tuple one o is = ap (λ (x : Option (List (Acc H))). before pairs (and_pair tuple x o)) is
 
   -- ---- groups, one by one
   -- some groups were told, and the others are left
@@ -124,9 +106,6 @@ module _ {H : Type 0} where
     cut = now.cut ∙ ap (λ l. now.front ++ l) took ∙ sym (append_assoc now.front (g ∷ []) left);
     are = subst (AreTold (now.front ++ g ∷ [])) (sym is) (zip_more _ now.front told g t now.are (tuple, keep));
   }
-
-  pub told_all : (all left : List (List Cell × List (Acc H))) (told : List GroupValue) → ToldSoFar all left told → left ≡ [] → AreTold all told
-  told_all all left told now none = subst (λ l. AreTold l told) (sym (now.cut ∙ ap (λ l. now.front ++ l) none ∙ append-nil now.front)) now.are
 
   -- ---- whether accumulators fit
   -- all fit where those that are left do
@@ -250,15 +229,6 @@ module _ {H : Type 0} where
       pub cut : plan.sets ≡ front ++ later
       pub stand : StandsEach hash (aggregations_of plan.items) front rows made
       pub tell : AllZip (λ set groups. TellsSet (aggregations_of plan.items) set rows groups) later left
-
-    pub made_first : (plan : PlanTree) (rows : List RowValue) (made : List (List (List Cell × List (Acc H)))) (all left : List (List GroupValue)) → made ≡ [] → left ≡ all → Tells plan rows all → Made plan rows made left
-    made_first plan rows made all left none is tells = record {
-      front = [];
-      later = plan.sets;
-      cut = refl;
-      stand = rw none tt;
-      tell = subst (λ l. AllZip (λ set groups. TellsSet (aggregations_of plan.items) set rows groups) plan.sets l) (sym is) tells.each;
-    }
 
     module _ (plan : PlanTree) (rows : List RowValue) (made : List (List (List Cell × List (Acc H)))) (old : List (List GroupValue)) (now : Made plan rows made old) where
       -- the next set that is left, with what is told of it

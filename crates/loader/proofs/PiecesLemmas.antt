@@ -167,9 +167,6 @@ pub record CutSoFar (parts left : List Part) (pieces : List Piece) : Type 0 wher
   pub all : done ++ left ≡ parts
   pub are : ArePieces done pieces
 
-pub cut_first : (parts : List Part) → CutSoFar parts parts []
-cut_first parts = record { done = []; all = refl; are = record { of_parts = []; whole = refl; each = tt } }
-
 all-more : (lists : List (List Piece)) (own : List Piece) → flat_map (λ pieces. pieces) (lists ++ own ∷ []) ≡ flat_map (λ pieces. pieces) lists ++ own
 all-more [] own = append-nil own
 all-more (first ∷ lists) own = ap (λ more. first ++ more) (all-more lists own) ∙ sym (append_assoc first (flat_map (λ pieces. pieces) lists) own)

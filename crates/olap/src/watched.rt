@@ -1,5 +1,4 @@
 //! Standard output, of which it is noted that nobody reads it any more, and what is not told then.
-ghost use Rattle.std.specs.Prelude.{◌≡◌};
 
 use std::io::{self, ErrorKind, Write};
 use std::sync::atomic::AtomicBool;

@@ -1,5 +1,4 @@
 //! How an output is handed to who asked for it.
-ghost use Rattle.std.specs.Prelude.{◌≡◌};
 ghost use Rattle.olap_core.specs.Outputs.{HandsOut};
 
 /// Writes the text to the front of `out`, where it has room for it, and its length to `length`.

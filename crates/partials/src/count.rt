@@ -1,5 +1,4 @@
 //! Counts as numbers.
-ghost use Rattle.std.specs.Prelude.{◌≡◌, IfOk, Some};
 
 use crate::spelt::Spelt;
 use serde_json::Value;

@@ -47,15 +47,6 @@ pub record ReachedKeys {V : Type 0} (eq : V → V → Bool) (value : List ℕ �
   pub are : AreKeys eq value read
   pub same : (q : V) → list_any (eq q) met ≡ list_any (eq q) (map value read)
 
--- nothing was read
-pub keys_none : {V : Type 0} (eq : V → V → Bool) (value : List ℕ → V) (all : Fields) (met : List V) → met ≡ [] → ReachedKeys eq value all all met
-keys_none eq value all met none = record {
-  read = [];
-  parted = refl;
-  are = record { filled = tt; different = distinct_none eq };
-  same = λ q. ap (list_any (eq q)) none;
-}
-
 -- the field of the next record
 pub column_next : (place : ℕ) (left later : List Fields) (fields : Fields) → left ≡ fields ∷ later → column_of place left ≡ field_in place fields ∷ column_of place later
 column_next place left later fields took = ap (column_of place) took
@@ -95,12 +86,6 @@ module _ {V : Type 0} (eq : V → V → Bool) (laws : IsEquivalence eq) (value :
         ∙ met_more eq laws (map value reached.read) (value field) q
         ∙ ap (list_any (eq q)) (sym (map-append value reached.read (field ∷ [])));
   }
-
--- all were read
-pub keys_end : {V : Type 0} (eq : V → V → Bool) (value : List ℕ → V) (all left : Fields) (met : List V) → ReachedKeys eq value all left met → left ≡ [] → AreKeys eq value all
-keys_end eq value all left met reached none =
-    let same : reached.read ≡ all = sym (reached.parted ∙ ap (λ rest. reached.read ++ rest) none ∙ append-nil reached.read) in
-    rw same at reached.are
 
 -- ---- what the code tests
 

@@ -32,11 +32,6 @@ pub record ReachedColumns (f : List ℕ → Naming) (names : Fields) (at : ℕ) 
 pub columns_none : (f : List ℕ → Naming) (names : Fields) (columns : List Chosen) → columns ≡ [] → ReachedColumns f names 0 columns
 columns_none f names columns none = record { named = ap (map naming_of) none; texts = refl }
 
-pub columns_end : (f : List ℕ → Naming) (names : Fields) (at : ℕ) (columns : List Chosen) → length names ≤ at → ReachedColumns f names at columns → map naming_of columns ≡ map f names
-columns_end f names at columns past reached =
-    let long : length (map f names) ≤ at = omega (arith, length-map names f) in
-    reached.named ∙ take_all at (map f names) long
-
 one_text : (before here : Bool) → before ≡ true → (before && (here && true)) ≡ here
 one_text true true e = refl
 one_text true false e = refl

@@ -1,6 +1,5 @@
 -- The records of a part, one after another.
 use Rattle.std.proofs.Common.{◌≡◌, ◌≢◌, ◌⊎◌, ◌==◌, ◌≤◌, ℕ, zero, suc, ◌+◌, Bool, true, false, List, [], ◌∷◌, ◌++◌, length, map, inl, inr, refl, ap, sym, ◌∙◌, arith, append_assoc, eq-eqb}
-use Rattle.std.proofs.lemmas.Bool.Decides.{eqb_tells}
 use Rattle.std.proofs.lemmas.List.{append-nil, length-append, length-map}
 use Rattle.std.proofs.lemmas.List.Concat.{flat_map-cons}
 use Rattle.std.proofs.lemmas.Grind.{flat_map-append}
@@ -19,10 +18,6 @@ use Rattle.prepare.specs.declared.fault.PrepareFault.{PrepareFault}
 use Rattle.prepare.specs.declared.part.MadePart.{MadePart}
 use Rattle.prepare.specs.declared.fault.PrepareFault.TheVariants.{NoHeader, NoColumn, Quotes, TwoColumns, Uneven, OutOfMemory}
 
-not_equal : (a b : ℕ) → ((eqb a b ≡ true) × (a ≡ b)) ⊎ ((eqb a b ≡ false) × (a ≢ b)) → a ≢ b → (a == b) ≡ false
-not_equal a b (inl same) differ = absurd (differ same.1)
-not_equal a b (inr other) differ = other.0
-
 -- records that were made, before those of the records that are left
 abbrev pub before : {A : Type 0} → List A → Made A → Made A
 before xs (Ok ys) = Ok (xs ++ ys)
@@ -35,10 +30,6 @@ pub record Reached (choice : Choice) (places : List ℕ) (width : ℕ) (start : 
   pub is : said ≡ before rows (records_from choice places width number left)
   pub counted : length rows + 1 ≡ number
 
-before_none : {A : Type 0} (said : Made A) → said ≡ before [] said
-before_none (Ok xs) = refl
-before_none (Err fault) = refl
-
 before_more : {A : Type 0} (xs : List A) (x : A) (later : Made A) → before xs (and_first x later) ≡ before (xs ++ x ∷ []) later
 before_more xs x (Ok ys) = ap Ok (sym (append_assoc xs (x ∷ []) ys))
 before_more xs x (Err fault) = refl
@@ -49,12 +40,6 @@ text_more : (rows : List Fields) (row : Fields) → text_of (rows ++ row ∷ [])
 text_more rows row =
     flat_map-append (row_text default_writer) rows (row ∷ [])
     ∙ ap (λ last. text_of rows ++ last) (flat_map-cons (row_text default_writer) row [] ∙ append-nil (row_text default_writer row))
-
--- a header was written, and no record
-pub reached_first : (choice : Choice) (places : List ℕ) (width : ℕ) (start : List ℕ) (left : List Fields)
-    → Reached choice places width start (records_from choice places width 1 left) 1 left start
-reached_first choice places width start left =
-    record { rows = []; written = sym (append-nil start); is = before_none (records_from choice places width 1 left); counted = refl }
 
 module _ (choice : Choice) (places : List ℕ) (width : ℕ) (start : List ℕ) (said : Made Fields) (number : ℕ) (old new : List Fields) (text : List ℕ) (fields : Fields)
     (reached : Reached choice places width start said number old text) (took : old ≡ fields ∷ new) where
@@ -75,20 +60,6 @@ module _ (choice : Choice) (places : List ℕ) (width : ℕ) (start : List ℕ) 
     is = by_length true (eq-eqb (length fields) width even) ∙ before_more reached.rows (record_of choice places number fields) (records_from choice places width (number + 1) new);
     counted = omega (arith, length-append reached.rows (record_of choice places number fields ∷ []), reached.counted);
   }
-
-  -- a record has another number of fields
-  pub reached_uneven : length fields ≢ width → said ≡ Err (Uneven number (length fields) width)
-  reached_uneven uneven = by_length false (not_equal (length fields) width (eqb_tells (length fields) width) uneven)
-
--- all records were written
-pub reached_end : (choice : Choice) (places : List ℕ) (width : ℕ) (start : List ℕ) (said : Made Fields) (number : ℕ) (left : List Fields) (text : List ℕ)
-    → Reached choice places width start said number left text → left ≡ [] → (part : MadePart) → part.text.items ≡ text → part.records + 1 ≡ number → IsTextAfter start said part
-reached_end choice places width start said number left text reached none part same count = record {
-  rows = reached.rows;
-  is = reached.is ∙ ap (λ l. before reached.rows (records_from choice places width number l)) none ∙ ap Ok (append-nil reached.rows);
-  written = same ∙ reached.written;
-  counted = omega (arith, count, reached.counted);
-}
 
 -- ---- how many records
 
@@ -130,14 +101,6 @@ read_length choice fields = go choice.trims where
   go false = refl
 
 module _ (choice : Choice) (all later : List Fields) (header : Fields) (took : all ≡ header ∷ later) where
-  -- the header has not a column that is chosen
-  pub part_unplaced : (fault : PrepareFault) → IsFault (places_of choice.columns (as_read choice header)) fault → IsFault (part_of choice all) fault
-  part_unplaced NoHeader told = ap (part_of choice) took ∙ ap (under_header choice header later) told
-  part_unplaced (NoColumn place) told = ap (part_of choice) took ∙ ap (under_header choice header later) told
-  part_unplaced (TwoColumns place first second) told = ap (part_of choice) took ∙ ap (under_header choice header later) told
-  part_unplaced (Uneven number fields width) told = ap (part_of choice) took ∙ ap (under_header choice header later) told
-  part_unplaced (Quotes fault line) told = told
-  part_unplaced OutOfMemory told = tt
 
   module _ (places : List ℕ) (placed : places_of choice.columns (as_read choice header) ≡ Ok places) where
     -- its header was written

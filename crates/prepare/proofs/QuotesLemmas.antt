@@ -202,9 +202,6 @@ module _ (d : ℕ) (read : List ℕ) (byte : ℕ) where
 
 -- ---- in a text
 
-pub stands_none : (d : ℕ) → AreFields d []
-stands_none d = record { fields = []; is = refl; each = tt }
-
 module _ (d : ℕ) (text : List ℕ) (place : ℕ) (s : Standing) (within : place < length text) (so : Stands d (take place text) s) where
   long : length (take place text) ≡ place
   long = let short : place ≤ length text = omega arith in length-take-le place text short
@@ -221,18 +218,3 @@ module _ (d : ℕ) (text : List ℕ) (place : ℕ) (s : Standing) (within : plac
       (subst (λ (n : ℕ). IsMisquoted d (take place text ++ get_or text place 0 ∷ drop (place + 1) text) f n) long
       (by_fault d (take place text) (get_or text place 0) (drop (place + 1) text) (kind_of d (get_or text place 0)) refl s f so
       (ap (step s (kind_of d (get_or text place 0))) long ∙ bad)))
-
-pub well_start : (d : ℕ) (text : List ℕ) → AreFields d text → IsWellQuoted d text
-well_start d text so = record { front = text; last = []; is = sym (append-nil text); fields = so; field = inl tt }
-
-pub well_bare : (d : ℕ) (text : List ℕ) → IsInBare d text → IsWellQuoted d text
-well_bare d text so = record { front = so.front; last = so.field; is = so.is; fields = so.fields; field = inl so.bare }
-
-pub well_closed : (d : ℕ) (text : List ℕ) (opened : ℕ) → IsAfterQuote d text opened → IsWellQuoted d text
-well_closed d text opened so = record { front = so.front; last = in_quotes so.inside; is = so.is; fields = so.fields; field = inr (so.inside, refl) }
-
--- no more bytes stand before a fault than there are
-pub misquoted_within : (d : ℕ) (text : List ℕ) (f : QuoteFault) (place : ℕ) → IsMisquoted d text f place → place ≤ length text
-misquoted_within d text fault.Open place m = omega (arith, m.before, ap length m.is, length-append m.front (34 ∷ doubled m.inside))
-misquoted_within d text fault.Followed place m = omega (arith, m.before, ap length m.is, length-append (m.front ++ in_quotes m.inside) (m.byte ∷ m.later))
-misquoted_within d text fault.Stray place m = omega (arith, m.before, ap length m.is, length-append (m.front ++ m.field) (34 ∷ m.later))

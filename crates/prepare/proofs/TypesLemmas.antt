@@ -26,10 +26,6 @@ type_more fields field = ap (λ b. if b then Int else Text) (list_all-append fit
   go true = ap (λ b. if b then Int else Text) (and_true (fits_int field))
   go false = refl
 
--- nothing was read
-pub types_none : (all : List Fields) (count : ℕ) (types : List ColumnType) → length types ≡ count → ((place : ℕ) → place < count → slice_index_or types place Text ≡ Int) → ReachedTypes all all count types
-types_none all count types long each = record { read = []; parted = refl; are = record { all = long; each = each } }
-
 -- one record more
 pub types_more : (all left later : List Fields) (count : ℕ) (types narrower : List ColumnType) (fields : Fields)
     → ReachedTypes all left count types → left ≡ fields ∷ later → length narrower ≡ length types
@@ -63,9 +59,3 @@ narrowed_more start types fields place kind within is so_far = record {
       (rw get_or-set_same (is ∙ ap (λ before. narrowed before (field_in place fields)) (so_far.left place (omega arith))));
   left = λ k h. let other : k ≢ place = omega arith in rw get_or-set_other (so_far.left k (omega arith));
 }
-
--- all were read
-pub types_end : (all left : List Fields) (count : ℕ) (types : List ColumnType) → ReachedTypes all left count types → left ≡ [] → AreTypes all count types
-types_end all left count types reached none =
-    let same : reached.read ≡ all = sym (reached.parted ∙ ap (λ rest. reached.read ++ rest) none ∙ append-nil reached.read) in
-    rw same at reached.are

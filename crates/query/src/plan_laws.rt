@@ -12,7 +12,6 @@ ghost use Rattle.query.specs.Worked.{A, B, C, both, different_sets_over, either,
 ghost use Rattle.query.specs.declared.item.Item.{Item as ItemTree};
 ghost use Rattle.query.specs.declared.test.Test.{Test as TestTree};
 
-use crate::item::Item;
 use crate::test::{Comparison, Literal, Operand, Test};
 use crate::truth::Truth;
 use cells::Total;

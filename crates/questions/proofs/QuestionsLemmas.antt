@@ -11,23 +11,6 @@ use Rattle.questions.specs.Questions.{column_text, columns_text}
 pub record Written (start : List ℕ) (key : ℕ) (columns : List Column) (place : ℕ) (text : List ℕ) : Type 0 where
   pub whole : text ++ columns_text key place (drop place columns) ≡ start ++ columns_text key 0 columns
 
-pub written_none : (start : List ℕ) (key : ℕ) (columns : List Column) → Written start key columns 0 start
-written_none start key columns = record { whole = refl }
-
-pub written_more : (start : List ℕ) (key : ℕ) (columns : List Column) (place : ℕ) (text more : List ℕ) (column : Column)
-    → Written start key columns place text → place < length columns → column ≡ get_or columns place column → more ≡ text ++ column_text key place column
-    → Written start key columns (place + 1) more
-written_more start key columns place text more column so_far within is added = record {
-  whole = ap (λ front. front ++ columns_text key (place + 1) (drop (place + 1) columns)) added
-      ∙ append_assoc text (column_text key place column) (columns_text key (place + 1) (drop (place + 1) columns))
-      ∙ ap (λ rest. text ++ rest) (sym (ap (columns_text key place) (drop_more columns place column within ∙ ap (λ c. c ∷ drop (place + 1) columns) (sym is))))
-      ∙ so_far.whole;
-}
-
-pub written_end : (start : List ℕ) (key : ℕ) (columns : List Column) (place : ℕ) (text : List ℕ) → Written start key columns place text → length columns ≤ place → text ≡ start ++ columns_text key 0 columns
-written_end start key columns place text so_far past =
-    sym (ap (λ rest. text ++ columns_text key place rest) (drop_all place columns past) ∙ append-nil text) ∙ so_far.whole
-
 -- ---- numbers of parts
 
 range_more : (a n : ℕ) → range_with_len a (suc n) ≡ range_with_len a n ++ (a + n) ∷ []

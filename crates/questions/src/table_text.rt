@@ -1,6 +1,5 @@
 //! The script that asks a question of parts.
 ghost use Rattle.std.specs.Prelude.{◌≡◌, ◌==◌, ◌+◌, ◌<◌, ◌^◌, ◌++◌, ◌||◌, IfOk, OnOk, [], codes, length, map, string_bytes, if◌then◌else◌};
-ghost use Rattle.std.specs.Fmt.{decimal};
 ghost use Rattle.questions.specs.Questions.{column_text, columns_text, load_line, one_line, script_of, table_line, table_name, type_text};
 
 use cells::{Column, ColumnType, Text};
