@@ -5,6 +5,9 @@ from cases.reasons import HEADER, PART, TABLE, told
 from cases.table import Case, SCRIPT, as_bytes
 
 GOOD = HEADER + "1,a,1\n2,b,\n"
+# A table of two columns, and a part of it whose last field has all that follows its quote.
+PAIRS = "table PAIRS (ID INT KEY, REGION TEXT)"
+OPEN = 'ID,REGION\n1,a\n2,"b\n3,c\n'
 COUNT = "report SELECT COUNT(*) FROM SALES"
 
 
@@ -55,6 +58,12 @@ CASES = [
         + f"part3.csv:1: record 0: the header is ID where ID,REGION,UNITS is wanted {PART}\n",
         [HEADER + "1\n2,b,2\nx,c,3\n", "nothing\n", "ID\n1\n"],
     ),
+    check(
+        "a number of no part after one of a part",
+        [TABLE, "load 1 2"],
+        told(2, "load 1 2", 5, "2", "2: no part of this number, of those handed in: 1"),
+        [GOOD],
+    ),
     check("a part that no line lists", [TABLE, "load 1"], "", [GOOD, "nothing\n"]),
     check("a part that is listed twice", [TABLE, "load 1 1", "load 01"], f"part1.csv:2: record 1, fields found: 1, wanted: 3 {PART}\n", [HEADER + "1\n"]),
     check("lines that end in a carriage return", [f"{TABLE}\r", "load 1\r"], f"part1.csv:2: record 1, fields found: 1, wanted: 3 {PART}\n", [HEADER + "1\n"]),
@@ -64,6 +73,25 @@ CASES = [
         told(1, "load 1", 1, None, "no table is declared before this line"),
         ["nothing\n"],
     ),
+    check(
+        "a quote that is opened and never closed, whose field has all that follows",
+        [TABLE, "load 1"],
+        "part1.csv:3: a quote is opened and never closed\n" + f"part1.csv:3: record 2, fields found: 2, wanted: 3 {PART}\n",
+        [HEADER + '1,a,1\n2,"b,2\n3,c,3\n'],
+    ),
+    check(
+        "the same at the end of a record, which no run refuses",
+        [PAIRS, "load 1 2"],
+        "part1.csv:3: a quote is opened and never closed\n",
+        [OPEN, "ID,REGION\n4,d\n"],
+    ),
+    check(
+        "a text after a closing quote, and a quote in a field that begins without one",
+        [TABLE, "load 2 1"],
+        "part1.csv:2: a text stands after a closing quote\npart2.csv:3: a quote stands in a field that does not begin with one\n",
+        [HEADER + '1,"a"b,1\n', HEADER + '1,a,1\n2,b"c,2\n'],
+    ),
+    check("such a quote in a part that no line lists", [TABLE, "load 2"], "", [OPEN, GOOD]),
     many(99),
     many(100),
     many(103),

@@ -57,6 +57,12 @@ CASES = [
     case("reports of two editions", ONE, Like(reported(2, 0, 0, 0), reported(5, 1, 1, 1))),
     case("a faulty part", REFUSED_LOAD, Like(*TOLD_FAULTY), FAULTY),
     case("a faulty part, explained", REFUSED_LOAD, Like(*TOLD_FAULTY, REFUSED), FAULTY, ("--explain",)),
+    case(
+        "a quote that is opened and never closed",
+        ["table T (K INT KEY, V TEXT)", "load 1", "publish", ("report SELECT COUNT(*) FROM T", "edition 1\nCOUNT(*)\n3")],
+        Like(r"part1\.csv:4: a quote is opened and never closed", read(1, 1, 3), reported(4, 1, 3, 1)),
+        [PARTS[0] + '3,"4\n5,6\n'],
+    ),
     case("a strict run that stops", [*LOADED, ("put x", 7)], Like(*TOLD, STOPPED), options=("--strict",), status=1),
     case("no viewer's report is told", LOADED, Like(*TOLD), options=WATCH, command=("live",), output=WATCHED),
     script("nothing without the option", *of_lines(LOADED), PARTS),

@@ -86,6 +86,7 @@ QUERIES = [
 LINES = [
     *both("a report alone", [TABLE, ("report", 10)], f"{SCRIPT}:2:7: the end of the line: SELECT should stand here (10 QuerySyntax)\n"),
     *line(10, f"report SELECT COUNT(*) FROM SALES WHERE REGION = {LONG}", LONG, f"{LONG[:40]}..: a text has 1024 bytes at most"),
+    *line(10, f"report SELECT COUNT(*) FROM SALES WHERE REGION = {LONG[:-2]}' GROUP TO", "TO", "TO: BY should stand here"),
     *line(3, "Report SELECT COUNT(*) FROM SALES", "Report", f"Report: {COMMANDS}"),
     *line(3, "SELECT COUNT(*) FROM SALES", "SELECT", f"SELECT: {COMMANDS}"),
     *line(3, "publish now", "now", "now: the line should end before this"),
@@ -143,6 +144,14 @@ SEVERAL = [
         status=1,
     ),
     *both("no refused line", [TABLE, "put 1,a,1", "publish"], ""),
+    # No line is refused for it: what its records are is fixed.
+    *both(
+        "a quote that is opened and never closed",
+        ["table T (ID INT KEY, REGION TEXT)", "load 1", "publish", ("report SELECT COUNT(*) FROM T", "edition 1\nCOUNT(*)\n2")],
+        "part1.csv:3: a quote is opened and never closed\n",
+        ['ID,REGION\n1,a\n2,"b\n3,c\n'],
+        ("--strict",),
+    ),
     Case(
         "viewers whose query is refused",
         ["live", "--query", "SELECT COUNT(*) FROM U", "--explain", SCRIPT],

@@ -49,8 +49,9 @@ Usage: olap check [--part NAME=FILE]... SCRIPT [PART]...
 
 Each line of the script is read as a run would read it: its command, the text of the table, the record of a
 put, the query of a report. Of each part that a load line lists, all faulty records are told: the first 100 one
-by one, and how many more there are. What depends on rows, as too many of them, is not looked at. Each fault is
-a line on standard output, as `olap run --explain` has it on standard error.
+by one, and how many more there are; before them the first quote that is never closed or stands where none
+should, which no load is refused for. What depends on rows, as too many of them, is not looked at. Each fault is a
+line on standard output, as `olap run --explain` has it on standard error.
 
 The status is 0 where there is no fault, 1 where there is one, 2 where a file cannot be read, and 3 where
 memory was refused or the lines could not be written.

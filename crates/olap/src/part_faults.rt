@@ -3,6 +3,7 @@
 use crate::tell::Tell;
 use cells::{Schema, Text, whole_number_of};
 use command::job::Job;
+use prepare::misquoted;
 use reasons::{PartFaults, PartReason, Reasons, faults_of_part};
 use script::{MAX_PARTS, MAX_SCRIPT_BYTES};
 use std::alloc::{AllocError, Global};
@@ -26,6 +27,7 @@ pub fn tell_parts<T: Tell>(
     let Some(schema) = reasons.schema() else {
         return Ok(());
     };
+    tell_quotes(alloc, teller, job.parts.as_slice(), script, parts)?;
     let listed = listed_parts(alloc, script, parts.len())?;
     tell_listed(
         alloc,
@@ -35,6 +37,31 @@ pub fn tell_parts<T: Tell>(
         listed.as_slice(),
         schema,
     )
+}
+
+/// Tells of each of the parts of these names that `load` lines of the script list the first quote that is not as RFC 4180 has it, which
+/// no run refuses: after one that is never closed all lines of the part are one field.
+pub fn tell_quotes<T: Tell>(
+    alloc: Global,
+    teller: &T,
+    names: &[Text],
+    script: &[u8],
+    parts: &[Vec<u8>],
+) -> Result<(), AllocError> {
+    let listed = listed_parts(alloc, script, parts.len())?;
+    for ((name, part), is_listed) in names.iter().zip(parts).zip(&listed) {
+        if *is_listed {
+            tell_quote(teller, name.as_str(), part.as_slice());
+        }
+    }
+    Ok(())
+}
+
+/// Tells the first quote of a part that is not as it should be, where there is one.
+fn tell_quote<T: Tell>(teller: &T, name: &str, part: &[u8]) {
+    if let Some((fault, line)) = misquoted(part, b',') {
+        teller.tell(format_args!("{name}:{line}: {fault}"));
+    }
 }
 
 /// The same of the parts of these names that are listed.

@@ -17,9 +17,10 @@ use crate::answering::answers;
 use crate::close::{NOTHING_RUN, STOPPED, WRITTEN, close_finished, close_text, end_early};
 use crate::explaining::{Explaining, Told};
 use crate::input::{Folder, Input, Unread, Unreadable, read_named};
+use crate::part_faults::tell_quotes;
 use crate::plain::say;
 use crate::progress::Progress;
-use crate::tell::{Errors, Renew, Screen};
+use crate::tell::{Errors, Renew, Screen, Tell};
 use crate::telling::{Ending, Telling};
 use command::job::{Job, WordsFault};
 use command::words::job_of;
@@ -213,6 +214,9 @@ fn run_told<'a, T: Renew + Sync, W: Write + Drop, E: Write, R: Threads + Wait + 
     ensures beginning { BeginsToWrite (HoweverFinished (IsRunBy job.now.on_refusal (hash_of_choice job.now.hash) (givens_in (in_form job.now.form) job.now.how.rows input.now.parts.items) job.now.live input.now.script.items))
         (writer_contents W.contents out) (writer_contents W.contents result.1) }
 {
+    if job.explains || job.tells_progress {
+        tell_input_quotes(alloc, teller, job, input);
+    }
     let gate = Telling {
         explaining: Explaining::new(teller, alloc, Told::of_run(job.explains), job, input),
         progress: progress_of(teller, rt, job.tells_progress),
@@ -231,6 +235,18 @@ fn run_told<'a, T: Renew + Sync, W: Write + Drop, E: Write, R: Threads + Wait + 
         out,
         err,
     )
+}
+
+/// Tells the first bad quote of each part that is loaded, where there is memory for that.
+fn tell_input_quotes<T: Tell>(alloc: Global, teller: &T, job: &Job, input: &Input) {
+    let names = job.parts.as_slice();
+    let _ = tell_quotes(
+        alloc,
+        teller,
+        names,
+        input.script.as_slice(),
+        input.parts.as_slice(),
+    );
 }
 
 /// What tells how far a run is that begins now, where that is asked for.

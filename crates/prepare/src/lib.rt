@@ -28,7 +28,7 @@ pub use laws::{a_misquoted_text_is_not_well_quoted, a_part_is_read_back};
 pub use listed::{ListFault, columns_of, first_again, header_of, listed_columns, named_columns};
 pub use part::{MadePart, prepared};
 pub use place::line_of;
-pub use quotes::QuoteFault;
+pub use quotes::{QuoteFault, misquoted};
 pub use records::Records;
 pub use texts::{TextField, first_text};
 pub use words::{name_of, word};

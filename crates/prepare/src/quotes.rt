@@ -44,7 +44,7 @@ enum Standing {
 
 /// The first fault of the quotes of a file, and the line on which it stands, counted from 1 by line feeds. None exactly where each
 /// field has no quote, or stands between two and has each of its own twice. A byte order mark at the start is passed over.
-pub(crate) fn misquoted(bytes: &[u8], delimiter: u8) -> Option<(QuoteFault, u64)>
+pub fn misquoted(bytes: &[u8], delimiter: u8) -> Option<(QuoteFault, u64)>
     ensures none { IfNone result (IsWellQuoted delimiter (strip_bom bytes.now)) }
     ensures some { IfSome result (λ found. IsMisquotedFile delimiter bytes.now found.0 found.1) }
 {
