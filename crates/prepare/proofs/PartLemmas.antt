@@ -101,7 +101,6 @@ read_length choice fields = go choice.trims where
   go false = refl
 
 module _ (choice : Choice) (all later : List Fields) (header : Fields) (took : all ≡ header ∷ later) where
-
   module _ (places : List ℕ) (placed : places_of choice.columns (as_read choice header) ≡ Ok places) where
     -- its header was written
     under : part_of choice all ≡ and_first (headed choice.number (words_of choice.columns (as_read choice header))) (records_from choice places (length header) 1 later)
