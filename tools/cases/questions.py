@@ -157,6 +157,15 @@ FILES = [
         ["NAME | COUNT(*)", "NULL | 2", "'ann' | 1"],
         ["--null=NULL"],
     ),
+    *both(
+        "a dump with -h for NULL",
+        "dump.csv",
+        "id,name\n1,-h\n2,bob\n",
+        "table DUMP (ID INT KEY, NAME TEXT)",
+        "SELECT COUNT(NAME) FROM DUMP",
+        ["COUNT(NAME)", "1"],
+        ["--null", "-h"],
+    ),
     query(
         "40 columns, of which the query names two",
         {"wide.csv": FORTY},
@@ -327,6 +336,7 @@ FAULTS = [
     fault("a text in another coding", {"sales.csv": LATIN}, Text(begins="sales.csv:2: record 1, column CITY: "), output="line,2,refused,6,BadPart,part,1,record,1\n"),
     fault("a text that is too long", {"sales.csv": f'\nid;"the\nname"\n1;{LONG}\n'}, Text(begins="sales.csv:4: record 1, column THE_NAME: "), ["--delimiter", ";"], output="line,2,refused,6,BadPart,part,1,record,1\n"),
     fault("more rows than are allowed", {"sales.csv": SALES}, f"olap: the draft would have more rows than --rows allows (9 TooManyRows)\n{STOPPED}", ["--rows", "3"], output="line,2,refused,9,TooManyRows\n"),
+    Case("query: a file called --help", ["query", "--", "SELECT COUNT(*) FROM T", "--help"], errors="olap: cannot read --help: no such file\n", status=2),
     Case("query: a file that is not there", ["query", "SELECT COUNT(*) FROM T", "gone.csv"], errors="olap: cannot read gone.csv: no such file\n", status=2),
     Case("schema: a folder", ["schema", "room"], {"room": None}, errors="olap: cannot read room: it is a folder\n", status=2),
     refused(10, "SELECT COUNT(*) FROM SALES;", ";", ";: no semicolon stands at the end"),

@@ -83,32 +83,9 @@ fn live_found(alloc: Global, found: &ArgMatches<'_>) -> Result<Job, WordsFault>
     ensures live { IfOk result (λ job. HasViewers (rows_of (found_of found.now)) job.live) }
     ensures fault { IfErr result (IsFaultOfLive (rows_of (found_of found.now))) }
 {
-    let job = job_found(alloc, found)?;
-    let live = viewers_found(alloc, found)?;
-    let Job {
-        how,
-        hash,
-        form,
-        on_refusal,
-        explains,
-        tells_progress,
-        script,
-        parts,
-        names,
-        live: _,
-    } = job;
-    Ok(Job {
-        how,
-        hash,
-        form,
-        on_refusal,
-        explains,
-        tells_progress,
-        script,
-        parts,
-        names,
-        live: Some(live),
-    })
+    let mut job = job_found(alloc, found)?;
+    job.live = Some(viewers_found(alloc, found)?);
+    Ok(job)
 }
 
 /// What the viewers of a run are asked.

@@ -1,5 +1,5 @@
 //! Pools: the bags of several grouping sets over the same rows, the coarser ones made from the finer.
-ghost use Rattle.std.specs.Prelude.{◌≡◌, ◌<◌, List, true, IfOk, IfSome, length, position, slice_index_or};
+ghost use Rattle.std.specs.Prelude.{◌≡◌, ◌<◌, ◌≤◌, ℕ, List, true, IfOk, IfSome, length, position, slice_index_or};
 ghost use Rattle.std.specs.Option.{is_some, option_copied};
 ghost use Rattle.cells.specs.Values.{RowValue};
 ghost use Rattle.groups.specs.Bags.{Covers};
@@ -117,6 +117,8 @@ fn fewest<H: KeyHash<Cell>>(pool: &[SetBag<H>], set: &[usize]) -> usize
     requires { has_finer pool.now set.now ≡ true }
     ensures within { result < length pool.now }
     ensures finer { (d : SetBag H) → has_all (slice_index_or pool.now result d).set.items set.now ≡ true }
+    ensures least { (d : SetBag H) (at : ℕ) → at < length pool.now → has_all (slice_index_or pool.now at d).set.items set.now ≡ true
+        → length (slice_index_or pool.now result d).bag ≤ length (slice_index_or pool.now at d).bag }
 {
     let mut index = first_finer(pool, set);
     let mut least = pool[index].bag.groups().len();

@@ -6,16 +6,18 @@ use Rattle.std.specs.Borrow.{Bor}
 use Rattle.std.specs.List.{flat_map}
 use Rattle.std.specs.Prelude.{◌≡◌, ◌<◌, ◌≤◌, ◌++◌, ◌==◌, ⊤, ℕ, zero, suc, Bool, true, false, List, [], ◌∷◌, Option, Some, None, drop, length, map, not, take, if◌then◌else◌}
 use Rattle.csv.specs.Machine.{Read, next_record, step, is_end, ends_at_end, ends_with, after_end, in_field, start_field, start_record, fields_after, field_after}
+use Rattle.csv.specs.Writing.{comma}
 use Rattle.csv.specs.Reading.{default_config, is_bom, strip_bom}
 use Rattle.csv.specs.declared.parser.State.{State}
 use Rattle.csv.specs.declared.parser.State.TheVariants as st
 use Rattle.csv.specs.declared.parser.Action.{Action}
 use Rattle.csv.specs.declared.parser.Action.TheVariants as act
 use Rattle.loader.specs.Cuts.{IsCut, state_after}
-use Rattle.loader.specs.Records.{begins_plainly, records_at, records_of}
+use Rattle.loader.specs.Records.{begins_plainly, records_of}
 use Rattle.loader.proofs.PlainLemmas.{no_mark}
-use Rattle.loader.proofs.RecordsLemmas.{records_at-end, records_at-more}
-use Rattle.loader.proofs.StatesLemmas.{step_well}
+use Rattle.records.specs.Records.{records_at}
+use Rattle.records.specs.Laws.{records_at-end, records_at-more}
+use Rattle.records.specs.Ends.{step_well}
 
 -- ---- no record is begun between two records
 
@@ -125,7 +127,7 @@ by_byte s fields field c front rest cut more true ends = inl (record {
   alone = step_end s fields field c front ends;
   both = step_end s fields field c (front ++ rest) ends;
   left = cut;
-  between = step_well s c ends;
+  between = step_well comma s c ends;
   less = omega arith;
 })
 by_byte s fields field c front rest cut more false goes = elim (more goes) [
@@ -154,21 +156,21 @@ met (c ∷ front) s fields field rest held cut =
 
 -- from where one record follows, the same ones do
 same_next : (s t : State) (xs ys : List ℕ) → ends_at_end s ≡ false → ends_at_end t ≡ false → (next : Option Read)
-    → next_record default_config s [] [] xs ≡ next → next_record default_config t [] [] ys ≡ next → records_at s xs ≡ records_at t ys
-same_next s t xs ys at_s at_t None of_s of_t = records_at-end s xs of_s ∙ sym (records_at-end t ys of_t)
-same_next s t xs ys at_s at_t (Some p) of_s of_t = (records_at-more s xs p at_s of_s).0 ∙ sym (records_at-more t ys p at_t of_t).0
+    → next_record default_config s [] [] xs ≡ next → next_record default_config t [] [] ys ≡ next → records_at comma s xs ≡ records_at comma t ys
+same_next s t xs ys at_s at_t None of_s of_t = records_at-end comma s xs of_s ∙ sym (records_at-end comma t ys of_t)
+same_next s t xs ys at_s at_t (Some p) of_s of_t = (records_at-more comma s xs p at_s of_s).0 ∙ sym (records_at-more comma t ys p at_t of_t).0
 
 records_cut : (n : ℕ) (front : List ℕ) (s : State) (rest : List ℕ) → length front < n → ends_at_end s ≡ false → state_after s front ≡ st.StartRecord
-    → records_at s (front ++ rest) ≡ records_at s front ++ records_at st.StartRecord rest
+    → records_at comma s (front ++ rest) ≡ records_at comma s front ++ records_at comma st.StartRecord rest
 records_cut zero front s rest short between cut = absurd (omega (arith, short))
 records_cut (suc n) front s rest short between cut = elim (met front s [] [] rest (holds_none s) cut) [
   | inl within ↦
-      (records_at-more s (front ++ rest) (within.read.0, within.read.1, within.read.2 ++ rest) between within.both).0
+      (records_at-more comma s (front ++ rest) (within.read.0, within.read.1, within.read.2 ++ rest) between within.both).0
       ∙ ap (λ (more : List (List (List ℕ))). within.read.0 ∷ more) (records_cut n within.read.2 within.read.1 rest (omega (arith, short, within.less)) within.between within.left)
-      ∙ ap (λ (records : List (List (List ℕ))). records ++ records_at st.StartRecord rest) (sym (records_at-more s front within.read between within.alone).0)
+      ∙ ap (λ (records : List (List (List ℕ))). records ++ records_at comma st.StartRecord rest) (sym (records_at-more comma s front within.read between within.alone).0)
   | inr behind ↦
       same_next s st.StartRecord (front ++ rest) rest between refl (next_record default_config st.StartRecord [] [] rest) behind.both refl
-      ∙ ap (λ (records : List (List (List ℕ))). records ++ records_at st.StartRecord rest) (sym (records_at-end s front behind.alone))
+      ∙ ap (λ (records : List (List (List ℕ))). records ++ records_at comma st.StartRecord rest) (sym (records_at-end comma s front behind.alone))
 ]
 
 -- ---- byte order marks
@@ -201,9 +203,9 @@ cut_records bytes at cut =
     let rest = drop at bytes in
     let long : 3 ≤ length front = omega (arith, cut.front, cut.within, length-take-le at bytes (omega (arith, cut.within))) in
     ap records_of (sym (take-append-drop at bytes))
-    ∙ ap (records_at st.StartRecord) (strip_bom-append front rest long)
+    ∙ ap (records_at comma st.StartRecord) (strip_bom-append front rest long)
     ∙ records_cut (suc (length (strip_bom front))) (strip_bom front) st.StartRecord rest (omega arith) refl cut.between
-    ∙ ap (λ (text : List ℕ). records_of front ++ records_at st.StartRecord text) (sym (plain_unmarked rest cut.plain))
+    ∙ ap (λ (text : List ℕ). records_of front ++ records_at comma st.StartRecord text) (sym (plain_unmarked rest cut.plain))
 
 -- ---- pieces
 

@@ -10,9 +10,6 @@ pub mod PartLemmas
 pub mod PiecesLemmas
 pub mod PlainLemmas
 pub mod PutsLemmas
-pub mod ReaderLemmas
-pub mod RecordsLemmas
 pub mod ShardLemmas
 pub mod SharesLemmas
-pub mod StatesLemmas
 pub mod TriesLemmas

@@ -6,13 +6,15 @@ use Rattle.std.proofs.lemmas.List.Splits.{slice_split_first}
 use Rattle.std.specs.List.{list_any, onto_first, position, position_or_len}
 use Rattle.std.specs.Prelude.{◌≡◌, ◌==◌, ◌<◌, ◌≤◌, ◌+◌, ◌-◌, ◌++◌, ◌&&◌, ◌||◌, if◌then◌else◌, ℕ, Bool, true, false, cond, List, [], ◌∷◌, Option, Some, None, IsTrue, drop, length, nat_lt, not, slice_get, take}
 use Rattle.csv.specs.Machine.{Read, ends_at_end, field_after, fields_after, is_end, next_record, step}
+use Rattle.csv.specs.Writing.{comma}
 use Rattle.csv.specs.Reading.{default_config, strip_bom}
 use Rattle.csv.specs.declared.parser.State.{State}
 use Rattle.csv.specs.declared.parser.State.TheVariants as st
 use Rattle.csv.specs.declared.parser.Action.{Action}
 use Rattle.csv.specs.declared.parser.Action.TheVariants as act
-use Rattle.loader.specs.Records.{begins_plainly, between_commas, is_special, records_at, records_of}
-use Rattle.loader.proofs.RecordsLemmas.{records_at-end, records_at-more}
+use Rattle.loader.specs.Records.{begins_plainly, between_commas, is_special, records_of}
+use Rattle.records.specs.Records.{records_at}
+use Rattle.records.specs.Laws.{records_at-end, records_at-more}
 
 -- ---- parts of which the first has a text before it
 
@@ -129,9 +131,9 @@ no_mark b (c ∷ d ∷ rest) e = rw e refl
 pub plain_record : (b : ℕ) (bs : List ℕ) → (b == 0xEF) ≡ false → list_any is_special (b ∷ bs) ≡ false → records_of (b ∷ bs) ≡ between_commas (b ∷ bs) ∷ []
 unfolding next_record
 plain_record b bs mark none =
-    ap (records_at st.StartRecord) (no_mark b bs mark)
-    ∙ (records_at-more st.StartRecord (b ∷ bs) (between_commas (b ∷ bs), st.StartRecord, []) refl (first_plain b bs none)).0
-    ∙ ap (λ (more : List (List (List ℕ))). between_commas (b ∷ bs) ∷ more) (records_at-end st.StartRecord [] refl)
+    ap (records_at comma st.StartRecord) (no_mark b bs mark)
+    ∙ (records_at-more comma st.StartRecord (b ∷ bs) (between_commas (b ∷ bs), st.StartRecord, []) refl (first_plain b bs none)).0
+    ∙ ap (λ (more : List (List (List ℕ))). between_commas (b ∷ bs) ∷ more) (records_at-end comma st.StartRecord [] refl)
 
 -- ---- what stands before the first comma
 

@@ -9,9 +9,9 @@ ghost use Rattle.loader.specs.Records.{begins_plainly, records_of};
 ghost use Rattle.loader.specs.States.{machine_state};
 
 use crate::plain::MARK;
-use crate::records::Records;
 use crate::states::{FEED, QUOTE, State};
 use csv::ByteRecord;
+use records::Records;
 use std::alloc::{AllocError, Global};
 
 /// How many bytes a byte order mark has.
@@ -57,7 +57,7 @@ fn whole<'a>(alloc: Global, bytes: &'a [u8]) -> Result<Vec<&'a [u8]>, AllocError
 fn has_record(alloc: Global, bytes: &[u8]) -> Result<bool, AllocError>
     ensures { IfOk result (λ has. MatchBool has (records_of bytes.now ≢ []) (records_of bytes.now ≡ [])) }
 {
-    let mut records = Records::new(alloc, bytes);
+    let mut records = Records::new(alloc, bytes, b',');
     let mut record = ByteRecord::new(alloc);
     let has = records.next(&mut record)?;
     Ok(has)

@@ -8,11 +8,12 @@ ghost use Rattle.loader.specs.Shards.{takes};
 
 use crate::header::is_header;
 use crate::pieces::Piece;
-use crate::records::{Records, fields, read_row};
+use crate::record::read_row;
 use crate::shard::Shard;
 use crate::shares::Spread;
 use cells::{Cell, KeyHash, Refused, Schema};
 use csv::ByteRecord;
+use records::{Records, fields};
 use std::alloc::{AllocError, Global};
 
 /// The rows of records that a shard takes, each beside its key, spread over shares, and how many the records are.
@@ -56,7 +57,7 @@ fn read_part<H: KeyHash<Cell>>(
 ) -> Result<Content, AllocError>
     ensures { IfOk result (ReadsPart H.hash_of (takes H.hash_of shard.now) schema.now bytes.now) }
 {
-    let mut records = Records::new(alloc, bytes);
+    let mut records = Records::new(alloc, bytes, b',');
     let mut record = ByteRecord::new(alloc);
     if !records.next(&mut record)? {
         return Ok(Err(0));
@@ -77,7 +78,7 @@ fn read_later<H: KeyHash<Cell>>(
 ) -> Result<Content, AllocError>
     ensures { IfOk result (IsContent H.hash_of (takes H.hash_of shard.now) schema.now (rows_from schema.now 1 (records_of bytes.now))) }
 {
-    read_rows::<H>(alloc, Records::new(alloc, bytes), schema, shard)
+    read_rows::<H>(alloc, Records::new(alloc, bytes, b','), schema, shard)
 }
 
 /// The rows of the records that are left and that the shard takes, or the number of the first faulty one, whatever shard its

@@ -1,5 +1,5 @@
 -- Whether a table answers a query, from what reads and checks it.
-use Rattle.std.proofs.Common.{◌≡◌, ◌∙◌, ℕ, Bool, true, false, List, Option, Some, None, Result, Ok, Err, ap, inl, inr, refl}
+use Rattle.std.proofs.Common.{◌≡◌, ℕ, Bool, true, false, List, Option, Some, None, Result, Ok, Err, inl, inr, refl}
 use Rattle.std.specs.Prelude.{◌⊎◌, IfOk, MatchResult}
 use Rattle.cells.specs.Refusals.{Reads}
 use Rattle.cells.specs.Values.{Table}

@@ -1,4 +1,6 @@
 pub mod AnsweringLemmas
+pub mod CommandsLemmas
+pub mod EndingsLemmas
 pub mod FoldersLemmas
 pub mod HearingLemmas
 pub mod PartialsLemmas

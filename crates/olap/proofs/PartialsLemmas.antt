@@ -1,14 +1,8 @@
 -- Partial answers in files, joined one after another.
-use Rattle.std.proofs.Common.{◌≡◌, ◌<◌, ◌+◌, ◌∙◌, ◌∷◌, ◌++◌, ℕ, List, [], Option, ap, ap₂, append-nil, append_assoc, inl, inr, length, refl, slice_index_or, subst, sym, take}
+use Rattle.std.proofs.Common.{◌≡◌, ◌<◌, ◌+◌, ◌∙◌, ◌∷◌, ◌++◌, ℕ, List, [], Option, ap, ap₂, append-nil, append_assoc, length, refl, slice_index_or, subst, sym, take}
 use Rattle.std.proofs.lemmas.List.{take_more}
 use Rattle.std.specs.List.{AllByRecursion}
-use Rattle.std.specs.Prelude.{◌⊎◌}
-use Rattle.clap.specs.Words.{IsAmong, Text, fault_of}
-use Rattle.clap.specs.declared.error.kind.ErrorKind.TheVariants.{DisplayHelp, DisplayVersion}
-use Rattle.command.specs.Jobs.{IsHelp}
-use Rattle.command.specs.ShardWords.{ExplainsShardFault, shard_app}
-use Rattle.command.specs.declared.job.WordsFault.{WordsFault}
-use Rattle.command.specs.declared.job.WordsFault.TheVariants.{Clap, Naming, NoScript, OutOfRange}
+use Rattle.clap.specs.Words.{Text}
 use Rattle.forms.specs.declared.form.Form.{Form}
 use Rattle.script.specs.Givens.{Givens}
 use Rattle.shards.specs.Answers.{IsPartialAnswer, Sharding}
@@ -113,15 +107,3 @@ output_of_joint file form names it joint whole is = record {
       let t = joint.is.told sharding givens script all in
       rw (← t.is_script) (is hash sharding givens manner parts (rw t.is_script fit) t.told);
 }
-
--- ---- words
-
--- a fault that shows help asks for it
-pub help_of_shard : (words : List Text) (fault : WordsFault) → ExplainsShardFault words fault → IsHelp fault → IsAmong DisplayHelp (fault_of shard_app words) ⊎ IsAmong DisplayVersion (fault_of shard_app words)
-help_of_shard words (Clap e) (inl memory) (inl help) = absurd cc
-help_of_shard words (Clap e) (inl memory) (inr version) = absurd cc
-help_of_shard words (Clap e) (inr among) (inl help) = inl (subst (λ k. IsAmong k (fault_of shard_app words)) help among)
-help_of_shard words (Clap e) (inr among) (inr version) = inr (subst (λ k. IsAmong k (fault_of shard_app words)) version among)
-help_of_shard words (OutOfRange it) why help = absurd help
-help_of_shard words (Naming fault) why help = absurd help
-help_of_shard words NoScript why help = absurd help

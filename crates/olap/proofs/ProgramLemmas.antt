@@ -1,6 +1,6 @@
 -- What the program wrote, from what its parts say.
-use Rattle.std.proofs.Common.{ℕ, List, [], Option, arith, inl, inr, refl, sym}
-use Rattle.std.specs.Prelude.{◌≡◌, ◌⊎◌, IfOk, IsErr, Result, Ok, Err, OnErr, OnOk}
+use Rattle.std.proofs.Common.{ℕ, List, [], Option, arith, refl, sym}
+use Rattle.std.specs.Prelude.{◌≡◌, IfOk, IsErr, Result, Ok, Err, OnErr, OnOk}
 use Rattle.std.proofs.lemmas.List.{append-nil}
 use Rattle.std.specs.Io.KnownBytes.{Appends, Keeps}
 use Rattle.std.proofs.KnownBytes.{Appends-kept}
@@ -9,7 +9,6 @@ use Rattle.script.specs.Endings.{BeginsToWrite, Writes}
 use Rattle.script.specs.Givens.{givens_in}
 use Rattle.script.specs.Hows.{hash_of_choice}
 use Rattle.script.specs.Manners.{in_form}
-use Rattle.script.specs.Stops.{HoweverFinished}
 use Rattle.script.specs.Viewers.{IsRunBy}
 use Rattle.script.specs.declared.finish.Finish.{Finish}
 use Rattle.command.specs.Jobs.{Ask}
@@ -17,12 +16,6 @@ use Rattle.olap.specs.Programs.{AskToWrite, IsInputOf, IsOutputOfJob}
 use Rattle.olap.specs.declared.input.Input.{Input}
 use Rattle.report.specs.Taken.{TakesBeginning}
 use Rattle.command.specs.declared.job.Job.{Job}
-
--- none of these is 1
-pub not_1 : (status : ℕ) → (status ≡ 0) ⊎ ((status ≡ 2) ⊎ (status ≡ 3)) → status ≡ 1 → ⊥
-not_1 status (inl none) one = omega (arith, none, one)
-not_1 status (inr (inl two)) one = omega (arith, two, one)
-not_1 status (inr (inr three)) one = omega (arith, three, one)
 
 -- all of it is a beginning
 takes_all : (a b : Option (List ℕ)) (whole : List ℕ) → Appends a b whole → TakesBeginning a b whole
@@ -63,13 +56,3 @@ output_of_job file job input is_input finish whole is = record { input = input; 
 -- the output that the words ask for, from that of their job
 pub asked : (file : List ℕ → Option (List ℕ)) (words : List Text) (job : Job) → Ask words job → (finish : Finish) (whole : List ℕ) → IsOutputOfJob file job finish whole → AskToWrite file words finish whole
 asked file words job a finish whole of = record { job = job; asked = a; output = of }
-
--- what was written is so, since what it was said to be is
-pub writes_as : (Is IsWhole : List ℕ → Type 0) (a b : Option (List ℕ)) → ((whole : List ℕ) → Is whole → IsWhole whole) → Writes Is a b → Writes IsWhole a b
-writes_as Is IsWhole a b so w = record { whole = w.whole; is_whole = so w.whole w.is_whole; taken = w.taken }
-
--- however it was finished
-pub begins_however : (Is IsWhole : Finish → List ℕ → Type 0) (a b : Option (List ℕ)) → ((finish : Finish) (whole : List ℕ) → Is finish whole → IsWhole finish whole) → BeginsToWrite (HoweverFinished Is) a b →
-    BeginsToWrite (HoweverFinished IsWhole) a b
-begins_however Is IsWhole a b so w =
-    record { whole = w.whole; is_whole = record { finish = w.is_whole.finish; is = so w.is_whole.finish w.whole w.is_whole.is }; beginning = w.beginning }

@@ -1,5 +1,5 @@
 -- What `query` leaves with the writer, from what its parts say.
-use Rattle.std.proofs.Common.{◌≡◌, ℕ, List, [], ◌∷◌, false, None, Some, arith, inl, inr, refl}
+use Rattle.std.proofs.Common.{◌≡◌, ℕ, List, [], None, Some, arith, inl, inr, refl}
 use Rattle.std.specs.Prelude.{◌⊎◌, Option}
 use Rattle.std.specs.Io.KnownBytes.{Keeps}
 use Rattle.clap.specs.Words.{Text}
@@ -8,12 +8,13 @@ use Rattle.script.specs.Stops.{HoweverFinished}
 use Rattle.script.specs.declared.finish.Finish.{Finish}
 use Rattle.script.specs.declared.finish.Finish.TheVariants.{Stopped}
 use Rattle.olap.specs.Folders.{AreTold}
-use Rattle.questions.specs.Options.{AreAmong}
+use Rattle.questions.specs.Asking.{IsQuestion, IsWanted}
+use Rattle.questions.specs.Options.{items}
 use Rattle.olap.specs.Queries.{AskToAnswer, IsAnswer, IsAnswerOfNamed, IsAsked, IsStrictOutput, Leaves}
 use Rattle.olap.specs.declared.input.Input.{Input}
 use Rattle.questions.specs.declared.question.Question.{Question}
 use Rattle.questions.specs.declared.question.Wanted.{Wanted}
-use Rattle.olap.proofs.ProgramLemmas.{begins_however, writes_as}
+use Rattle.olap.proofs.EndingsLemmas.{begins_as, however_as, writes_as}
 
 -- ---- the writer
 
@@ -33,7 +34,7 @@ module _ (old new : Option (List ℕ)) (waiting : List ℕ) where
 
     begun : Keeps old new ⊎ BeginsToWrite (HoweverFinished Is) old new → Keeps old new ⊎ BeginsToWrite (HoweverFinished IsSo) old new
     begun (inl kept) = inl kept
-    begun (inr part) = inr (begins_however Is IsSo old new so part)
+    begun (inr part) = inr (begins_as (HoweverFinished Is) (HoweverFinished IsSo) old new (however_as Is IsSo so) part)
 
 kept : (out : Option (List ℕ)) → Keeps out out
 kept None = tt
@@ -67,6 +68,6 @@ pub answer_of_named : (file : Text → Option (List ℕ)) (files : List (List �
     → (finish : Finish) (whole : List ℕ) → IsAnswer files question w finish whole → IsAnswerOfNamed file question w finish whole
 answer_of_named file files question w told finish whole answer = record { files = files; told = told; answer = answer }
 
-pub asked : (file : Text → Option (List ℕ)) (words : List Text) (question : Question) (w : Wanted) → question.manner.heads ≡ false → AreAmong (question.query.now ∷ question.names.items) words
+pub asked : (file : Text → Option (List ℕ)) (words : List Text) (question : Question) (w : Wanted) → IsQuestion (items words) question → IsWanted (items words) w
     → (finish : Finish) (whole : List ℕ) → IsAnswerOfNamed file question w finish whole → AskToAnswer file words finish whole
-asked file words question w bare among finish whole answer = record { question = question; bare = bare; among = among; wanted = w; answer = answer }
+asked file words question w it chosen finish whole answer = record { question = question; asked = it; wanted = w; chosen = chosen; answer = answer }

@@ -331,7 +331,3 @@ of_job file job parts told Is bytes is = record { parts = parts; parts_told = to
 pub asked_to_talk : (file : List ℕ → Option (List ℕ)) (words : List Text) (job : SessionJob) → AskForSession words job → (Is : (Cell → ℕ) → Givens → OnRefusal → List ℕ → Type 0) (bytes : List ℕ) →
     IsOfJob file job Is bytes → AskToTalk file words Is bytes
 asked_to_talk file words job asked Is bytes is = record { job = job; asked = asked; is = is }
-
--- a beginning is so, since what it is of is said to be so
-pub begins_as : (Is IsWhole : List ℕ → Type 0) (a b : Option (List ℕ)) → ((whole : List ℕ) → Is whole → IsWhole whole) → BeginsToWrite Is a b → BeginsToWrite IsWhole a b
-begins_as Is IsWhole a b so w = record { whole = w.whole; is_whole = so w.whole w.is_whole; beginning = w.beginning }

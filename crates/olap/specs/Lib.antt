@@ -1,4 +1,6 @@
 pub mod Answering
+pub mod Commands
+pub mod Endings
 pub mod Folders
 pub mod Hearing
 pub mod Partials

@@ -1,12 +1,15 @@
 -- What the program does with its words, its files and its standard input.
 use Rattle.std.specs.Prelude.{◌≡◌, ◌⊎◌, ℕ, Bool, true, List, [], Option, None, Some, map}
+use Rattle.std.specs.Io.KnownBytes.{Keeps}
 use Rattle.clap.specs.Words.{IsAmong, Text, fault_of}
 use Rattle.clap.specs.declared.error.kind.ErrorKind.TheVariants.{DisplayHelp, DisplayVersion}
 use Rattle.forms.specs.declared.form.Form.TheVariants.{Classic}
+use Rattle.script.specs.Endings.{BeginsToWrite, Writes}
 use Rattle.script.specs.Givens.{givens_in}
 use Rattle.script.specs.Hows.{default_hash, default_settings, hash_of_choice}
 use Rattle.script.specs.Manners.{in_form}
 use Rattle.script.specs.Output.{IsOutput}
+use Rattle.script.specs.Stops.{HoweverFinished}
 use Rattle.script.specs.Tails.{Viewing}
 use Rattle.script.specs.Viewers.{IsRunBy}
 use Rattle.script.specs.declared.finish.Finish.{Finish}
@@ -15,6 +18,7 @@ use Rattle.script.specs.declared.on_refusal.OnRefusal.TheVariants.{GoesOn, Stops
 use Rattle.reasons.specs.Books.{declared_in, lines_in}
 use Rattle.olap.specs.Answering.{Answers}
 use Rattle.command.specs.CommandLine.{olap}
+use Rattle.olap.specs.Endings.{Ends, HelpsOr}
 use Rattle.olap.specs.Folders.{AreTold, Tells}
 use Rattle.command.specs.Jobs.{Ask}
 use Rattle.command.specs.Naming.{resolved}
@@ -32,11 +36,15 @@ pub record IsInputOf (file : Text → Option (List ℕ)) (job : Job) (input : In
   pub resolved : input.script.items ≡ resolved job.names.items script
   pub parts_told : AreTold file job.parts.items (map (λ part. part.items) input.parts.items)
 
+-- this is the output of a job over what was read for it
+abbrev pub IsRunOf : Job → Input → Finish → List ℕ → Type 0
+IsRunOf job input = IsRunBy job.on_refusal (hash_of_choice job.hash) (givens_in (in_form job.form) job.how.rows input.parts.items) job.live input.script.items
+
 -- this is the output of a job that is so finished
 pub record IsOutputOfJob (file : Text → Option (List ℕ)) (job : Job) (finish : Finish) (whole : List ℕ) : Type 0 where
   pub input : Input
   pub is_input : IsInputOf file job input
-  pub is_output : IsRunBy job.on_refusal (hash_of_choice job.hash) (givens_in (in_form job.form) job.how.rows input.parts.items) job.live input.script.items finish whole
+  pub is_output : IsRunOf job input finish whole
 
 -- the words ask for a run over these files, and this is its output where it is so finished
 pub record AskToWrite (file : Text → Option (List ℕ)) (words : List Text) (finish : Finish) (whole : List ℕ) : Type 0 where
@@ -71,3 +79,16 @@ pub record IsOutputOf (input : Option (List ℕ)) (whole : List ℕ) : Type 0 wh
   pub script : List ℕ
   pub script_told : Tells input script
   pub is_output : IsOutput (hash_of_choice default_hash) (record { manner = in_form Classic; limit = default_settings.rows; parts = [] }) script whole
+
+-- the words ask for help, or for a run over these files, which so ends
+abbrev pub EndsAsRun : (Text → Option (List ℕ)) → List Text → ℕ → Option (List ℕ) → Option (List ℕ) → List ℕ → Type 0
+EndsAsRun file words status old new waiting =
+    HelpsOr (AskForHelp words) status (Ends (AskToWrite file words) (HoweverFinished (AskToWrite file words)) (AskToServe file words) status old new waiting)
+
+-- the run of the script that standard input holds so ends
+pub record EndsAsScript (input : Option (List ℕ)) (status : ℕ) (old new : Option (List ℕ)) (waiting : List ℕ) : Type 0 where
+  pub known : (status ≡ 0) ⊎ ((status ≡ 2) ⊎ (status ≡ 3))
+  pub written : status ≡ 0 → Writes (IsOutputOf input) old new
+  pub flushed : status ≡ 0 → waiting ≡ []
+  pub nothing : status ≡ 2 → Keeps old new
+  pub beginning : status ≡ 3 → BeginsToWrite (IsOutputOf input) old new

@@ -11,6 +11,7 @@ use Rattle.script.specs.Stops.{StopsAfter}
 use Rattle.script.specs.declared.finish.Finish.{Finish}
 use Rattle.script.specs.declared.finish.Finish.TheVariants.{Stopped, Through}
 use Rattle.script.specs.declared.on_refusal.OnRefusal.{OnRefusal}
+use Rattle.olap.specs.Endings.{Ends, HelpsOr, NoViewers}
 use Rattle.olap.specs.Folders.{AreTold}
 use Rattle.olap.specs.Hearing.{lines_heard}
 use Rattle.command.specs.SessionWords.{AskForSession, session}
@@ -66,3 +67,8 @@ pub record AskToTalk (file : Text → Option (List ℕ)) (words : List Text) (Is
 -- the words ask for help of sessions
 abbrev pub AskForSessionHelp : List Text → Type 0
 AskForSessionHelp words = IsAmong DisplayHelp (fault_of session words) ⊎ IsAmong DisplayVersion (fault_of session words)
+
+-- the words ask for help, or for a session over these files and this input, which so ends
+abbrev pub EndsAsTalk : (Text → Option (List ℕ)) → Option (List ℕ) → List Text → ℕ → Option (List ℕ) → Option (List ℕ) → List ℕ → Type 0
+EndsAsTalk file input words status old new waiting = HelpsOr (AskForSessionHelp words) status
+    (Ends (λ finish. AskToTalk file words (IsTalk input finish)) (AskToTalk file words (IsTalkSoFar input)) NoViewers status old new waiting)

@@ -52,13 +52,14 @@ pub fn ask<
 ) -> (u8, BufWriter<W>)
     ensures status { (result.0 ≡ 0) ⊎ ((result.0 ≡ 1) ⊎ ((result.0 ≡ 2) ⊎ (result.0 ≡ 3))) }
     ensures leaves { (asks_for_help (map string_bytes words.now) ≡ true)
-        ⊎ Leaves (AskToAnswer (F.file folder.now) (map string_bytes words.now)) result.0 (writer_contents W.contents out) (writer_contents W.contents result.1) (writer_buffer result.1) }
+        ⊎ Leaves (AskToAnswer (F.file folder.now) (map string_bytes words.now)) result.0 (writer_contents W.contents out)
+        (writer_contents W.contents result.1) (writer_buffer result.1) }
 {
     let parted = match part_words(alloc, words) {
         Ok(parted) => parted,
         Err(fault) => return (refuse_words("query", fault, err), out),
     };
-    if parted.helps {
+    if parted.asks_for_help() {
         let status = show(Topic::Query.page(), &mut out, err);
         return (status, out);
     }
@@ -73,7 +74,7 @@ pub fn show_schema<F: Folder, W: Write + Drop, E: Write>(
     alloc: Global,
     words: &[String],
     folder: &F,
-    mut out: BufWriter<W>,
+    out: &mut BufWriter<W>,
     err: &mut E,
 ) -> u8
     ensures { (result ≡ 0) ⊎ ((result ≡ 1) ⊎ ((result ≡ 2) ⊎ (result ≡ 3))) }
@@ -82,8 +83,8 @@ pub fn show_schema<F: Folder, W: Write + Drop, E: Write>(
         Ok(parted) => parted,
         Err(fault) => return refuse_words("schema", fault, err),
     };
-    if parted.helps {
-        return show(Topic::Schema.page(), &mut out, err);
+    if parted.asks_for_help() {
+        return show(Topic::Schema.page(), out, err);
     }
     match schema_question_of(alloc, &parted) {
         Ok(question) => show_table(alloc, question, folder, out, err),
@@ -135,7 +136,8 @@ fn ask_question<
     err: &mut E,
 ) -> (u8, BufWriter<W>)
     ensures status { (result.0 ≡ 0) ⊎ ((result.0 ≡ 1) ⊎ ((result.0 ≡ 2) ⊎ (result.0 ≡ 3))) }
-    ensures leaves { Leaves (IsAnswerOfNamed (F.file folder.now) question.now wanted) result.0 (writer_contents W.contents out) (writer_contents W.contents result.1) (writer_buffer result.1) }
+    ensures leaves { Leaves (IsAnswerOfNamed (F.file folder.now) question.now wanted) result.0 (writer_contents W.contents out)
+        (writer_contents W.contents result.1) (writer_buffer result.1) }
 {
     match read_files(alloc, folder, question.names.as_slice()) {
         Ok(files) => ask_files(rt, alloc, question, files.as_slice(), wanted, out, err),
@@ -155,7 +157,8 @@ fn ask_files<W: Write + Drop, E: Write, R: Threads + Wait + Sync + Eprint + Cloc
     err: &mut E,
 ) -> (u8, BufWriter<W>)
     ensures status { (result.0 ≡ 0) ⊎ ((result.0 ≡ 1) ⊎ (result.0 ≡ 3)) }
-    ensures leaves { Leaves (IsAnswer (map (λ f. f.items) files.now) question.now wanted) result.0 (writer_contents W.contents out) (writer_contents W.contents result.1) (writer_buffer result.1) }
+    ensures leaves { Leaves (IsAnswer (map (λ f. f.items) files.now) question.now wanted) result.0 (writer_contents W.contents out)
+        (writer_contents W.contents result.1) (writer_buffer result.1) }
 {
     let teller = errors_of(rt, question.tells_progress);
     match tell_unread(alloc, &teller, question, files, &wanted) {
@@ -176,7 +179,8 @@ fn ask_told<T: Renew + Sync, W: Write + Drop, E: Write, R: Threads + Wait + Sync
     err: &mut E,
 ) -> (u8, BufWriter<W>)
     ensures status { (result.0 ≡ 0) ⊎ ((result.0 ≡ 1) ⊎ (result.0 ≡ 3)) }
-    ensures leaves { Leaves (IsAnswer (map (λ f. f.items) files.now) question.now wanted) result.0 (writer_contents W.contents out) (writer_contents W.contents result.1) (writer_buffer result.1) }
+    ensures leaves { Leaves (IsAnswer (map (λ f. f.items) files.now) question.now wanted) result.0 (writer_contents W.contents out)
+        (writer_contents W.contents result.1) (writer_buffer result.1) }
 {
     let delimiter = wanted.delimiter;
     match input_of_files(alloc, question, files, wanted) {
@@ -226,7 +230,8 @@ fn run_asked<'a, T: Renew + Sync, W: Write + Drop, E: Write, R: Threads + Wait +
     err: &mut E,
 ) -> (u8, BufWriter<W>)
     ensures status { (result.0 ≡ 0) ⊎ ((result.0 ≡ 1) ⊎ (result.0 ≡ 3)) }
-    ensures leaves { Leaves (IsStrictOutput asked.now.question.now asked.now.input.now) result.0 (writer_contents W.contents out) (writer_contents W.contents result.1) (writer_buffer result.1) }
+    ensures leaves { Leaves (IsStrictOutput asked.now.question.now asked.now.input.now) result.0 (writer_contents W.contents out)
+        (writer_contents W.contents result.1) (writer_buffer result.1) }
 {
     let asking = Asking::new(
         teller,
@@ -263,7 +268,8 @@ pub(crate) fn read_files<'n, F: Folder>(
     names: &'n [Text],
 ) -> Result<Vec<Vec<u8>>, Unreadable<'n>>
     ensures told { IfOk result (λ files. AreTold (F.file folder.now) names.now (map (λ f. f.items) files.items)) }
-    ensures named { IfErr result (λ unread. IsFirstUnread (F.was_read folder.now) (F.was_refused folder.now) names.now unread.name.now ⊎ (unread.why ≡ Unread.Memory)) }
+    ensures named { IfErr result (λ unread. IsFirstUnread (F.was_read folder.now) (F.was_refused folder.now) names.now unread.name.now
+        ⊎ (unread.why ≡ Unread.Memory)) }
 {
     let Ok(room) = Vec::with_capacity(alloc, names.len()) else {
         let name = first_name(names);
@@ -328,7 +334,7 @@ fn show_table<F: Folder, W: Write + Drop, E: Write>(
     alloc: Global,
     question: SchemaQuestion,
     folder: &F,
-    mut out: BufWriter<W>,
+    out: &mut BufWriter<W>,
     err: &mut E,
 ) -> u8
     ensures { (result ≡ 0) ⊎ ((result ≡ 1) ⊎ ((result ≡ 2) ⊎ (result ≡ 3))) }
@@ -343,7 +349,7 @@ fn show_table<F: Folder, W: Write + Drop, E: Write>(
         Err(fault) => return refuse_file(names.as_slice(), fault, err),
     };
     match shown_line(alloc, names.as_slice(), &proposal) {
-        Ok(line) => show(line.as_str(), &mut out, err),
+        Ok(line) => show(line.as_str(), out, err),
         Err(_) => end_early(Ended::OutOfMemory, err),
     }
 }

@@ -36,7 +36,8 @@ pub fn join_files<F: Folder, S: Writable, W: Write + Drop, E: Write>(
 ) -> (u8, BufWriter<W>)
     ensures status { (result.0 ≡ 0) ⊎ ((result.0 ≡ 2) ⊎ (result.0 ≡ 3)) }
     ensures left { result.0 ≡ 0 → AskForJoinHelp (map string_bytes words.now)
-        ⊎ AskAndLeave (F.file folder.now) (S.writes files.old files.new) (λ IsWhole. Writes IsWhole (writer_contents W.contents out) (writer_contents W.contents result.1)) (map string_bytes words.now) }
+        ⊎ AskAndLeave (F.file folder.now) (S.writes files.old files.new)
+        (λ IsWhole. Writes IsWhole (writer_contents W.contents out) (writer_contents W.contents result.1)) (map string_bytes words.now) }
     ensures flushed { result.0 ≡ 0 → (writer_buffer out ≡ []) → writer_buffer result.1 ≡ [] }
     ensures unwritten { result.0 ≡ 2 → files.new ≡ files.old }
     ensures spared { (files.new ≡ files.old) ⊎ AskToReplace (S.may_take files.old) (map string_bytes words.now) }
@@ -58,7 +59,8 @@ fn run_join<F: Folder, S: Writable, W: Write + Drop, E: Write>(
     err: &mut E,
 ) -> (u8, BufWriter<W>)
     ensures status { (result.0 ≡ 0) ⊎ ((result.0 ≡ 2) ⊎ (result.0 ≡ 3)) }
-    ensures left { result.0 ≡ 0 → Leaves (F.file folder.now) (S.writes files.old files.new) (λ IsWhole. Writes IsWhole (writer_contents W.contents out) (writer_contents W.contents result.1)) job.now job.now.partials }
+    ensures left { result.0 ≡ 0 → Leaves (F.file folder.now) (S.writes files.old files.new)
+        (λ IsWhole. Writes IsWhole (writer_contents W.contents out) (writer_contents W.contents result.1)) job.now job.now.partials }
     ensures flushed { result.0 ≡ 0 → (writer_buffer out ≡ []) → writer_buffer result.1 ≡ [] }
     ensures unwritten { result.0 ≡ 2 → files.new ≡ files.old }
     ensures spared { (files.new ≡ files.old) ⊎ IfSome job.now.partials (λ name. S.may_take files.old name []) }
@@ -93,7 +95,8 @@ fn join_looked_at<F: Folder, S: Writable, W: Write + Drop, E: Write>(
     err: &mut E,
 ) -> (u8, BufWriter<W>)
     ensures status { (result.0 ≡ 0) ⊎ ((result.0 ≡ 2) ⊎ (result.0 ≡ 3)) }
-    ensures left { result.0 ≡ 0 → Leaves (F.file folder.now) (S.writes files.old files.new) (λ IsWhole. Writes IsWhole (writer_contents W.contents out) (writer_contents W.contents result.1)) job.now job.now.partials }
+    ensures left { result.0 ≡ 0 → Leaves (F.file folder.now) (S.writes files.old files.new)
+        (λ IsWhole. Writes IsWhole (writer_contents W.contents out) (writer_contents W.contents result.1)) job.now job.now.partials }
     ensures flushed { result.0 ≡ 0 → (writer_buffer out ≡ []) → writer_buffer result.1 ≡ [] }
     ensures unwritten { result.0 ≡ 2 → files.new ≡ files.old }
     ensures nothing { result.0 ≡ 2 → Keeps (writer_contents W.contents out) (writer_contents W.contents result.1) }

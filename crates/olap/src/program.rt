@@ -4,12 +4,12 @@ ghost use Rattle.std.specs.Io.Buffered.{writer_buffer, writer_contents};
 ghost use Rattle.std.specs.Io.KnownBytes.{Keeps};
 ghost use Rattle.script.specs.Endings.{BeginsToWrite, Writes};
 ghost use Rattle.script.specs.Givens.{givens_in};
-ghost use Rattle.script.specs.Manners.{in_form};
 ghost use Rattle.script.specs.Hows.{hash_of_choice};
 ghost use Rattle.script.specs.Stops.{HoweverFinished};
 ghost use Rattle.script.specs.Viewers.{IsRunBy, asked_of};
 ghost use Rattle.command.specs.Jobs.{IsHelp};
-ghost use Rattle.olap.specs.Programs.{AskForHelp, AskToServe, AskToWrite, IsOutputOf, IsOutputOfJob, JobServes, Serves, ServesBy};
+ghost use Rattle.olap.specs.Endings.{Ends};
+ghost use Rattle.olap.specs.Programs.{EndsAsRun, EndsAsScript, IsOutputOfJob, IsRunOf, JobServes, Serves, ServesBy};
 ghost use Rattle.olap.specs.Answering.{Answers};
 ghost use Rattle.reasons.specs.Books.{declared_in, lines_in};
 
@@ -35,15 +35,15 @@ use std::sync::Wait;
 use std::thread::Threads;
 use std::time::Clock;
 
-/// Runs what the words after the program's name ask for, over the files that they name, and gives the
-/// program's status and the writer back. What a run writes goes to `out`, and so does help; why there
-/// is no run, or why it ended early, goes to `err`.
+/// Runs what the words after the program's name ask for, over the files that they name, and gives the program's status and the writer
+/// back. What a run writes goes to `out`, and so does help; why there is no run, or why it ended early, goes to `err`.
 ///
-/// At 0 the output of that run was written whole, or the help that was asked for; where the run is strict, no line
-/// was refused, and neither was the query of its viewers. At 1 a strict run stopped after the first refused line, and its output up
-/// to that line was written; or all was written, and the viewers of the run are refused. At 2 nothing was run, since the words are refused or a file can't be read; at 3 the run ended
-/// early, or the help could not be written. `rt` starts the threads of a report's workers, and has the standard error to which reasons go, where the words
-/// ask for them by `--explain`, and how far the run is, where they ask for that by `--progress`, and the clock for it.
+/// At 0 the output of that run was written whole, or the help that was asked for; where the run is strict, no line was refused, and
+/// neither was the query of its viewers. At 1 a strict run stopped after the first refused line, and its output up to that line was
+/// written; or all was written, and the viewers of the run are refused. At 2 nothing was run, since the words are refused or a file
+/// can't be read; at 3 the run ended early, or the help could not be written. `rt` starts the threads of a report's workers, and has
+/// the standard error to which reasons go, where the words ask for them by `--explain`, and how far the run is, where they ask for that
+/// by `--progress`, and the clock for it.
 pub fn run_words<
     F: Folder,
     W: Write + Drop,
@@ -58,15 +58,10 @@ pub fn run_words<
     err: &mut E,
 ) -> (u8, BufWriter<W>)
     ensures status { (result.0 ≡ 0) ⊎ ((result.0 ≡ 1) ⊎ ((result.0 ≡ 2) ⊎ (result.0 ≡ 3))) }
-    ensures written { result.0 ≡ 0 → AskForHelp (map string_bytes given.now)
-        ⊎ Writes (AskToWrite (F.file folder.now) (map string_bytes given.now) Finish.Through) (writer_contents W.contents out) (writer_contents W.contents result.1) }
-    ensures served { result.0 ≡ 0 → AskForHelp (map string_bytes given.now) ⊎ AskToServe (F.file folder.now) (map string_bytes given.now) true }
-    ensures stopped { result.0 ≡ 1 → Writes (AskToWrite (F.file folder.now) (map string_bytes given.now) Finish.Stopped) (writer_contents W.contents out) (writer_contents W.contents result.1)
-        ⊎ (Writes (AskToWrite (F.file folder.now) (map string_bytes given.now) Finish.Through) (writer_contents W.contents out) (writer_contents W.contents result.1) × AskToServe (F.file folder.now) (map string_bytes given.now) false) }
+    ensures ends { EndsAsRun (F.file folder.now) (map string_bytes given.now) result.0
+        (writer_contents W.contents out) (writer_contents W.contents result.1) (writer_buffer result.1) }
     ensures flushed { (result.0 ≡ 0) ⊎ (result.0 ≡ 1) → writer_buffer result.1 ≡ [] }
     ensures nothing { result.0 ≡ 2 → Keeps (writer_contents W.contents out) (writer_contents W.contents result.1) }
-    ensures beginning { result.0 ≡ 3 → AskForHelp (map string_bytes given.now)
-        ⊎ BeginsToWrite (HoweverFinished (AskToWrite (F.file folder.now) (map string_bytes given.now))) (writer_contents W.contents out) (writer_contents W.contents result.1) }
 {
     match job_of(alloc, given) {
         Ok(job) => run_job(rt, alloc, &job, folder, out, err),
@@ -90,13 +85,9 @@ fn run_job<
     err: &mut E,
 ) -> (u8, BufWriter<W>)
     ensures status { (result.0 ≡ 0) ⊎ ((result.0 ≡ 1) ⊎ ((result.0 ≡ 2) ⊎ (result.0 ≡ 3))) }
-    ensures written { result.0 ≡ 0 → Writes (IsOutputOfJob (F.file folder.now) job.now Finish.Through) (writer_contents W.contents out) (writer_contents W.contents result.1) }
-    ensures served { result.0 ≡ 0 → JobServes (F.file folder.now) job.now true }
-    ensures stopped { result.0 ≡ 1 → Writes (IsOutputOfJob (F.file folder.now) job.now Finish.Stopped) (writer_contents W.contents out) (writer_contents W.contents result.1)
-        ⊎ (Writes (IsOutputOfJob (F.file folder.now) job.now Finish.Through) (writer_contents W.contents out) (writer_contents W.contents result.1) × JobServes (F.file folder.now) job.now false) }
-    ensures flushed { (result.0 ≡ 0) ⊎ (result.0 ≡ 1) → writer_buffer result.1 ≡ [] }
-    ensures nothing { result.0 ≡ 2 → Keeps (writer_contents W.contents out) (writer_contents W.contents result.1) }
-    ensures beginning { result.0 ≡ 3 → BeginsToWrite (HoweverFinished (IsOutputOfJob (F.file folder.now) job.now)) (writer_contents W.contents out) (writer_contents W.contents result.1) }
+    ensures ends { Ends (IsOutputOfJob (F.file folder.now) job.now) (HoweverFinished (IsOutputOfJob (F.file folder.now) job.now))
+        (JobServes (F.file folder.now) job.now)
+        result.0 (writer_contents W.contents out) (writer_contents W.contents result.1) (writer_buffer result.1) }
 {
     // Where there is no room for the parts, no file is read, and the first is named.
     let Ok(room) = Vec::with_capacity(alloc, job.parts.len()) else {
@@ -131,16 +122,9 @@ fn run_served<'a, T: Renew + Sync, W: Write + Drop, E: Write, R: Threads + Wait 
     err: &mut E,
 ) -> (u8, BufWriter<W>)
     ensures status { (result.0 ≡ 0) ⊎ ((result.0 ≡ 1) ⊎ (result.0 ≡ 3)) }
-    ensures written { result.0 ≡ 0 → Writes (IsRunBy job.now.on_refusal (hash_of_choice job.now.hash) (givens_in (in_form job.now.form) job.now.how.rows input.now.parts.items) job.now.live input.now.script.items Finish.Through)
-        (writer_contents W.contents out) (writer_contents W.contents result.1) }
-    ensures served { result.0 ≡ 0 → ServesBy job.now.on_refusal job.now.live input.now.script.items true }
-    ensures stopped { result.0 ≡ 1 → Writes (IsRunBy job.now.on_refusal (hash_of_choice job.now.hash) (givens_in (in_form job.now.form) job.now.how.rows input.now.parts.items) job.now.live input.now.script.items Finish.Stopped)
-        (writer_contents W.contents out) (writer_contents W.contents result.1)
-        ⊎ (Writes (IsRunBy job.now.on_refusal (hash_of_choice job.now.hash) (givens_in (in_form job.now.form) job.now.how.rows input.now.parts.items) job.now.live input.now.script.items Finish.Through)
-        (writer_contents W.contents out) (writer_contents W.contents result.1) × ServesBy job.now.on_refusal job.now.live input.now.script.items false) }
-    ensures flushed { (result.0 ≡ 0) ⊎ (result.0 ≡ 1) → writer_buffer result.1 ≡ [] }
-    ensures beginning { BeginsToWrite (HoweverFinished (IsRunBy job.now.on_refusal (hash_of_choice job.now.hash) (givens_in (in_form job.now.form) job.now.how.rows input.now.parts.items) job.now.live input.now.script.items))
-        (writer_contents W.contents out) (writer_contents W.contents result.1) }
+    ensures ends { Ends (IsRunOf job.now input.now) (HoweverFinished (IsRunOf job.now input.now))
+        (ServesBy job.now.on_refusal job.now.live input.now.script.items)
+        result.0 (writer_contents W.contents out) (writer_contents W.contents result.1) (writer_buffer result.1) }
 {
     let (status, out) = run_told(rt, alloc, teller, job, input, out, err);
     if status != WRITTEN {
@@ -206,13 +190,10 @@ fn run_told<'a, T: Renew + Sync, W: Write + Drop, E: Write, R: Threads + Wait + 
     err: &mut E,
 ) -> (u8, BufWriter<W>)
     ensures status { (result.0 ≡ 0) ⊎ ((result.0 ≡ 1) ⊎ (result.0 ≡ 3)) }
-    ensures written { result.0 ≡ 0 → Writes (IsRunBy job.now.on_refusal (hash_of_choice job.now.hash) (givens_in (in_form job.now.form) job.now.how.rows input.now.parts.items) job.now.live input.now.script.items Finish.Through)
-        (writer_contents W.contents out) (writer_contents W.contents result.1) }
-    ensures stopped { result.0 ≡ 1 → Writes (IsRunBy job.now.on_refusal (hash_of_choice job.now.hash) (givens_in (in_form job.now.form) job.now.how.rows input.now.parts.items) job.now.live input.now.script.items Finish.Stopped)
-        (writer_contents W.contents out) (writer_contents W.contents result.1) }
+    ensures written { result.0 ≡ 0 → Writes (IsRunOf job.now input.now Finish.Through) (writer_contents W.contents out) (writer_contents W.contents result.1) }
+    ensures stopped { result.0 ≡ 1 → Writes (IsRunOf job.now input.now Finish.Stopped) (writer_contents W.contents out) (writer_contents W.contents result.1) }
     ensures flushed { (result.0 ≡ 0) ⊎ (result.0 ≡ 1) → writer_buffer result.1 ≡ [] }
-    ensures beginning { BeginsToWrite (HoweverFinished (IsRunBy job.now.on_refusal (hash_of_choice job.now.hash) (givens_in (in_form job.now.form) job.now.how.rows input.now.parts.items) job.now.live input.now.script.items))
-        (writer_contents W.contents out) (writer_contents W.contents result.1) }
+    ensures beginning { BeginsToWrite (HoweverFinished (IsRunOf job.now input.now)) (writer_contents W.contents out) (writer_contents W.contents result.1) }
 {
     if job.explains || job.tells_progress {
         tell_input_quotes(alloc, teller, job, input);
@@ -271,12 +252,7 @@ pub fn run_standard_input<I: Read + Drop, W: Write + Drop, E: Write, R: Threads 
     out: BufWriter<W>,
     err: &mut E,
 ) -> (u8, BufWriter<W>)
-    ensures status { (result.0 ≡ 0) ⊎ ((result.0 ≡ 2) ⊎ (result.0 ≡ 3)) }
-    ensures written { result.0 ≡ 0 → Writes (IsOutputOf (I.remaining input)) (writer_contents W.contents out) (writer_contents W.contents result.1) }
-    ensures flushed { result.0 ≡ 0 → writer_buffer result.1 ≡ [] }
-    ensures nothing { result.0 ≡ 2 → Keeps (writer_contents W.contents out) (writer_contents W.contents result.1) }
-    ensures beginning { result.0 ≡ 3
-        → BeginsToWrite (IsOutputOf (I.remaining input)) (writer_contents W.contents out) (writer_contents W.contents result.1) }
+    ensures { EndsAsScript (I.remaining input) result.0 (writer_contents W.contents out) (writer_contents W.contents result.1) (writer_buffer result.1) }
 {
     let mut script = Vec::new(alloc);
     if let Err(error) = input.read_to_end(&mut script) {
@@ -303,10 +279,11 @@ pub fn run_standard_input<I: Read + Drop, W: Write + Drop, E: Write, R: Threads 
     )
 }
 
-/// Runs the script over the parts, tells its answers in this manner, with viewers beside it where there are some, flushes what it wrote, and gives the program's
-/// status and the writer back: 0 where the output was written whole, 1 where the run stopped after a refused line, and none of
-/// what it wrote waits in the buffer; and 3 where a beginning of it was written, and why it ended is on `err`. The gate is told of
-/// the run's steps, and of its end before that is told on `err`. The memory of the run's table is left to the system.
+/// Runs the script over the parts, tells its answers in this manner, with viewers beside it where there are some, flushes what it
+/// wrote, and gives the program's status and the writer back: 0 where the output was written whole, 1 where the run stopped after a
+/// refused line, and none of what it wrote waits in the buffer; and 3 where a beginning of it was written, and why it ended is on
+/// `err`. The gate is told of the run's steps, and of its end before that is told on `err`. The memory of the run's table is left to
+/// the system.
 pub fn run_input<'a, G: Ending, W: Write + Drop, E: Write, R: Threads + Wait + Sync>(
     rt: &'a R,
     alloc: Global,
@@ -321,12 +298,15 @@ pub fn run_input<'a, G: Ending, W: Write + Drop, E: Write, R: Threads + Wait + S
     err: &mut E,
 ) -> (u8, BufWriter<W>)
     ensures status { (result.0 ≡ 0) ⊎ ((result.0 ≡ 1) ⊎ (result.0 ≡ 3)) }
-    ensures written { result.0 ≡ 0 → Writes (IsRunBy on_refusal (hash_of_choice hash) (givens_in manner.now how.now.rows input.now.parts.items) (asked_of viewing.entry) input.now.script.items Finish.Through)
+    ensures written { result.0 ≡ 0 → Writes (IsRunBy on_refusal (hash_of_choice hash) (givens_in manner.now how.now.rows input.now.parts.items)
+        (asked_of viewing.entry) input.now.script.items Finish.Through)
         (writer_contents W.contents out) (writer_contents W.contents result.1) }
-    ensures stopped { result.0 ≡ 1 → Writes (IsRunBy on_refusal (hash_of_choice hash) (givens_in manner.now how.now.rows input.now.parts.items) (asked_of viewing.entry) input.now.script.items Finish.Stopped)
+    ensures stopped { result.0 ≡ 1 → Writes (IsRunBy on_refusal (hash_of_choice hash) (givens_in manner.now how.now.rows input.now.parts.items)
+        (asked_of viewing.entry) input.now.script.items Finish.Stopped)
         (writer_contents W.contents out) (writer_contents W.contents result.1) }
     ensures flushed { (result.0 ≡ 0) ⊎ (result.0 ≡ 1) → writer_buffer result.1 ≡ [] }
-    ensures beginning { BeginsToWrite (HoweverFinished (IsRunBy on_refusal (hash_of_choice hash) (givens_in manner.now how.now.rows input.now.parts.items) (asked_of viewing.entry) input.now.script.items))
+    ensures beginning { BeginsToWrite (HoweverFinished (IsRunBy on_refusal (hash_of_choice hash)
+        (givens_in manner.now how.now.rows input.now.parts.items) (asked_of viewing.entry) input.now.script.items))
         (writer_contents W.contents out) (writer_contents W.contents result.1) }
     ensures quiet { result.0 ≡ 0 → err.new ≡ err.old }
 {
@@ -401,11 +381,11 @@ pub fn show_help<J: Drop, W: Write + Drop, E: Write>(
     asked: Result<J, WordsFault>,
     out: BufWriter<W>,
     err: &mut E,
-) -> u8
-    ensures { (result ≡ 0) ⊎ ((result ≡ 2) ⊎ (result ≡ 3)) }
+) -> (u8, BufWriter<W>)
+    ensures { (result.0 ≡ 0) ⊎ ((result.0 ≡ 2) ⊎ (result.0 ≡ 3)) }
 {
     match asked {
-        Ok(_) => WRITTEN,
-        Err(fault) => refuse(&fault, out, err).0,
+        Ok(_) => (WRITTEN, out),
+        Err(fault) => refuse(&fault, out, err),
     }
 }

@@ -2,11 +2,10 @@
 ghost use Rattle.std.specs.Prelude.{◌≡◌, ◌⊎◌, [], map, string_bytes};
 ghost use Rattle.std.specs.Io.Buffered.{writer_buffer, writer_contents};
 ghost use Rattle.std.specs.Io.KnownBytes.{Keeps};
-ghost use Rattle.script.specs.Endings.{BeginsToWrite, Writes};
 ghost use Rattle.script.specs.Givens.{givens_in};
 ghost use Rattle.script.specs.Hows.{hash_of_choice};
-ghost use Rattle.script.specs.declared.finish.Finish.TheVariants.{Stopped, Through};
-ghost use Rattle.olap.specs.Talks.{AskForSessionHelp, AskToTalk, IsOfJob, IsTalk, IsTalkSoFar};
+ghost use Rattle.olap.specs.Endings.{Ends, NoViewers};
+ghost use Rattle.olap.specs.Talks.{EndsAsTalk, IsOfJob, IsTalk, IsTalkSoFar};
 
 use crate::ask::read_files;
 use crate::close::NOTHING_RUN;
@@ -45,13 +44,10 @@ pub fn converse<
     err: &mut E,
 ) -> (u8, BufWriter<W>)
     ensures status { (result.0 ≡ 0) ⊎ ((result.0 ≡ 1) ⊎ ((result.0 ≡ 2) ⊎ (result.0 ≡ 3))) }
-    ensures written { result.0 ≡ 0 → AskForSessionHelp (map string_bytes words.now)
-        ⊎ Writes (AskToTalk (F.file folder.now) (map string_bytes words.now) (IsTalk (I.remaining input) Through)) (writer_contents W.contents out) (writer_contents W.contents result.1) }
-    ensures stopped { result.0 ≡ 1 → Writes (AskToTalk (F.file folder.now) (map string_bytes words.now) (IsTalk (I.remaining input) Stopped)) (writer_contents W.contents out) (writer_contents W.contents result.1) }
+    ensures ends { EndsAsTalk (F.file folder.now) (I.remaining input) (map string_bytes words.now) result.0
+        (writer_contents W.contents out) (writer_contents W.contents result.1) (writer_buffer result.1) }
     ensures flushed { (result.0 ≡ 0) ⊎ (result.0 ≡ 1) → writer_buffer result.1 ≡ [] }
     ensures nothing { result.0 ≡ 2 → Keeps (writer_contents W.contents out) (writer_contents W.contents result.1) }
-    ensures beginning { result.0 ≡ 3 → AskForSessionHelp (map string_bytes words.now)
-        ⊎ BeginsToWrite (AskToTalk (F.file folder.now) (map string_bytes words.now) (IsTalkSoFar (I.remaining input))) (writer_contents W.contents out) (writer_contents W.contents result.1) }
 {
     match session_job(alloc, words) {
         Ok(job) => with_parts(rt, alloc, &job, folder, input, out, err),
@@ -76,11 +72,9 @@ fn with_parts<
     err: &mut E,
 ) -> (u8, BufWriter<W>)
     ensures status { (result.0 ≡ 0) ⊎ ((result.0 ≡ 1) ⊎ ((result.0 ≡ 2) ⊎ (result.0 ≡ 3))) }
-    ensures written { result.0 ≡ 0 → Writes (IsOfJob (F.file folder.now) job.now (IsTalk (I.remaining input) Through)) (writer_contents W.contents out) (writer_contents W.contents result.1) }
-    ensures stopped { result.0 ≡ 1 → Writes (IsOfJob (F.file folder.now) job.now (IsTalk (I.remaining input) Stopped)) (writer_contents W.contents out) (writer_contents W.contents result.1) }
-    ensures flushed { (result.0 ≡ 0) ⊎ (result.0 ≡ 1) → writer_buffer result.1 ≡ [] }
-    ensures nothing { result.0 ≡ 2 → Keeps (writer_contents W.contents out) (writer_contents W.contents result.1) }
-    ensures beginning { result.0 ≡ 3 → BeginsToWrite (IsOfJob (F.file folder.now) job.now (IsTalkSoFar (I.remaining input))) (writer_contents W.contents out) (writer_contents W.contents result.1) }
+    ensures ends { Ends (λ finish. IsOfJob (F.file folder.now) job.now (IsTalk (I.remaining input) finish))
+        (IsOfJob (F.file folder.now) job.now (IsTalkSoFar (I.remaining input))) NoViewers
+        result.0 (writer_contents W.contents out) (writer_contents W.contents result.1) (writer_buffer result.1) }
 {
     if job.parts.len() > MAX_PARTS {
         return (refuse_parts(job.parts.len(), err), out);
@@ -120,10 +114,10 @@ fn hold_job<'a, I: Read + Drop, W: Write + Drop, E: Write, G: Prompt, R: Threads
     err: &mut E,
 ) -> (u8, BufWriter<W>)
     ensures status { (result.0 ≡ 0) ⊎ ((result.0 ≡ 1) ⊎ (result.0 ≡ 3)) }
-    ensures written { result.0 ≡ 0 → Writes (IsTalk (I.remaining input) Through (hash_of_choice job.now.hash) (givens_in manner.now job.now.how.rows parts.now) job.now.on_refusal) (writer_contents W.contents out) (writer_contents W.contents result.1) }
-    ensures stopped { result.0 ≡ 1 → Writes (IsTalk (I.remaining input) Stopped (hash_of_choice job.now.hash) (givens_in manner.now job.now.how.rows parts.now) job.now.on_refusal) (writer_contents W.contents out) (writer_contents W.contents result.1) }
-    ensures flushed { (result.0 ≡ 0) ⊎ (result.0 ≡ 1) → writer_buffer result.1 ≡ [] }
-    ensures beginning { result.0 ≡ 3 → BeginsToWrite (IsTalkSoFar (I.remaining input) (hash_of_choice job.now.hash) (givens_in manner.now job.now.how.rows parts.now) job.now.on_refusal) (writer_contents W.contents out) (writer_contents W.contents result.1) }
+    ensures ends { Ends (λ finish. IsTalk (I.remaining input) finish (hash_of_choice job.now.hash)
+        (givens_in manner.now job.now.how.rows parts.now) job.now.on_refusal)
+        (IsTalkSoFar (I.remaining input) (hash_of_choice job.now.hash) (givens_in manner.now job.now.how.rows parts.now) job.now.on_refusal) NoViewers
+        result.0 (writer_contents W.contents out) (writer_contents W.contents result.1) (writer_buffer result.1) }
 {
     let holding = Holding {
         rt,

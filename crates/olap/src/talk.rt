@@ -88,14 +88,18 @@ pub fn hold<I: Read + Drop, W: Write + Drop, E: Write, G: Prompt, R: Threads + W
     err: &mut E,
 ) -> (u8, BufWriter<W>)
     ensures status { (result.0 ≡ 0) ⊎ ((result.0 ≡ 1) ⊎ (result.0 ≡ 3)) }
-    ensures written { result.0 ≡ 0 → Writes (IsTalk (I.remaining input) Finish.Through (hash_of_choice hash) (givens_in holding.now.manner.now holding.now.how.now.rows holding.now.parts.now) holding.now.on_refusal)
+    ensures written { result.0 ≡ 0 → Writes (IsTalk (I.remaining input) Finish.Through (hash_of_choice hash)
+        (givens_in holding.now.manner.now holding.now.how.now.rows holding.now.parts.now) holding.now.on_refusal)
         (writer_contents W.contents out) (writer_contents W.contents result.1) }
-    ensures stopped { result.0 ≡ 1 → Writes (IsTalk (I.remaining input) Finish.Stopped (hash_of_choice hash) (givens_in holding.now.manner.now holding.now.how.now.rows holding.now.parts.now) holding.now.on_refusal)
+    ensures stopped { result.0 ≡ 1 → Writes (IsTalk (I.remaining input) Finish.Stopped (hash_of_choice hash)
+        (givens_in holding.now.manner.now holding.now.how.now.rows holding.now.parts.now) holding.now.on_refusal)
         (writer_contents W.contents out) (writer_contents W.contents result.1) }
     ensures output { result.0 ≡ 0 → length holding.now.parts.now ≤ part_limit → IfSome (I.remaining input) (λ script. length script ≤ script_limit
-        → Writes (IsOutput (hash_of_choice hash) (givens_in holding.now.manner.now holding.now.how.now.rows holding.now.parts.now) script) (writer_contents W.contents out) (writer_contents W.contents result.1)) }
+        → Writes (IsOutput (hash_of_choice hash) (givens_in holding.now.manner.now holding.now.how.now.rows holding.now.parts.now) script)
+        (writer_contents W.contents out) (writer_contents W.contents result.1)) }
     ensures flushed { (result.0 ≡ 0) ⊎ (result.0 ≡ 1) → writer_buffer result.1 ≡ [] }
-    ensures beginning { result.0 ≡ 3 → BeginsToWrite (IsTalkSoFar (I.remaining input) (hash_of_choice hash) (givens_in holding.now.manner.now holding.now.how.now.rows holding.now.parts.now) holding.now.on_refusal)
+    ensures beginning { result.0 ≡ 3 → BeginsToWrite (IsTalkSoFar (I.remaining input) (hash_of_choice hash)
+        (givens_in holding.now.manner.now holding.now.how.now.rows holding.now.parts.now) holding.now.on_refusal)
         (writer_contents W.contents out) (writer_contents W.contents result.1) }
 {
     // The law by which what was written is the output of a script of the same lines; it does nothing.
@@ -115,8 +119,12 @@ fn talk_by<I: Read + Drop, W: Write + Drop, G: Prompt, R: Threads + Wait + Sync>
     replies: &mut Replies<W>,
 ) -> Result<Finish, Broken>
     requires { replies.old.faults ≡ 0 }
-    ensures finished { IfOk result (λ finish. Writes (IsTalk (I.remaining input) finish (hash_of_choice hash) (givens_in holding.now.manner.now holding.now.how.now.rows holding.now.parts.now) holding.now.on_refusal) (writer_contents W.contents replies.old.writer) (writer_contents W.contents replies.new.writer)) }
-    ensures beginning { OnErr result (BeginsToWrite (IsTalkSoFar (I.remaining input) (hash_of_choice hash) (givens_in holding.now.manner.now holding.now.how.now.rows holding.now.parts.now) holding.now.on_refusal) (writer_contents W.contents replies.old.writer) (writer_contents W.contents replies.new.writer)) }
+    ensures finished { IfOk result (λ finish. Writes (IsTalk (I.remaining input) finish (hash_of_choice hash)
+        (givens_in holding.now.manner.now holding.now.how.now.rows holding.now.parts.now) holding.now.on_refusal)
+        (writer_contents W.contents replies.old.writer) (writer_contents W.contents replies.new.writer)) }
+    ensures beginning { OnErr result (BeginsToWrite (IsTalkSoFar (I.remaining input) (hash_of_choice hash)
+        (givens_in holding.now.manner.now holding.now.how.now.rows holding.now.parts.now) holding.now.on_refusal)
+        (writer_contents W.contents replies.old.writer) (writer_contents W.contents replies.new.writer)) }
 {
     match hash {
         HashChoice::Fnv => talk_over::<Fnv, I, W, G, R>(holding, input, replies),
@@ -133,8 +141,12 @@ fn talk_over<
     R: Threads + Wait + Sync,
 >(holding: &Holding<'_, R, G>, input: I, replies: &mut Replies<W>) -> Result<Finish, Broken>
     requires { replies.old.faults ≡ 0 }
-    ensures finished { IfOk result (λ finish. Writes (IsTalk (I.remaining input) finish H.KeyHash-1.hash_of (givens_in holding.now.manner.now holding.now.how.now.rows holding.now.parts.now) holding.now.on_refusal) (writer_contents W.contents replies.old.writer) (writer_contents W.contents replies.new.writer)) }
-    ensures beginning { OnErr result (BeginsToWrite (IsTalkSoFar (I.remaining input) H.KeyHash-1.hash_of (givens_in holding.now.manner.now holding.now.how.now.rows holding.now.parts.now) holding.now.on_refusal) (writer_contents W.contents replies.old.writer) (writer_contents W.contents replies.new.writer)) }
+    ensures finished { IfOk result (λ finish. Writes (IsTalk (I.remaining input) finish H.KeyHash-1.hash_of
+        (givens_in holding.now.manner.now holding.now.how.now.rows holding.now.parts.now) holding.now.on_refusal)
+        (writer_contents W.contents replies.old.writer) (writer_contents W.contents replies.new.writer)) }
+    ensures beginning { OnErr result (BeginsToWrite (IsTalkSoFar (I.remaining input) H.KeyHash-1.hash_of
+        (givens_in holding.now.manner.now holding.now.how.now.rows holding.now.parts.now) holding.now.on_refusal)
+        (writer_contents W.contents replies.old.writer) (writer_contents W.contents replies.new.writer)) }
 {
     let reader = buffered(holding.alloc, input)?;
     let mut hearing = Hearing::new(holding.alloc, reader);
@@ -181,8 +193,11 @@ fn talk<
 ) -> Result<Finish, Broken>
     requires fresh { session.old ≡ unheard session.old.givens }
     requires sound { replies.old.faults ≡ 0 }
-    ensures finished { IfOk result (λ finish. Writes (IsTalk (B.remaining hearing.old.reader) finish H.KeyHash-1.hash_of session.old.givens on_refusal) (writer_contents W.contents replies.old.writer) (writer_contents W.contents replies.new.writer)) }
-    ensures beginning { OnErr result (BeginsToWrite (IsTalkSoFar (B.remaining hearing.old.reader) H.KeyHash-1.hash_of session.old.givens on_refusal) (writer_contents W.contents replies.old.writer) (writer_contents W.contents replies.new.writer)) }
+    ensures finished { IfOk result (λ finish. Writes (IsTalk
+        (B.remaining hearing.old.reader) finish H.KeyHash-1.hash_of session.old.givens on_refusal) (writer_contents W.contents replies.old.writer)
+        (writer_contents W.contents replies.new.writer)) }
+    ensures beginning { OnErr result (BeginsToWrite (IsTalkSoFar (B.remaining hearing.old.reader) H.KeyHash-1.hash_of session.old.givens on_refusal)
+        (writer_contents W.contents replies.old.writer) (writer_contents W.contents replies.new.writer)) }
 {
     for _ in 0..u64::MAX {
         let Ok(()) = replies.flush() else {

@@ -7,9 +7,9 @@ use Rattle.csv.specs.Reading.{strip_bom}
 use Rattle.csv.specs.Writing.{comma, default_writer, read_back, row_text}
 use Rattle.csv.specs.declared.parser.State.TheVariants as st
 use Rattle.csv.proofs.RoundTrip.{read-write}
-use Rattle.prepare.specs.Files.{Fields, records_at, records_of}
+use Rattle.records.specs.Records.{Fields, records_at, records_of}
 use Rattle.prepare.specs.Parts.{text_of}
-use Rattle.prepare.proofs.RecordsLemmas.{records_at-end, records_at-more}
+use Rattle.records.specs.Laws.{records_at-end, records_at-more}
 
 read_all : (rows : List Fields) → records_at comma st.StartRecord (text_of rows) ≡ map read_back rows
 unfolding next_record

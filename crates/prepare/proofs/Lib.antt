@@ -1,4 +1,3 @@
-mod FieldsLemmas
 mod HeaderLemmas
 mod IntegersLemmas
 mod KeysLemmas
@@ -8,9 +7,6 @@ mod PartLemmas
 mod PrintedLemmas
 mod QuotesLemmas
 mod QuotesRunLemmas
-mod ReaderLemmas
-mod RecordsLemmas
 mod RowsLemmas
-mod StatesLemmas
 mod TypesLemmas
 mod WordsLemmas

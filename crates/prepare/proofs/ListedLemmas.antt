@@ -1,6 +1,6 @@
 -- Columns that fields name, one after another.
-use Rattle.std.proofs.Common.{refl, ap, sym, subst, ◌∙◌, ◌≡◌, ◌<◌, ◌≤◌, ◌+◌, arith, ℕ, Bool, true, false, ◌&&◌, ◌||◌, List, [], ◌∷◌, ◌++◌, length, map, take, get_or}
-use Rattle.std.proofs.lemmas.List.{length-map, map-append, take_all, take_more, take-map}
+use Rattle.std.proofs.Common.{refl, ap, sym, subst, ◌∙◌, ◌≡◌, ◌<◌, ◌+◌, arith, ℕ, Bool, true, false, ◌&&◌, ◌||◌, List, [], ◌∷◌, ◌++◌, length, map, take, get_or}
+use Rattle.std.proofs.lemmas.List.{length-map, map-append, take_more, take-map}
 use Rattle.std.proofs.lemmas.List.Folds.{list_all-append}
 use Rattle.std.proofs.lemmas.Map.Keys.{IsDistinct-push}
 use Rattle.std.proofs.lemmas.Str.{IsUtf8-from_is_utf8, is_utf8-from_IsUtf8}
@@ -9,7 +9,7 @@ use Rattle.std.specs.Cmp.Lexicographic.{nat_list_eq_equiv}
 use Rattle.std.specs.List.{IsDistinct, list_all, list_any}
 use Rattle.std.specs.Prelude.{IsUtf8, bytes_eq}
 use Rattle.std.specs.Str.{is_utf8}
-use Rattle.prepare.specs.Files.{Fields}
+use Rattle.records.specs.Records.{Fields}
 use Rattle.prepare.specs.Listed as spec
 use Rattle.prepare.specs.Listed.{IsAgain, IsNoText, Naming, naming_of, words_in}
 use Rattle.prepare.specs.declared.choice.Chosen.{Chosen}

@@ -4,7 +4,7 @@ use Rattle.std.proofs.lemmas.Bool.{cases_Bool}
 use Rattle.std.proofs.lemmas.Bool.Decides.{nat_tests}
 use Rattle.std.proofs.lemmas.List.{append-nil, drop_more, length-append, length-take-le, take_more}
 use Rattle.std.specs.Prelude.{Ok, Err, if◌then◌else◌}
-use Rattle.prepare.specs.Quotes.{AreFields, Ended, IsBare, IsEnded, IsField, IsFollowed, IsMisquoted, IsOpen, IsStray, IsWellQuoted, doubled, in_quotes, joined, kind_of, step}
+use Rattle.prepare.specs.Quotes.{AreFields, Ended, IsBare, IsEnded, IsField, IsFollowed, IsMisquoted, IsOpen, IsStray, doubled, in_quotes, joined, kind_of, step}
 use Rattle.prepare.specs.declared.quotes.Kind.{Kind}
 use Rattle.prepare.specs.declared.quotes.Kind.TheVariants as kind
 use Rattle.prepare.specs.declared.quotes.QuoteFault.{QuoteFault}

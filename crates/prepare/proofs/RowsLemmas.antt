@@ -6,9 +6,9 @@ use Rattle.csv.specs.Machine.{next_record}
 use Rattle.csv.specs.Reading.{strip_bom}
 use Rattle.csv.specs.Writing.{comma}
 use Rattle.csv.specs.declared.parser.State.TheVariants as st
-use Rattle.prepare.specs.Files.{Fields, records_of}
+use Rattle.records.specs.Records.{Fields, records_of}
 use Rattle.prepare.specs.Proposals.{rows_of}
-use Rattle.prepare.proofs.RecordsLemmas.{records_at-end}
+use Rattle.records.specs.Laws.{records_at-end}
 
 -- no byte is no record
 none_in_nothing : records_of comma [] ≡ []

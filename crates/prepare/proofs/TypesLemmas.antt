@@ -1,12 +1,12 @@
 -- Types of columns, record by record.
 use Rattle.std.proofs.Common.{refl, ap, sym, ◌∙◌, ◌≡◌, ◌<◌, ℕ, Bool, true, false, ◌&&◌, List, [], ◌∷◌, ◌++◌, length, append_assoc, arith, ◌≤◌, ◌≢◌, ◌+◌, below_more, get_or-set_other, get_or-set_same}
-use Rattle.std.proofs.lemmas.List.{append-nil, map-append}
+use Rattle.std.proofs.lemmas.List.{map-append}
 use Rattle.std.proofs.lemmas.List.Folds.{list_all-append}
 use Rattle.std.specs.List.{list_all, slice_index_or, slice_set}
 use Rattle.std.specs.Prelude.{if◌then◌else◌}
 use Rattle.cells.specs.declared.schema.ColumnType.{ColumnType}
 use Rattle.cells.specs.declared.schema.ColumnType.TheVariants.{Int, Text}
-use Rattle.prepare.specs.Files.{Fields}
+use Rattle.records.specs.Records.{Fields}
 use Rattle.prepare.specs.Proposals.{AreTypes, column_of, field_in, fits_int, narrowed, type_of}
 
 -- all records are those that were read and those that are left, and these are the types of the first

@@ -6,7 +6,7 @@ use Rattle.csv.specs.Records.{trimmed}
 use Rattle.csv.specs.Writing.{comma}
 use Rattle.cells.specs.declared.token.Token.{Token}
 use Rattle.cells.specs.declared.token.Token.TheVariants.{Word, Number, Quoted, Mark}
-use Rattle.prepare.specs.Files.{Fields, records_of}
+use Rattle.records.specs.Records.{Fields, records_of}
 use Rattle.prepare.specs.Words.{word_of}
 use Rattle.prepare.specs.declared.choice.Chosen.{Chosen}
 use Rattle.prepare.specs.declared.listed.Form.{Form}

@@ -6,7 +6,7 @@ use Rattle.std.specs.declared.alloc.Global.{Global}
 use Rattle.csv.specs.Reading.{strip_bom}
 use Rattle.csv.specs.Records.{field_at, trimmed}
 use Rattle.csv.specs.Writing.{default_writer, row_text}
-use Rattle.prepare.specs.Files.{Fields, records_of}
+use Rattle.records.specs.Records.{Fields, records_of}
 use Rattle.prepare.specs.Quotes.{IsMisquotedFile, IsWellQuoted}
 use Rattle.prepare.specs.Words.{is_same_name, word_of}
 use Rattle.prepare.specs.declared.choice.Choice.{Choice}

@@ -9,7 +9,7 @@ use Rattle.csv.specs.Writing.{comma}
 use Rattle.cells.specs.Integers.{integer_of}
 use Rattle.cells.specs.declared.schema.ColumnType.{ColumnType}
 use Rattle.cells.specs.declared.schema.ColumnType.TheVariants.{Int, Text}
-use Rattle.prepare.specs.Files.{Fields, records_of}
+use Rattle.records.specs.Records.{Fields, records_of}
 
 -- the records of parts, without their headers
 abbrev pub rows_of : List (List ℕ) → List Fields

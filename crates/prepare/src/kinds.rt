@@ -44,7 +44,8 @@ fn all_int(alloc: Global, count: usize) -> Result<Vec<ColumnType>, AllocError>
 
 /// The types of columns that have one record more.
 fn narrow(types: &mut [ColumnType], row: &ByteRecord)
-    ensures { (place : ℕ) → place < length types.old → slice_index_or types.new place Text ≡ narrowed (slice_index_or types.old place Text) (field_in place (fields_of row.now)) }
+    ensures { (place : ℕ) → place < length types.old → slice_index_or types.new place Text ≡ narrowed (slice_index_or types.old place Text)
+        (field_in place (fields_of row.now)) }
 {
     for (place, kind) in types.iter_mut().enumerate() {
         *kind = narrowed(*kind, field_in(row, place));

@@ -2,7 +2,7 @@
 ghost use Rattle.std.specs.Prelude.{◌≡◌, ℕ, List, map};
 ghost use Rattle.csv.specs.Reading.{strip_bom};
 ghost use Rattle.csv.specs.Writing.{comma, read_back};
-ghost use Rattle.prepare.specs.Files.{Fields, records_of};
+ghost use Rattle.records.specs.Records.{Fields, records_of};
 ghost use Rattle.prepare.specs.Parts.{text_of};
 ghost use Rattle.prepare.specs.Quotes.{IsMisquoted, IsWellQuoted};
 ghost use Rattle.prepare.specs.declared.quotes.QuoteFault.{QuoteFault};

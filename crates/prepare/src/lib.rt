@@ -14,7 +14,6 @@ mod part;
 mod place;
 mod quotes;
 mod record;
-mod records;
 mod rows;
 mod texts;
 mod words;
@@ -29,6 +28,5 @@ pub use listed::{ListFault, columns_of, first_again, header_of, listed_columns, 
 pub use part::{MadePart, prepared};
 pub use place::line_of;
 pub use quotes::{QuoteFault, misquoted};
-pub use records::Records;
 pub use texts::{TextField, first_text};
 pub use words::{name_of, word};

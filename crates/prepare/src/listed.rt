@@ -1,17 +1,17 @@
 //! Columns of a file, under the names that they get in a table.
 ghost use Rattle.std.specs.Prelude.{◌≡◌, ◌==◌, ◌<◌, IfErr, IfNone, IfOk, IfSome, bytes_eq, filter, length, map, option_map, position};
 ghost use Rattle.std.specs.List.{IsDistinct, list_any};
-ghost use Rattle.prepare.specs.Files.{records_of};
+ghost use Rattle.records.specs.Records.{records_of};
 ghost use Rattle.prepare.specs.Listed.{IsAgain, IsColumn, IsListFault, by_name, header_in, is_named, is_word, listed_in, naming_by, naming_of, words_in};
 ghost use Rattle.prepare.specs.Words.{word_of};
 ghost use Rattle.prepare.specs.declared.listed.ListFault.TheVariants.{OutOfMemory};
 
 use crate::choice::Chosen;
-use crate::part::{fields, lent};
-use crate::records::Records;
+use crate::part::lent;
 use crate::words::word_text;
 use cells::{Text, Token};
 use csv::ByteRecord;
+use records::{Records, fields};
 use std::alloc::{AllocError, AllocFailed, Global};
 use thiserror::Error;
 

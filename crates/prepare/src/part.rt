@@ -2,7 +2,7 @@
 ghost use Rattle.std.specs.Prelude.{◌≡◌, ◌++◌, ◌+◌, ◌<◌, ◌^◌, IfErr, IfOk, length, map};
 ghost use Rattle.csv.specs.Records.{fields_of};
 ghost use Rattle.csv.specs.Writing.{default_writer, row_text};
-ghost use Rattle.prepare.specs.Files.{records_of};
+ghost use Rattle.records.specs.Records.{records_of};
 ghost use Rattle.prepare.specs.Parts.{IsFault, IsFaultOfFile, IsPart, IsPartOfFile, IsTextAfter, headed, part_of, records_from, words_of};
 
 use crate::choice::Choice;
@@ -11,8 +11,8 @@ use crate::header::{places_of, words_of};
 use crate::lines::Lines;
 use crate::quotes::misquoted;
 use crate::record::{Layout, trim};
-use crate::records::Records;
 use csv::ByteRecord;
+use records::{Records, fields};
 use std::alloc::{AllocError, Global};
 
 /// A part that was made of a file.
@@ -62,17 +62,6 @@ fn of_records(alloc: Global, bytes: &[u8], choice: &Choice) -> Result<MadePart, 
         width: names.len(),
     };
     with_records(alloc, records, &layout, lines)
-}
-
-/// The fields of a record.
-pub(crate) fn fields<'r>(alloc: Global, row: &'r ByteRecord) -> Result<Vec<&'r [u8]>, AllocError>
-    ensures { IfOk result (λ v. map (λ f. f.now) v.items ≡ fields_of row.entry.now) }
-{
-    let mut fields = Vec::new(alloc);
-    for field in row {
-        fields.push(field)?;
-    }
-    Ok(fields)
 }
 
 /// The header of the part.

@@ -29,7 +29,8 @@ impl<'c> Layout<'c> {
         number: u64,
         row: &mut ByteRecord,
     ) -> Result<(), AllocError>
-        ensures { OnOk result (lines.new ≡ lines.old ++ row_text default_writer (record_of self.now.choice.now self.now.places.items number (fields_of row.old))) }
+        ensures { OnOk result (lines.new ≡ lines.old ++ row_text default_writer
+            (record_of self.now.choice.now self.now.places.items number (fields_of row.old))) }
     {
         trim(self.choice, row)?;
         let digits = digits(alloc, self.choice, number)?;
@@ -51,7 +52,8 @@ pub(crate) fn trim(choice: &Choice, row: &mut ByteRecord) -> Result<(), AllocErr
 
 /// The digits of a record's number, where records are counted.
 fn digits(alloc: Global, choice: &Choice, number: u64) -> Result<String, AllocError>
-    ensures { IfOk result (λ digits. first_field choice.now.number (string_bytes digits) ≡ first_field choice.now.number (decimal (choice.now.counted + number))) }
+    ensures { IfOk result (λ digits. first_field choice.now.number (string_bytes digits) ≡ first_field choice.now.number
+        (decimal (choice.now.counted + number))) }
 {
     if choice.number.is_none() {
         return Ok(String::new(alloc));
@@ -82,7 +84,8 @@ fn with_fields<'f>(
     places: &[usize],
     row: &'f ByteRecord,
 ) -> Result<Vec<&'f [u8]>, AllocError>
-    ensures { IfOk result (λ all. map (λ f. f.now) all.items ≡ map (λ f. f.now) fields.entry.items ++ map (field_of choice.now (fields_of row.entry.now)) places.now) }
+    ensures { IfOk result (λ all. map (λ f. f.now) all.items ≡ map (λ f. f.now) fields.entry.items ++ map
+        (field_of choice.now (fields_of row.entry.now)) places.now) }
 {
     for place in places {
         fields.push(field_of(choice, row, *place))?;

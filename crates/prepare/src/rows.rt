@@ -3,11 +3,11 @@ ghost use Rattle.std.specs.Prelude.{◌≡◌, ◌∷◌, [], IfOk, drop, map};
 ghost use Rattle.std.specs.Bool.{MatchBool};
 ghost use Rattle.csv.specs.Records.{fields_of};
 ghost use Rattle.csv.specs.Writing.{comma};
-ghost use Rattle.prepare.specs.Files.{records_of};
+ghost use Rattle.records.specs.Records.{records_of};
 ghost use Rattle.prepare.specs.Proposals.{field_in, rows_of};
 
-use crate::records::Records;
 use csv::ByteRecord;
+use records::Records;
 use std::alloc::{AllocError, Global};
 use std::marker::Model;
 

@@ -3,9 +3,9 @@ ghost use Rattle.std.specs.Prelude.{◌≡◌, IfOk, IfSome, false};
 ghost use Rattle.prepare.specs.Proposals.{fits_int};
 
 use crate::kinds::fits_int;
-use crate::records::Records;
 use crate::rows::field_in;
 use csv::ByteRecord;
+use records::Records;
 use std::alloc::{AllocError, Global};
 
 /// A field of a part that is no integer as it is printed.

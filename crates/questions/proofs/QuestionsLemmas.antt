@@ -1,11 +1,11 @@
 -- The lines of the script that asks, piece by piece.
-use Rattle.std.proofs.Common.{refl, ap, sym, ◌∙◌, ◌≡◌, ◌<◌, ◌≤◌, ◌+◌, ◌++◌, ℕ, zero, suc, List, [], ◌∷◌, length, drop, get_or, add-one, arith, append_assoc}
+use Rattle.std.proofs.Common.{ap, sym, ◌∙◌, ◌≡◌, ◌+◌, ◌++◌, ℕ, zero, suc, List, [], ◌∷◌, drop, add-one, arith, append_assoc}
 use Rattle.std.proofs.lemmas.Grind.{flat_map-append}
-use Rattle.std.proofs.lemmas.List.{append-nil, drop_all, drop_more}
+use Rattle.std.proofs.lemmas.List.{append-nil}
 use Rattle.std.proofs.lemmas.List.Concat.{flat_map-cons}
 use Rattle.std.specs.List.{flat_map, range_with_len}
 use Rattle.cells.specs.declared.schema.Column.{Column}
-use Rattle.questions.specs.Questions.{column_text, columns_text}
+use Rattle.questions.specs.Questions.{columns_text}
 
 -- the columns that are left stand behind those that were written
 pub record Written (start : List ℕ) (key : ℕ) (columns : List Column) (place : ℕ) (text : List ℕ) : Type 0 where

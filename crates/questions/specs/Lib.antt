@@ -1,3 +1,4 @@
+pub mod Asking
 pub mod Options
 pub mod Proposals
 pub mod Questions

@@ -1,10 +1,11 @@
 -- The table that is proposed for files, and the parts that are made of them.
-use Rattle.std.specs.Prelude.{◌≡◌, ◌+◌, ◌⊎◌, Bool, ℕ, List, [], ◌∷◌, Option, Some, None, Vec, Ok, filter, length, map, take, unwrap_or}
+use Rattle.std.specs.Prelude.{◌≡◌, ◌+◌, ◌<◌, ◌≤◌, Bool, ℕ, List, [], ◌∷◌, Option, Some, None, Vec, Ok, filter, length, map, take, unwrap_or}
 use Rattle.std.specs.List.{slice_index_or}
 use Rattle.std.specs.declared.alloc.Global.{Global}
+use Rattle.cells.specs.Limits.{column_limit}
 use Rattle.cells.specs.Reading.{tokens_of}
 use Rattle.cells.specs.declared.schema.ColumnType.{ColumnType}
-use Rattle.prepare.specs.Files.{Fields, records_of}
+use Rattle.records.specs.Records.{Fields, records_of}
 use Rattle.prepare.specs.Listed.{by_name, header_in, is_named, naming_of, words_in}
 use Rattle.prepare.specs.Parts.{HasRightQuotes, headed, part_of, text_of}
 use Rattle.prepare.specs.Proposals.{AreTypes, HasNoKey, IsFirstKey, rows_of}
@@ -104,11 +105,12 @@ pub record AreAll (file : List ℕ) (delimiter : ℕ) (trims : Bool) (columns : 
   pub header : header_in trims (records_of delimiter file) ≡ Some names
   pub named : map naming_of columns ≡ map by_name names
 
--- all columns of the first file, or those of them that the query names
+-- all columns of the first file, where a table may have so many, and else those of them that the query names
 pub record AreOfFile (files : List (List ℕ)) (delimiter : ℕ) (trims : Bool) (query : Option (List ℕ)) (columns : List Chosen) : Type 0 where
   pub all : List Chosen
   pub are_all : AreAll (slice_index_or files 0 []) delimiter trims all
-  pub are : (columns ≡ all) ⊎ ((text : List ℕ) × (query ≡ Some text) × (columns ≡ filter (is_named (unwrap_or (tokens_of text) [])) all))
+  pub few : length all ≤ column_limit → columns ≡ all
+  pub many : column_limit < length all → (text : List ℕ) × (query ≡ Some text) × (columns ≡ filter (is_named (unwrap_or (tokens_of text) [])) all)
 
 -- those that were listed, or those of the file
 abbrev pub AreWanted : List (List ℕ) → Wanted → Option (List ℕ) → Option (Vec Chosen Global) → Vec Chosen Global → Type 0

@@ -1,52 +1,11 @@
 //! The words of `query` and `schema`: options, which may stand anywhere, and names.
-ghost use Rattle.std.specs.Prelude.{◌≡◌, ◌++◌, [], IfOk, OnOk, false, map, string_bytes, true};
-ghost use Rattle.questions.specs.Options.{AreAmong, TakesWord, asks_for_help, texts};
+ghost use Rattle.std.specs.Prelude.{◌≡◌, ◌++◌, ◌∷◌, ◌||◌, ◌≤◌, [], IfOk, OnOk, codes, false, length, map, option_map, string_bytes};
+ghost use Rattle.questions.specs.Options.{TakesWord, has_flag, is_flag, item, items, items_of, named, names_in, takes_value, valued, value_in};
 ghost use Rattle.questions.specs.declared.options.OptionFault.TheVariants.{OutOfMemory};
 
 use script::{ROWS, WORKERS};
 use std::alloc::{AllocError, AllocFailed, Global};
 use thiserror::Error;
-
-/// An option that takes a value.
-#[derive(Clone, Copy, Drop)]
-pub enum Valued {
-    /// `--columns`: the columns that are read.
-    Columns,
-    /// `--delimiter`: what stands between two fields.
-    Delimiter,
-    /// `--number`: a column that counts.
-    Number,
-    /// `--null`: the word for NULL.
-    Null,
-    /// `--workers`: how many threads work.
-    Workers,
-    /// `--rows`: the most rows.
-    Rows,
-    /// `--format`: the form of the answer.
-    Format,
-    /// `--order`: by which columns the answer's rows are sorted.
-    Order,
-    /// `--limit`: how many rows are shown.
-    Limit,
-}
-
-impl Valued {
-    /// The option of this name, which stands behind `--`.
-    fn named(name: &str) -> Option<Valued> {
-        match name {
-            "columns" => Some(Valued::Columns),
-            "delimiter" => Some(Valued::Delimiter),
-            "number" => Some(Valued::Number),
-            "null" => Some(Valued::Null),
-            "workers" => Some(Valued::Workers),
-            "rows" => Some(Valued::Rows),
-            "format" => Some(Valued::Format),
-            "order" => Some(Valued::Order),
-            "limit" => Some(Valued::Limit),
-            _ => None,
-        }
-    }
-}
 
 /// An option that has a range.
 #[derive(Clone, Copy, Debug, Drop, Error)]
@@ -131,71 +90,95 @@ impl<'w, T: Drop> From<AllocFailed<T>> for OptionFault<'w> {
     }
 }
 
-/// The words, parted: what was given for each option, and the words that belong to none.
+/// What a word says, or two of them.
+#[derive(Clone, Copy, Drop)]
+enum Said<'w> {
+    /// A name: a query or a file.
+    Name(&'w str),
+    /// An option that takes no value.
+    Flag(&'w str),
+    /// An option, and its value.
+    Value(&'w str, &'w str),
+}
+
+/// The words, parted: options, which may stand anywhere, and names.
 #[derive(Drop)]
 pub struct Parted<'w> {
-    /// The value of `--columns`.
-    pub columns: Option<&'w str>,
-    /// The value of `--delimiter`.
-    pub delimiter: Option<&'w str>,
-    /// The value of `--number`.
-    pub number: Option<&'w str>,
-    /// The value of `--null`.
-    pub null: Option<&'w str>,
-    /// The value of `--workers`.
-    pub workers: Option<&'w str>,
-    /// The value of `--rows`.
-    pub rows: Option<&'w str>,
-    /// The value of `--format`.
-    pub format: Option<&'w str>,
-    /// The value of `--order`.
-    pub order: Option<&'w str>,
-    /// The value of `--limit`.
-    pub limit: Option<&'w str>,
-    /// Whether blanks round a field count for nothing.
-    pub trims: bool,
-    /// Whether quotes are read as they stand.
-    pub lenient: bool,
-    /// Whether standard error tells how far the run is.
-    pub tells_progress: bool,
-    /// Whether help is asked for.
-    pub helps: bool,
-    /// The query and the files, in their order.
-    pub names: Vec<&'w str>,
+    said: Vec<Said<'w>>,
 }
 
 impl<'w> Parted<'w> {
-    /// Nothing was given.
-    fn new(alloc: Global) -> Parted<'w>
-        ensures names { texts result.names ≡ [] }
-        ensures helps { result.helps ≡ false }
+    /// The value that an option is given.
+    pub fn value(&self, option: &str) -> Option<&'w str>
+        ensures { option_map (λ w. w.now) result ≡ value_in option.now (items_of self.now) }
     {
-        Parted {
-            columns: None,
-            delimiter: None,
-            number: None,
-            null: None,
-            workers: None,
-            rows: None,
-            format: None,
-            order: None,
-            limit: None,
-            trims: false,
-            lenient: false,
-            tells_progress: false,
-            helps: false,
-            names: Vec::new(alloc),
+        for said in &self.said {
+            if let Said::Value(given, value) = said {
+                if *given == option {
+                    return Some(value);
+                }
+            }
         }
+        None
+    }
+
+    /// Whether an option is given that takes no value.
+    pub fn has(&self, flag: &str) -> bool
+        ensures { result ≡ has_flag flag.now (items_of self.now) }
+    {
+        for said in &self.said {
+            if let Said::Flag(given) = said {
+                if *given == flag {
+                    return true;
+                }
+            }
+        }
+        false
+    }
+
+    /// Whether help is asked for.
+    pub fn asks_for_help(&self) -> bool
+        ensures { result ≡ (has_flag (codes "--help") (items_of self.now) || has_flag (codes "-h") (items_of self.now)) }
+    {
+        self.has("--help") || self.has("-h")
+    }
+
+    /// The names, in their order: the query and the files.
+    pub fn names(&self, alloc: Global) -> Result<Vec<&'w str>, AllocError>
+        ensures { IfOk result (λ names. map (λ w. w.now) names.items ≡ names_in (items_of self.now)) }
+    {
+        let mut names = Vec::new(alloc);
+        for said in &self.said {
+            if let Said::Name(name) = said {
+                names.push(*name)?;
+            }
+        }
+        Ok(names)
     }
 
     /// Takes words that are names.
     fn take_names(&mut self, words: &'w [String]) -> Result<(), OptionFault<'w>>
-        ensures names { OnOk result (texts self.new.names ≡ texts self.old.names ++ map string_bytes words.entry.now) }
-        ensures helps { OnOk result (self.new.helps ≡ self.old.helps) }
+        ensures { OnOk result (items_of self.new ≡ items_of self.old ++ map named (map string_bytes words.entry.now)) }
     {
         for word in words {
-            self.names.push(word.as_str())?;
+            self.said.push(Said::Name(word.as_str()))?;
         }
+        Ok(())
+    }
+
+    /// Takes the value of an option, which stands in this word.
+    fn take_value(
+        &mut self,
+        option: &'w str,
+        value: &'w str,
+        word: &'w str,
+    ) -> Result<(), OptionFault<'w>>
+        ensures { OnOk result (items_of self.new ≡ items_of self.old ++ valued option.entry.now value.entry.now ∷ []) }
+    {
+        if self.value(option).is_some() {
+            return Err(OptionFault::Twice(word));
+        }
+        self.said.push(Said::Value(option, value))?;
         Ok(())
     }
 
@@ -205,58 +188,49 @@ impl<'w> Parted<'w> {
         word: &'w str,
         later: &'w [String],
     ) -> Result<&'w [String], OptionFault<'w>>
-        ensures { IfOk result (λ rest. TakesWord self.old self.new word.entry.now later.entry.now rest.now) }
+        ensures takes { IfOk result (λ rest. TakesWord (items_of self.old) (items_of self.new) word.entry.now (map string_bytes later.entry.now)
+            (map string_bytes rest.now)) }
+        ensures fewer { IfOk result (λ rest. length rest.now ≤ length later.entry.now) }
     {
-        match word {
-            "--help" => self.helps = true,
-            "-h" => self.helps = true,
-            "--trim" => self.trims = true,
-            "--lenient-quotes" => self.lenient = true,
-            "--progress" => self.tells_progress = true,
-            word => return part_word(self, word, later),
+        if takes_value(word) {
+            let Some((value, rest)) = later.split_first() else {
+                return Err(OptionFault::NoValue(word));
+            };
+            self.take_value(word, value.as_str(), word)?;
+            return Ok(rest);
         }
+        self.take_one(word)?;
         Ok(later)
     }
 
-    /// Takes the value of an option, which stands in this word.
-    fn take(&mut self, option: Valued, word: &'w str, value: &'w str) -> Result<(), OptionFault<'w>>
-        ensures names { self.new.names ≡ self.old.names }
-        ensures helps { self.new.helps ≡ self.old.helps }
+    /// Takes a word that takes no other.
+    fn take_one(&mut self, word: &'w str) -> Result<(), OptionFault<'w>>
+        ensures { takes_value word.entry.now ≡ false → OnOk result (items_of self.new ≡ items_of self.old ++ item word.entry.now ∷ []) }
     {
-        match option {
-            Valued::Columns => put(&mut self.columns, word, value),
-            Valued::Delimiter => put(&mut self.delimiter, word, value),
-            Valued::Number => put(&mut self.number, word, value),
-            Valued::Null => put(&mut self.null, word, value),
-            Valued::Workers => put(&mut self.workers, word, value),
-            Valued::Rows => put(&mut self.rows, word, value),
-            Valued::Format => put(&mut self.format, word, value),
-            Valued::Order => put(&mut self.order, word, value),
-            Valued::Limit => put(&mut self.limit, word, value),
+        if is_flag(word) {
+            self.said.push(Said::Flag(word))?;
+            return Ok(());
         }
+        if let Some((option, value)) = word.split_once('=') {
+            if takes_value(option) {
+                return self.take_value(option, value, word);
+            }
+        }
+        if is_dashed(word) {
+            return Err(unknown(word));
+        }
+        self.said.push(Said::Name(word))?;
+        Ok(())
     }
 }
 
-/// Puts the value of an option, which stands in this word, into its place.
-fn put<'w>(
-    place: &mut Option<&'w str>,
-    word: &'w str,
-    value: &'w str,
-) -> Result<(), OptionFault<'w>> {
-    if place.is_some() {
-        return Err(OptionFault::Twice(word));
-    }
-    *place = Some(value);
-    Ok(())
-}
-
-/// Parts the words. After the word `--` all are names. Help is asked for only where a word asks for it, and the names are some of
-/// the words, in their order.
+/// Parts the words. After the word `--` all are names.
 pub fn part_words<'w>(alloc: Global, words: &'w [String]) -> Result<Parted<'w>, OptionFault<'w>>
-    ensures names { IfOk result (λ parted. AreAmong (texts parted.names) (map string_bytes words.now)) }
-    ensures help { IfOk result (λ parted. parted.helps ≡ true → asks_for_help (map string_bytes words.now) ≡ true) }
+    ensures { IfOk result (λ parted. items_of parted ≡ items (map string_bytes words.now)) }
 {
-    let mut parted = Parted::new(alloc);
+    let mut parted = Parted {
+        said: Vec::new(alloc),
+    };
     let mut rest = words;
     while let Some((word, later)) = rest.split_first() {
         if word.as_str() == "--" {
@@ -268,45 +242,41 @@ pub fn part_words<'w>(alloc: Global, words: &'w [String]) -> Result<Parted<'w>, 
     Ok(parted)
 }
 
-/// Takes a word that is no flag, with the next one where that is its value, and gives what follows.
-fn part_word<'w>(
-    parted: &mut Parted<'w>,
-    word: &'w str,
-    later: &'w [String],
-) -> Result<&'w [String], OptionFault<'w>>
-    ensures { IfOk result (λ rest. TakesWord parted.old parted.new word.entry.now later.entry.now rest.now) }
+/// Whether the word is an option that takes a value.
+fn takes_value(word: &str) -> bool
+    ensures { result ≡ takes_value word.now }
 {
-    if word.len() < 2 || !word.starts_with('-') {
-        parted.names.push(word)?;
-        return Ok(later);
-    }
-    let Some(text) = word.strip_prefix("--") else {
-        return Err(OptionFault::Unknown(word));
-    };
-    if let Some((name, value)) = text.split_once('=') {
-        let Some(option) = Valued::named(name) else {
-            return Err(unknown(name, word));
-        };
-        parted.take(option, word, value)?;
-        return Ok(later);
-    }
-    let Some(option) = Valued::named(text) else {
-        return Err(OptionFault::Unknown(word));
-    };
-    let Some((value, rest)) = later.split_first() else {
-        return Err(OptionFault::NoValue(word));
-    };
-    parted.take(option, word, value.as_str())?;
-    Ok(rest)
+    word == "--columns"
+        || word == "--delimiter"
+        || word == "--number"
+        || word == "--null"
+        || word == "--workers"
+        || word == "--rows"
+        || word == "--format"
+        || word == "--order"
+        || word == "--limit"
 }
 
-/// Why a word with a `=` is no option.
-fn unknown<'w>(name: &str, word: &'w str) -> OptionFault<'w> {
-    match name {
-        "trim" => OptionFault::Value(word),
-        "lenient-quotes" => OptionFault::Value(word),
-        "progress" => OptionFault::Value(word),
-        "help" => OptionFault::Value(word),
+/// Whether the word is an option that takes none.
+fn is_flag(word: &str) -> bool
+    ensures { result ≡ is_flag word.now }
+{
+    word == "--help"
+        || word == "-h"
+        || word == "--trim"
+        || word == "--lenient-quotes"
+        || word == "--progress"
+}
+
+/// Whether the word begins as an option does. A dash alone is a name.
+fn is_dashed(word: &str) -> bool {
+    word.len() > 1 && word.starts_with('-')
+}
+
+/// Why a word is no option.
+fn unknown(word: &str) -> OptionFault<'_> {
+    match word.split_once('=') {
+        Some((name, _)) if is_flag(name) && name != "-h" => OptionFault::Value(word),
         _ => OptionFault::Unknown(word),
     }
 }

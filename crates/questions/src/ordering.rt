@@ -1,4 +1,6 @@
 //! How the rows of an answer are arranged, by the words of `--order` and `--limit`.
+ghost use Rattle.std.specs.Prelude.{◌≡◌, IfOk, Some, option_map};
+ghost use Rattle.cells.specs.Integers.{whole_number_of};
 
 use crate::options::OptionFault;
 use cells::{Mark, Text, Token, TokenFault, tokens, whole_number_of};
@@ -12,7 +14,9 @@ pub(crate) fn arrangement_of<'w>(
     query: &str,
     order: Option<&'w str>,
     limit: Option<&'w str>,
-) -> Result<Arrangement, OptionFault<'w>> {
+) -> Result<Arrangement, OptionFault<'w>>
+    ensures { IfOk result (λ arrangement. option_map (λ w. whole_number_of w.now) limit.entry ≡ option_map Some arrangement.limit) }
+{
     let limit = limit_of(limit)?;
     let Some(word) = order else {
         return Ok(Arrangement {
@@ -30,7 +34,9 @@ pub(crate) fn arrangement_of<'w>(
 }
 
 /// The most rows that are shown, where a word says how many.
-fn limit_of<'w>(word: Option<&'w str>) -> Result<Option<u64>, OptionFault<'w>> {
+fn limit_of<'w>(word: Option<&'w str>) -> Result<Option<u64>, OptionFault<'w>>
+    ensures { IfOk result (λ limit. option_map (λ w. whole_number_of w.now) word.entry ≡ option_map Some limit) }
+{
     let Some(word) = word else {
         return Ok(None);
     };

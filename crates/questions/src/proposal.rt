@@ -468,30 +468,15 @@ fn with_number(alloc: Global, files: &[Vec<u8>], choice: Choice) -> Result<Propo
 }
 
 /// The choice, with a column of this name that counts.
-fn numbered(choice: Choice, number: Text) -> Choice
+fn numbered(mut choice: Choice, number: Text) -> Choice
     ensures { result ≡ record choice { counted = 0; number = Some number } }
 {
-    let Choice {
-        columns,
-        delimiter,
-        number: _,
-        counted: _,
-        null,
-        trims,
-        lenient,
-    } = choice;
-    Choice {
-        columns,
-        delimiter,
-        number: Some(number),
-        counted: 0,
-        null,
-        trims,
-        lenient,
-    }
+    choice.number = Some(number);
+    choice.counted = 0;
+    choice
 }
 
-/// N, with as many `_` behind it as no column has it then.
+/// N, with as many `_` after it as no column has it then.
 fn free_name(alloc: Global, columns: &[Chosen]) -> Result<Text, AllocError> {
     let mut name = String::from_str(alloc, "N")?;
     for _ in columns {

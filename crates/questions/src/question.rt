@@ -1,7 +1,14 @@
 //! What `query` and `schema` are asked, from their words.
-ghost use Rattle.std.specs.Prelude.{◌≡◌, ◌∷◌, IfOk, IfSome, false, if◌then◌else◌, map};
-ghost use Rattle.questions.specs.Options.{texts};
+ghost use Rattle.std.specs.Prelude.{◌≡◌, IfOk, IfSome, Some, codes, false, if◌then◌else◌, map, option_map};
+ghost use Rattle.std.specs.Option.{option_map_or};
+ghost use Rattle.cells.specs.Integers.{whole_number_of};
+ghost use Rattle.forms.specs.Forms.{form_of};
+ghost use Rattle.prepare.specs.Listed.{listed_in, naming_of};
+ghost use Rattle.prepare.specs.Words.{name_of};
+ghost use Rattle.questions.specs.Asking.{IsQuestion, IsWanted, comma, delimiter_of};
+ghost use Rattle.questions.specs.Options.{items_of, names_in, value_in};
 ghost use Rattle.forms.specs.declared.form.Form.TheVariants.{Csv, Table};
+ghost use Rattle.script.specs.Hows.{default_settings};
 ghost use Rattle.script.specs.Limits.{IsWithin};
 
 use crate::options::{OptionFault, Parted, Setting};
@@ -60,19 +67,23 @@ pub struct Wanted {
 }
 
 /// What was chosen of files, from the words. The faults are those of `--columns`, `--delimiter` and `--number`.
-fn wanted_of<'w>(alloc: Global, parted: &Parted<'w>) -> Result<Wanted, OptionFault<'w>> {
+fn wanted_of<'w>(alloc: Global, parted: &Parted<'w>) -> Result<Wanted, OptionFault<'w>>
+    ensures { IfOk result (IsWanted (items_of parted.now)) }
+{
     Ok(Wanted {
-        delimiter: delimiter(parted.delimiter)?,
-        number: number(alloc, parted.number)?,
-        null: copied(alloc, parted.null)?,
-        trims: parted.trims,
-        lenient: parted.lenient,
-        columns: columns(alloc, parted.columns)?,
+        delimiter: delimiter(parted.value("--delimiter"))?,
+        number: number(alloc, parted.value("--number"))?,
+        null: copied(alloc, parted.value("--null"))?,
+        trims: parted.has("--trim"),
+        lenient: parted.has("--lenient-quotes"),
+        columns: columns(alloc, parted.value("--columns"))?,
     })
 }
 
 /// The byte that a word names: `tab`, or its one character. No word: a comma.
-fn delimiter(word: Option<&str>) -> Result<u8, OptionFault<'_>> {
+fn delimiter(word: Option<&str>) -> Result<u8, OptionFault<'_>>
+    ensures { IfOk result (λ byte. option_map_or (λ w. delimiter_of w.now) word.entry (Some comma) ≡ Some byte) }
+{
     let Some(word) = word else {
         return Ok(b',');
     };
@@ -87,7 +98,9 @@ fn delimiter(word: Option<&str>) -> Result<u8, OptionFault<'_>> {
 }
 
 /// The name of the column that counts, where one is given.
-fn number<'w>(alloc: Global, word: Option<&'w str>) -> Result<Option<Text>, OptionFault<'w>> {
+fn number<'w>(alloc: Global, word: Option<&'w str>) -> Result<Option<Text>, OptionFault<'w>>
+    ensures { IfOk result (λ name. option_map (λ w. name_of w.now) word.entry ≡ option_map Some name) }
+{
     let Some(word) = word else {
         return Ok(None);
     };
@@ -98,7 +111,9 @@ fn number<'w>(alloc: Global, word: Option<&'w str>) -> Result<Option<Text>, Opti
 }
 
 /// A copy of a word, where one is given.
-fn copied<'w>(alloc: Global, word: Option<&'w str>) -> Result<Option<Text>, OptionFault<'w>> {
+fn copied<'w>(alloc: Global, word: Option<&'w str>) -> Result<Option<Text>, OptionFault<'w>>
+    ensures { IfOk result (λ copy. copy ≡ option_map (λ w. w.now) word.entry) }
+{
     match word {
         Some(word) => Ok(Some(Text::copied(alloc, word)?)),
         None => Ok(None),
@@ -106,10 +121,9 @@ fn copied<'w>(alloc: Global, word: Option<&'w str>) -> Result<Option<Text>, Opti
 }
 
 /// The columns that a word lists, where one is given.
-fn columns<'w>(
-    alloc: Global,
-    word: Option<&'w str>,
-) -> Result<Option<Vec<Chosen>>, OptionFault<'w>> {
+fn columns<'w>(alloc: Global, word: Option<&'w str>) -> Result<Option<Vec<Chosen>>, OptionFault<'w>>
+    ensures { IfOk result (λ columns. option_map (λ c. map naming_of c.items) columns ≡ option_map (λ w. listed_in w.now) word.entry) }
+{
     let Some(word) = word else {
         return Ok(None);
     };
@@ -127,7 +141,8 @@ fn number_in<'w>(
     range: Limits,
     setting: Setting,
 ) -> Result<Option<u64>, OptionFault<'w>>
-    ensures { IfOk result (λ number. IfSome number (IsWithin range)) }
+    ensures within { IfOk result (λ number. IfSome number (IsWithin range)) }
+    ensures spelt { IfOk result (λ number. option_map (λ w. whole_number_of w.now) word.entry ≡ option_map Some number) }
 {
     let Some(word) = word else {
         return Ok(None);
@@ -149,10 +164,11 @@ pub fn question_of<'w, R: Threads>(
     parted: &Parted<'w>,
     is_shown: bool,
 ) -> Result<(Question<'w>, Wanted), OptionFault<'w>>
-    ensures words { IfOk result (λ asked. asked.0.query.now ∷ asked.0.names.items ≡ texts parted.now.names) }
-    ensures bare { IfOk result (λ asked. asked.0.manner.heads ≡ false) }
+    ensures asked { IfOk result (λ asked. IsQuestion (items_of parted.now) asked.0) }
+    ensures wanted { IfOk result (λ asked. IsWanted (items_of parted.now) asked.1) }
 {
-    let Some((query, files)) = parted.names.as_slice().split_first() else {
+    let names = parted.names(alloc)?;
+    let Some((query, files)) = names.as_slice().split_first() else {
         return Err(OptionFault::NoQuery);
     };
     if files.is_empty() {
@@ -181,17 +197,27 @@ fn question_asked<'w, R: Threads>(
     ensures query { IfOk result (λ asked. asked.query.now ≡ query.entry.now) }
     ensures names { IfOk result (λ asked. asked.names.items ≡ map (λ n. n.now) files.now) }
     ensures bare { IfOk result (λ asked. asked.manner.heads ≡ false) }
+    ensures form { IfOk result (λ asked. IfSome (value_in (codes "--format") (items_of parted.now)) (λ word. form_of word ≡ Some asked.manner.form)) }
+    ensures limit { IfOk result (λ asked. option_map whole_number_of
+        (value_in (codes "--limit") (items_of parted.now)) ≡ option_map Some asked.manner.arrangement.limit) }
+    ensures rows { IfOk result (λ asked. option_map_or whole_number_of (value_in (codes "--rows") (items_of parted.now))
+        (Some default_settings.rows) ≡ Some asked.how.rows) }
 {
     let how = how(rt, parted)?;
-    let arrangement = arrangement_of(alloc, query, parted.order, parted.limit)?;
-    let manner = manner_of(parted.format, is_shown, arrangement)?;
+    let arrangement = arrangement_of(
+        alloc,
+        query,
+        parted.value("--order"),
+        parted.value("--limit"),
+    )?;
+    let manner = manner_of(parted.value("--format"), is_shown, arrangement)?;
     let names = owned(alloc, files)?;
     Ok(Question {
         query,
         names,
         how,
         manner,
-        tells_progress: parted.tells_progress,
+        tells_progress: parted.has("--progress"),
     })
 }
 
@@ -202,7 +228,9 @@ fn manner_of<'w>(
     is_shown: bool,
     arrangement: Arrangement,
 ) -> Result<Manner, OptionFault<'w>>
-    ensures { IfOk result (λ manner. manner.heads ≡ false) }
+    ensures bare { IfOk result (λ manner. manner.heads ≡ false) }
+    ensures form { IfOk result (λ manner. IfSome word.entry (λ w. form_of w.now ≡ Some manner.form)) }
+    ensures arranged { IfOk result (λ manner. manner.arrangement ≡ arrangement) }
 {
     let form = match word {
         Some(word) => match Form::of_word(word) {
@@ -230,40 +258,35 @@ pub fn schema_question_of<'w>(
     alloc: Global,
     parted: &Parted<'w>,
 ) -> Result<SchemaQuestion, OptionFault<'w>>
-    ensures { IfOk result (λ asked. asked.names.items ≡ texts parted.now.names) }
+    ensures names { IfOk result (λ asked. asked.names.items ≡ names_in (items_of parted.now)) }
+    ensures wanted { IfOk result (λ asked. IsWanted (items_of parted.now) asked.wanted) }
 {
-    if parted.workers.is_some() {
-        return Err(OptionFault::Unknown("--workers"));
+    for option in ["--workers", "--rows", "--format", "--order", "--limit"] {
+        if parted.value(option).is_some() {
+            return Err(OptionFault::Unknown(option));
+        }
     }
-    if parted.rows.is_some() {
-        return Err(OptionFault::Unknown("--rows"));
-    }
-    if parted.format.is_some() {
-        return Err(OptionFault::Unknown("--format"));
-    }
-    if parted.order.is_some() {
-        return Err(OptionFault::Unknown("--order"));
-    }
-    if parted.limit.is_some() {
-        return Err(OptionFault::Unknown("--limit"));
-    }
-    if parted.tells_progress {
+    if parted.has("--progress") {
         return Err(OptionFault::Unknown("--progress"));
     }
-    match parted.names.as_slice() {
+    let names = parted.names(alloc)?;
+    match names.as_slice() {
         [] => Err(OptionFault::NoFile),
         [_] => Ok(SchemaQuestion {
             wanted: wanted_of(alloc, parted)?,
-            names: owned(alloc, parted.names.as_slice())?,
+            names: owned(alloc, names.as_slice())?,
         }),
-        [_, more, ..] => Err(OptionFault::OneFile(more)),
+        [_, more, ..] => Err(OptionFault::OneFile(*more)),
     }
 }
 
 /// How the run is made: by as many workers as there are processors, where nobody says how many.
-fn how<'w, R: Threads>(rt: &R, parted: &Parted<'w>) -> Result<How, OptionFault<'w>> {
-    let workers = number_in(parted.workers, WORKERS, Setting::Workers)?;
-    let rows = number_in(parted.rows, ROWS, Setting::Rows)?;
+fn how<'w, R: Threads>(rt: &R, parted: &Parted<'w>) -> Result<How, OptionFault<'w>>
+    ensures { IfOk result (λ how. option_map_or whole_number_of (value_in (codes "--rows") (items_of parted.now))
+        (Some default_settings.rows) ≡ Some how.rows) }
+{
+    let workers = number_in(parted.value("--workers"), WORKERS, Setting::Workers)?;
+    let rows = number_in(parted.value("--rows"), ROWS, Setting::Rows)?;
     let cutting = Cutting {
         depth: DEPTH.default as u8,
         small: SMALL.default,

@@ -6,7 +6,8 @@ use crate::header::{HeaderFault, other_names};
 use crate::record_fault::{RecordFault, record_fault};
 use cells::Schema;
 use csv::ByteRecord;
-use loader::{Records, fields, is_header};
+use loader::is_header;
+use records::{Records, fields, line_of};
 use std::alloc::{AllocError, Global};
 use std::fmt;
 use std::marker::Model;
@@ -84,7 +85,7 @@ pub fn faults_of_part<'a>(
 ) -> Result<PartFaults<'a>, AllocError>
     ensures { IfOk result (λ faults. faults ≡ fault_count schema.now part.now) }
 {
-    let mut records = Records::new(alloc, part);
+    let mut records = Records::new(alloc, part, b',');
     let header = header_fault(alloc, part, &mut records, schema)?;
     let ended = header.is_some();
     Ok(PartFaults {
@@ -203,24 +204,4 @@ fn next_faulty(
         number = number.saturating_add(1);
     }
     Ok(None)
-}
-
-/// The line on which a record of these bytes begins, counted from 1. A reader notes where it began to look for the
-/// record, so the ends of empty lines may stand there.
-fn line_of(bytes: &[u8], record: &ByteRecord) -> u64 {
-    let Some(position) = record.position() else {
-        return 1;
-    };
-    let Some(rest) = bytes.get(position.byte() as usize..) else {
-        return position.line();
-    };
-    let mut line = position.line();
-    for byte in rest {
-        match *byte {
-            b'\n' => line = line.saturating_add(1),
-            b'\r' => {}
-            _ => return line,
-        }
-    }
-    line
 }

@@ -4,7 +4,7 @@ use crate::line_fault::{Found, LineFault};
 use crate::record_fault::explained;
 use cells::Schema;
 use csv::ByteRecord;
-use loader::{Records, fields};
+use records::{Records, fields};
 use std::alloc::{AllocError, Global};
 
 /// Why a text has not exactly one record, or its fields spell no row.
@@ -24,7 +24,7 @@ fn count_fault(
     text: &[u8],
     record: &mut ByteRecord,
 ) -> Result<Option<&'static str>, AllocError> {
-    let mut records = Records::new(alloc, text);
+    let mut records = Records::new(alloc, text, b',');
     let first = records.next(record);
     let more = has_more(alloc, &mut records);
     drop(records);

@@ -9,7 +9,7 @@ use crate::field_fault::{FieldFault, field_fault};
 use crate::shown::shown;
 use cells::{Column, Refused, Row, RowReader, Schema};
 use csv::ByteRecord;
-use loader::fields;
+use records::fields;
 use std::alloc::{AllocError, Global};
 use std::fmt;
 

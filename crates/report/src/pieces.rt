@@ -1,5 +1,5 @@
 //! The pieces that the rows of an edition are cut into.
-ghost use Rattle.std.specs.Prelude.{IfOk};
+ghost use Rattle.std.specs.Prelude.{◌≡◌, ◌<◌, ◌≤◌, IfOk};
 ghost use Rattle.report.specs.Pieces.{AreCut, ArePiecesOf};
 
 use board::Root;
@@ -20,7 +20,10 @@ const SHARE: u64 = 16;
 
 /// The cutting of so many rows, where this one is asked for: where they are few it is the same, and else one whose pieces have
 /// places for their columns and are few.
-pub(crate) fn cutting_of(rows: u64, asked: Cutting) -> Cutting {
+pub(crate) fn cutting_of(rows: u64, asked: Cutting) -> Cutting
+    ensures few { rows ≤ LEAST_CUT → result ≡ asked }
+    ensures many { LEAST_CUT < rows → (LEAST_CUT ≤ result.small) × (result.small ≤ MOST_SUMMED) × (result.depth ≡ MAX_DEPTH) }
+{
     if rows <= LEAST_CUT {
         return asked;
     }

@@ -2,7 +2,7 @@ use Rattle.std.proofs.Common.{◌∷◌}
 use Rattle.std.specs.Io.Buffered.{writer_contents}
 use Rattle.olap.specs.Partials.{IsOutputOfJoin, IsOutputOfTold}
 use Rattle.olap.proofs.PartialsLemmas.{output_of_joint, written_joint}
-use Rattle.olap.proofs.ProgramLemmas.{writes_as}
+use Rattle.olap.proofs.EndingsLemmas.{writes_as}
 use Rattle.olap.proofs.join.join_looked_at.Goals as goal
 
 pub returns-in-Some-clause-left : goal.returns-in-Some-clause-left

@@ -1,5 +1,5 @@
 use Rattle.std.proofs.Common.{inl, inr, map, string_bytes}
-use Rattle.olap.proofs.PartialsLemmas.{help_of_shard}
+use Rattle.olap.proofs.EndingsLemmas.{help_of_shard}
 use Rattle.olap.proofs.shard_run.run_shard.Goals as goal
 
 pub returns-in-Ok-clause-told : goal.returns-in-Ok-clause-told

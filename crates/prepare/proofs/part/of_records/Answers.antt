@@ -3,7 +3,7 @@ use Rattle.std.proofs.lemmas.List.{length-map}
 use Rattle.std.proofs.lemmas.Result.{IfErr-weaker, IfOk-weaker}
 use Rattle.csv.specs.Records.{fields_of}
 use Rattle.csv.specs.Writing.{default_writer, row_text}
-use Rattle.prepare.specs.Files.{records_of}
+use Rattle.records.specs.Records.{records_of}
 use Rattle.prepare.specs.Parts.{as_read, headed, places_of, words_of}
 use Rattle.prepare.proofs.PartLemmas.{few_after, part_fault, part_text, read_length}
 use Rattle.prepare.proofs.part.of_records.Goals as goal

@@ -1,0 +1,4 @@
+pub mod Ends
+pub mod Fields
+pub mod Laws
+pub mod Records
