@@ -3,7 +3,7 @@ ghost use Rattle.std.specs.Prelude.{◌≡◌, ◌≢◌, false, slice_index, tr
 ghost use Rattle.cells.specs.Integers.{integer_of, whole_number_of};
 
 /// The integer that the text spells: an optional `-` and one or more digits, whose value has 64 bits.
-pub(crate) fn integer_of(text: &str) -> Option<i64>
+pub fn integer_of(text: &str) -> Option<i64>
     ensures { result ≡ integer_of text.now }
 {
     if has_plus(text) {

@@ -26,7 +26,7 @@ mod updates;
 
 pub use cell::Cell;
 pub use hash::{Fnv, KeyHash, Plain, worked_hashes};
-pub use integers::whole_number_of;
+pub use integers::{integer_of, whole_number_of};
 pub use lent::LentCell;
 pub use lent_text::LentText;
 pub use limits::{MAX_COLUMNS, MAX_TEXT_BYTES};

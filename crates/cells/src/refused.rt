@@ -1,6 +1,7 @@
 //! Why a line or a call is refused.
-ghost use Rattle.std.specs.Prelude.{◌≡◌};
+ghost use Rattle.std.specs.Prelude.{◌≡◌, IfSome, Some};
 ghost use Rattle.cells.specs.Refusals.{name_of, number_of};
+ghost use Rattle.cells.specs.declared.refused.Refused.{Refused};
 ghost use Rattle.cells.specs.declared.refused.Refused.TheVariants.{OutOfMemory};
 
 use std::alloc::{AllocError, AllocFailed};
@@ -77,6 +78,35 @@ impl Refused {
             Refused::NoWorker => 91,
             Refused::WriteFailed => 92,
             Refused::NotShown => 93,
+        }
+    }
+
+    /// The refusal of a number. None where none has it.
+    pub fn of_number(number: u64) -> Option<Refused>
+        ensures given { IfSome result (λ refused. number_of refused ≡ number) }
+        ensures only { (refused : Refused) → number ≡ number_of refused → result ≡ Some refused }
+    {
+        match number {
+            1 => Some(Refused::NoTable),
+            2 => Some(Refused::TableAgain),
+            3 => Some(Refused::BadCommand),
+            4 => Some(Refused::BadSchema),
+            5 => Some(Refused::NoPart),
+            6 => Some(Refused::BadPart),
+            7 => Some(Refused::BadRecord),
+            8 => Some(Refused::BadKey),
+            9 => Some(Refused::TooManyRows),
+            10 => Some(Refused::QuerySyntax),
+            11 => Some(Refused::Unknown),
+            12 => Some(Refused::NotGrouped),
+            13 => Some(Refused::WrongType),
+            14 => Some(Refused::TooManySets),
+            15 => Some(Refused::Limit),
+            90 => Some(Refused::OutOfMemory),
+            91 => Some(Refused::NoWorker),
+            92 => Some(Refused::WriteFailed),
+            93 => Some(Refused::NotShown),
+            _ => None,
         }
     }
 

@@ -1,2 +1,3 @@
 mod LinesLemmas
+mod SpeltLemmas
 mod WidthsLemmas

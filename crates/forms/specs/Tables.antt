@@ -2,15 +2,16 @@
 use Rattle.std.specs.Prelude.{ℕ, ◌&&◌, ◌==◌, ◌-◌, List, [], ◌∷◌, ◌++◌, Option, None, Some, codes, if◌then◌else◌, length, map, max, replicate, slice_get, slice_index}
 use Rattle.std.specs.Fmt.{char_count, signed_decimal}
 use Rattle.std.specs.List.{enumerate_from, flat_map, fold}
+use Rattle.std.specs.Str.{chars}
 use Rattle.cells.specs.declared.total.Total.{Total}
 use Rattle.cells.specs.declared.total.Total.TheVariants.{Null, Int, Text}
-use Rattle.forms.specs.Escapes.{shown_byte}
+use Rattle.forms.specs.Escapes.{plain_char}
 
 -- ---- widths, which count characters
 
--- a text with its control bytes escaped, so that it stays in its line
+-- a text, character by character, so that it stays in its line
 abbrev pub shown_text : List ℕ → List ℕ
-shown_text = flat_map shown_byte
+shown_text text = flat_map plain_char (chars text)
 
 abbrev pub shown : Total → List ℕ
 shown Null = codes "NULL"

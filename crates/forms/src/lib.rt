@@ -10,5 +10,6 @@ pub mod json;
 mod laws;
 pub mod table;
 
+pub use escapes::is_unseen;
 pub use form::Form;
 pub use laws::a_width_counts_characters;

@@ -36,7 +36,7 @@ fn headings_of(alloc: Global, widths: &Widths, headings: &[Text]) -> Result<Vec<
 {
     let mut made = Vec::new(alloc);
     for (place, heading) in headings.iter().enumerate() {
-        let shown = shown_text(alloc, heading.as_bytes())?;
+        let shown = shown_text(alloc, heading.as_str())?;
         push_left(&mut made, widths.at(place), shown.as_slice())?;
         made.extend_from_slice(GAP)?;
     }
@@ -55,8 +55,9 @@ fn dashes_of(alloc: Global, widths: &Widths) -> Result<Vec<u8>, AllocError>
     Ok(made)
 }
 
-/// The text with the line of a row behind it: integers at the right of their columns, `NULL` and texts at the left. A control
-/// byte of a text is escaped as in JSON. A column that has no width has width 0. The only error is that a growth was refused.
+/// The text with the line of a row after it: integers at the right of their columns, `NULL` and texts at the left. A character of a
+/// text that is not seen is escaped as in JSON, and a backslash is doubled. A column that has no width has width 0. The only error is
+/// that a growth was refused.
 pub fn push_row(
     alloc: Global,
     text: &mut Vec<u8>,

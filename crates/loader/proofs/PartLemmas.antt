@@ -3,10 +3,6 @@ use Rattle.std.proofs.Common.{◌≡◌, ℕ, zero, suc, ◌+◌, ◌≤◌, Boo
 use Rattle.std.proofs.lemmas.List.{append-nil, length-append}
 use Rattle.std.specs.List.{AllByRecursion}
 use Rattle.std.specs.Prelude.{Result, Ok, Err, if◌then◌else◌}
-use Rattle.csv.specs.Machine.{Read, next_record}
-use Rattle.csv.specs.Reading.{default_config, is_bom, records_from, records_next, strip_bom}
-use Rattle.csv.specs.declared.parser.State.{State}
-use Rattle.csv.specs.declared.parser.State.TheVariants as st
 use Rattle.cells.specs.Fitting.{IsRowOf}
 use Rattle.cells.specs.Records.{row_of}
 use Rattle.cells.specs.Tables.{keyed_rows}
@@ -96,37 +92,3 @@ read_behind hash_of takes t header later all (Ok counted) took is rows = record 
 }
 read_behind hash_of takes t header later all (Err number) took is read =
     ap (rows_behind_header t) took ∙ ap (λ b. if b then rows_from t 1 later else Err 0) is ∙ read
-
--- ---- how many records
-
-records_next_few : (f : State → List ℕ → List (List (List ℕ))) (most : ℕ) → ((s : State) (bytes : List ℕ) → length (f s bytes) ≤ most) → (o : Option Read) → length (records_next f o) ≤ most + 1
-records_next_few f most few None = omega arith
-records_next_few f most few (Some read) = let some = few read.1 read.2 in omega (arith, some)
-
-records_from_few : (turns : ℕ) (s : State) (bytes : List ℕ) → length (records_from default_config turns s bytes) ≤ turns
-unfolding records_from
-records_from_few zero s bytes = omega arith
-records_from_few (suc turns) s bytes =
-    let some = records_next_few (records_from default_config turns) turns (records_from_few turns) (next_record default_config s [] [] bytes) in omega (arith, some)
-
-either_short : (marked : Bool) (bytes rest : List ℕ) → length rest ≤ length bytes → length (if marked then rest else bytes) ≤ length bytes
-either_short true bytes rest short = short
-either_short false bytes rest short = omega arith
-
-strip_bom_short : (bytes : List ℕ) → length (strip_bom bytes) ≤ length bytes
-unfolding strip_bom
-strip_bom_short [] = omega arith
-strip_bom_short (a ∷ []) = omega arith
-strip_bom_short (a ∷ b ∷ []) = omega arith
-strip_bom_short (a ∷ b ∷ c ∷ rest) = either_short (is_bom a b c) (a ∷ b ∷ c ∷ rest) rest (omega arith)
-
--- a text has no more records than bytes, and one
-pub few_records : (bytes : List ℕ) → length (records_of bytes) ≤ length bytes + 1
-few_records bytes =
-    let some = records_from_few (length (strip_bom bytes) + 1) st.StartRecord (strip_bom bytes) in
-    let short = strip_bom_short bytes in
-    omega (arith, some, short)
-
--- behind its first record a text has no more records than bytes
-pub few_behind : (bytes : List ℕ) (first : List (List ℕ)) (later : List (List (List ℕ))) → records_of bytes ≡ first ∷ later → length later ≤ length bytes
-few_behind bytes first later took = let few = few_records bytes in omega (arith, few, ap length took)

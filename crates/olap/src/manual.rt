@@ -34,37 +34,9 @@ pub fn topic_of(word: &str) -> Option<Topic>
         "query" => Some(Topic::Query),
         "schema" => Some(Topic::Schema),
         _ => {
-            let refusal = refusal_of(whole_number_of(word)?)?;
+            let refusal = Refused::of_number(whole_number_of(word)?)?;
             Some(Topic::Refusal(refusal))
         }
-    }
-}
-
-/// The refusal of this number, where there is one.
-fn refusal_of(number: u64) -> Option<Refused>
-    ensures { IfSome result (λ refusal. number_of refusal ≡ number) }
-{
-    match number {
-        1 => Some(Refused::NoTable),
-        2 => Some(Refused::TableAgain),
-        3 => Some(Refused::BadCommand),
-        4 => Some(Refused::BadSchema),
-        5 => Some(Refused::NoPart),
-        6 => Some(Refused::BadPart),
-        7 => Some(Refused::BadRecord),
-        8 => Some(Refused::BadKey),
-        9 => Some(Refused::TooManyRows),
-        10 => Some(Refused::QuerySyntax),
-        11 => Some(Refused::Unknown),
-        12 => Some(Refused::NotGrouped),
-        13 => Some(Refused::WrongType),
-        14 => Some(Refused::TooManySets),
-        15 => Some(Refused::Limit),
-        90 => Some(Refused::OutOfMemory),
-        91 => Some(Refused::NoWorker),
-        92 => Some(Refused::WriteFailed),
-        93 => Some(Refused::NotShown),
-        _ => None,
     }
 }
 

@@ -1,5 +1,6 @@
 //! What others wrote, on a line for people: a character that would end the line, move in it or turn it round is escaped.
 
+use forms::is_unseen;
 use std::fmt::{self, Display, Formatter, Write as _};
 use std::io::Write;
 
@@ -32,16 +33,6 @@ impl<'f, W: fmt::Write> fmt::Write for Plainly<'f, W> {
             }
         }
         Ok(())
-    }
-}
-
-/// Whether a character controls a terminal, or turns round the text beside it.
-fn is_unseen(letter: char) -> bool {
-    match letter {
-        '\0'..='\u{1f}' | '\u{7f}'..='\u{9f}' => true,
-        '\u{61c}' | '\u{200e}' | '\u{200f}' | '\u{202a}'..='\u{202e}' | '\u{2066}'..='\u{2069}' =>
-            true,
-        _ => false,
     }
 }
 

@@ -190,8 +190,10 @@ fn run_told<'a, T: Renew + Sync, W: Write + Drop, E: Write, R: Threads + Wait + 
     err: &mut E,
 ) -> (u8, BufWriter<W>)
     ensures status { (result.0 ≡ 0) ⊎ ((result.0 ≡ 1) ⊎ (result.0 ≡ 3)) }
-    ensures written { result.0 ≡ 0 → Writes (IsRunOf job.now input.now Finish.Through) (writer_contents W.contents out) (writer_contents W.contents result.1) }
-    ensures stopped { result.0 ≡ 1 → Writes (IsRunOf job.now input.now Finish.Stopped) (writer_contents W.contents out) (writer_contents W.contents result.1) }
+    ensures written { result.0 ≡ 0 → Writes (IsRunOf job.now input.now Finish.Through)
+        (writer_contents W.contents out) (writer_contents W.contents result.1) }
+    ensures stopped { result.0 ≡ 1 → Writes (IsRunOf job.now input.now Finish.Stopped)
+        (writer_contents W.contents out) (writer_contents W.contents result.1) }
     ensures flushed { (result.0 ≡ 0) ⊎ (result.0 ≡ 1) → writer_buffer result.1 ≡ [] }
     ensures beginning { BeginsToWrite (HoweverFinished (IsRunOf job.now input.now)) (writer_contents W.contents out) (writer_contents W.contents result.1) }
 {

@@ -60,36 +60,6 @@ module _ (choice : Choice) (places : List ℕ) (width : ℕ) (start : List ℕ) 
     counted = omega (arith, length-append reached.rows (record_of choice places number fields ∷ []), reached.counted);
   }
 
--- ---- how many records
-
-records_next_few : (f : State → List ℕ → List (List (List ℕ))) (most : ℕ) → ((s : State) (bytes : List ℕ) → length (f s bytes) ≤ most) → (o : Option Read) → length (records_next f o) ≤ most + 1
-records_next_few f most few None = omega arith
-records_next_few f most few (Some read) = let some = few read.1 read.2 in omega (arith, some)
-
-records_from_few : (d turns : ℕ) (s : State) (bytes : List ℕ) → length (csv_records_from (config_of d) turns s bytes) ≤ turns
-unfolding csv_records_from
-records_from_few d zero s bytes = omega arith
-records_from_few d (suc turns) s bytes =
-    let some = records_next_few (csv_records_from (config_of d) turns) turns (records_from_few d turns) (next_record (config_of d) s [] [] bytes) in omega (arith, some)
-
-either_short : (marked : Bool) (bytes rest : List ℕ) → length rest ≤ length bytes → length (if marked then rest else bytes) ≤ length bytes
-either_short true bytes rest short = short
-either_short false bytes rest short = omega arith
-
-strip_bom_short : (bytes : List ℕ) → length (strip_bom bytes) ≤ length bytes
-unfolding strip_bom
-strip_bom_short [] = omega arith
-strip_bom_short (a ∷ []) = omega arith
-strip_bom_short (a ∷ b ∷ []) = omega arith
-strip_bom_short (a ∷ b ∷ c ∷ rest) = either_short (is_bom a b c) (a ∷ b ∷ c ∷ rest) rest (omega arith)
-
--- after its first record a text has no more records than bytes
-pub few_after : (d : ℕ) (bytes : List ℕ) (first : List (List ℕ)) (later : List (List (List ℕ))) → records_of d bytes ≡ first ∷ later → length later ≤ length bytes
-few_after d bytes first later took =
-    let some = records_from_few d (length (strip_bom bytes) + 1) st.StartRecord (strip_bom bytes) in
-    let short = strip_bom_short bytes in
-    omega (arith, some, short, ap length took)
-
 -- ---- the whole file
 
 -- white space is no field

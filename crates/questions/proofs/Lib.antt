@@ -1,3 +1,4 @@
+pub mod NumberingLemmas
 pub mod OptionsLemmas
 pub mod ProposalsLemmas
 pub mod QuestionsLemmas

@@ -8,7 +8,7 @@ use Rattle.prepare.specs.Parts.{IsPartOfFile}
 use Rattle.prepare.specs.declared.choice.Choice.{Choice}
 use Rattle.prepare.specs.declared.choice.Chosen.{Chosen}
 use Rattle.prepare.specs.declared.part.MadePart.{MadePart}
-use Rattle.questions.specs.Proposals.{AreOfFile, AreParts, AreTyped, AreWanted, IsCounted, IsOf, IsPartOf, IsProposed, IsTable, IsTyped, MadeOf, asked, counting_from}
+use Rattle.questions.specs.Proposals.{AreOfFile, AreParts, AreTyped, AreWanted, IsOf, IsPartOf, IsProposed, IsTable, IsTyped, MadeOf, asked, counting_from}
 use Rattle.questions.specs.declared.proposal.Proposal.{Proposal}
 use Rattle.questions.specs.declared.proposal.Typed.{Typed}
 use Rattle.questions.specs.declared.question.Wanted.{Wanted}
@@ -64,15 +64,6 @@ module _ (choice : Choice) (files : List (List ℕ)) (t : Typed) (is : IsTyped c
     go : (o : Option (List ℕ)) → choice.number ≡ o → is_some o ≡ true → IsProposed choice files p
     go None e test = cc
     go (Some number) e test = asked e (table_of choice files t 0 p is made) made.key
-
--- a table whose key counts
-pub counts : (choice : Choice) (files : List (List ℕ)) (number : List ℕ) (with_number : Choice) (t : Typed) (p : Proposal) → with_number ≡ record choice { counted = 0; number = Some number }
-    → IsTyped with_number files t → IsOf t 0 p → IsCounted choice files p
-counts choice files number with_number t p same is made = record {
-  number = number;
-  table = subst (λ (ch : Choice). IsTable ch files p) same (table_of with_number files t 0 p is made);
-  key = made.key;
-}
 
 -- ---- what was asked for
 

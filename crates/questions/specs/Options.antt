@@ -9,7 +9,8 @@ use Rattle.questions.specs.declared.options.Said.TheVariants as told
 abbrev Text : Type 0
 Text = List ℕ
 
-abbrev is_one_of : Text → List Text → Bool
+-- the word is one of these
+abbrev pub is_one_of : Text → List Text → Bool
 is_one_of word [] = false
 is_one_of word (known ∷ more) = bytes_eq word known || is_one_of word more
 

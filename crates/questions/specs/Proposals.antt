@@ -1,5 +1,5 @@
 -- The table that is proposed for files, and the parts that are made of them.
-use Rattle.std.specs.Prelude.{◌≡◌, ◌+◌, ◌<◌, ◌≤◌, Bool, ℕ, List, [], ◌∷◌, Option, Some, None, Vec, Ok, filter, length, map, take, unwrap_or}
+use Rattle.std.specs.Prelude.{◌≡◌, ◌+◌, ◌<◌, ◌≤◌, ◌++◌, Bool, ℕ, List, [], ◌∷◌, Option, Some, None, Vec, Ok, codes, false, filter, length, map, suc, take, true, unwrap_or, zero}
 use Rattle.std.specs.List.{slice_index_or}
 use Rattle.std.specs.declared.alloc.Global.{Global}
 use Rattle.cells.specs.Limits.{column_limit}
@@ -11,6 +11,7 @@ use Rattle.prepare.specs.Parts.{HasRightQuotes, headed, part_of, text_of}
 use Rattle.prepare.specs.Proposals.{AreTypes, HasNoKey, IsFirstKey, rows_of}
 use Rattle.prepare.specs.declared.choice.Choice.{Choice}
 use Rattle.prepare.specs.declared.choice.Chosen.{Chosen}
+use Rattle.questions.specs.Options.{is_one_of}
 use Rattle.questions.specs.Questions.{table_line, table_name}
 use Rattle.questions.specs.declared.proposal.Proposal.{Proposal}
 use Rattle.questions.specs.declared.proposal.Typed.{Typed}
@@ -85,9 +86,22 @@ pub record NeedsNumber (choice : Choice) (files : List (List ℕ)) : Type 0 wher
   pub typed : AreTyped choice files parts types
   pub none : HasNoKey (rows_of parts) types
 
+-- N, with so many `_` after it
+abbrev pub numbering : ℕ → List ℕ
+numbering zero = codes "N"
+numbering (suc count) = numbering count ++ codes "_"
+
+-- the shortest of these that is none of the words
+pub record IsFreeName (words : List (List ℕ)) (name : List ℕ) : Type 0 where
+  pub count : ℕ
+  pub is : name ≡ numbering count
+  pub free : is_one_of name words ≡ false
+  pub taken : (fewer : ℕ) → fewer < count → is_one_of (numbering fewer) words ≡ true
+
 -- the key is a first column that counts
 pub record IsCounted (choice : Choice) (files : List (List ℕ)) (p : Proposal) : Type 0 where
   pub number : List ℕ
+  pub free : IsFreeName (words_in (chosen_in choice.columns)) number
   pub table : IsTable (record choice { counted = 0; number = Some number }) files p
   pub key : p.key ≡ 0
 

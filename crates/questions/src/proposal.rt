@@ -3,7 +3,8 @@ ghost use Rattle.std.specs.Prelude.{◌≡◌, ◌++◌, IfOk, [], length, map, 
 ghost use Rattle.cells.specs.Reading.{tokens_of};
 ghost use Rattle.prepare.specs.Listed.{words_in};
 ghost use Rattle.prepare.specs.Parts.{IsPartOfFile};
-ghost use Rattle.questions.specs.Proposals.{AreAll, AreOfFile, IsCounted, IsOf, IsProposal, IsProposed, IsTyped, MadeOf, chosen_in, counting_from, names_of};
+ghost use Rattle.questions.specs.Proposals.{AreAll, AreOfFile, IsCounted, IsFreeName, IsOf, IsProposal, IsProposed, IsTyped, MadeOf, chosen_in, counting_from, names_of};
+ghost use Rattle.questions.specs.Options.{is_one_of};
 ghost use Rattle.questions.specs.declared.proposal.Unproposed.TheVariants.{OutOfMemory};
 
 use crate::question::Wanted;
@@ -233,8 +234,15 @@ fn fitting(alloc: Global, columns: &[Chosen], number: &Option<Text>) -> Result<(
 }
 
 /// Whether a column has this word.
-fn has_word(columns: &[Chosen], word: &str) -> bool {
-    columns.iter().any(|column| column.word.as_str() == word)
+fn has_word(columns: &[Chosen], word: &str) -> bool
+    ensures { result ≡ is_one_of word.now (words_in columns.now) }
+{
+    for column in columns {
+        if word == column.word.as_str() {
+            return true;
+        }
+    }
+    false
 }
 
 /// The parts that are made of the files, where records are counted through all of them.
@@ -476,13 +484,12 @@ fn numbered(mut choice: Choice, number: Text) -> Choice
     choice
 }
 
-/// N, with as many `_` after it as no column has it then.
-fn free_name(alloc: Global, columns: &[Chosen]) -> Result<Text, AllocError> {
+/// N, with as many `_` after it as it takes for no column to have it.
+fn free_name(alloc: Global, columns: &[Chosen]) -> Result<Text, AllocError>
+    ensures { IfOk result (IsFreeName (words_in columns.now)) }
+{
     let mut name = String::from_str(alloc, "N")?;
-    for _ in columns {
-        if !has_word(columns, name.as_str()) {
-            break;
-        }
+    while has_word(columns, name.as_str()) {
         name.push_str("_")?;
     }
     Text::new(alloc, name)

@@ -9,29 +9,29 @@ use Rattle.loader.specs.Records.{records_of}
 abbrev pub IsFaultOf : {F : Type 0} → Option RowValue → Option F → Type 0
 IsFaultOf row fault = MatchOption fault (IsSome row) (λ _. row ≡ None)
 
--- one where there is no row
-abbrev pub missing : Option RowValue → ℕ
-missing None = 1
-missing (Some row) = 0
+-- a number, where there is no row
+abbrev pub unless_row : Option RowValue → ℕ → List ℕ → List ℕ
+unless_row None number later = number ∷ later
+unless_row (Some row) number later = later
 
--- how many of the records spell no row
-abbrev pub faulty_count : Table → List (List (List ℕ)) → ℕ
-faulty_count t [] = 0
-faulty_count t (fields ∷ later) = missing (row_of t fields) + faulty_count t later
+-- the numbers of the records that spell no row, where the first has this one
+abbrev pub faulty_from : Table → ℕ → List (List (List ℕ)) → List ℕ
+faulty_from t number [] = []
+faulty_from t number (fields ∷ later) = unless_row (row_of t fields) number (faulty_from t (number + 1) later)
 
--- how many records of a part are faulty: the header alone where there is none
-abbrev pub fault_count_in : Table → List (List (List ℕ)) → ℕ
-fault_count_in t [] = 1
-fault_count_in t (header ∷ later) = if is_header t.columns header then faulty_count t later else 1
+-- those of a part: 0, its header, alone where that names other columns or there is none
+abbrev pub faulty_in : Table → List (List (List ℕ)) → List ℕ
+faulty_in t [] = 0 ∷ []
+faulty_in t (header ∷ later) = if is_header t.columns header then faulty_from t 1 later else 0 ∷ []
 
-abbrev pub fault_count : Table → List ℕ → ℕ
-fault_count t bytes = fault_count_in t (records_of bytes)
+abbrev pub faulty_records : Table → List ℕ → List ℕ
+faulty_records t bytes = faulty_in t (records_of bytes)
 
--- how many of the records are looked at and faulty
-abbrev pub looked_at : Bool → ℕ → ℕ
-looked_at ended count = if ended then 0 else count
+-- those that are looked at
+abbrev pub looked_at : Bool → List ℕ → List ℕ
+looked_at ended numbers = if ended then [] else numbers
 
--- how many faults are left to tell: that of the header, and those of the records where they are looked at
-abbrev pub faults_left : {F : Type 0} → Option F → Bool → Table → List (List (List ℕ)) → ℕ
-faults_left None ended t records = looked_at ended (faulty_count t records)
-faults_left (Some fault) ended t records = looked_at ended (faulty_count t records) + 1
+-- those that are left to tell: that of the header, and those of the records where they are looked at
+abbrev pub faults_left : Option ℕ → Bool → Table → ℕ → List (List (List ℕ)) → List ℕ
+faults_left None ended t number records = looked_at ended (faulty_from t number records)
+faults_left (Some header) ended t number records = header ∷ looked_at ended (faulty_from t number records)

@@ -1,6 +1,6 @@
 //! The faulty records of a part, one after another.
-ghost use Rattle.std.specs.Prelude.{◌≡◌, ◌+◌, [], IfOk, IfSome, MatchOption};
-ghost use Rattle.reasons.specs.Records.{fault_count, fault_count_in, faulty_count};
+ghost use Rattle.std.specs.Prelude.{◌≡◌, ◌+◌, ◌<◌, ◌≤◌, ◌^◌, ◌∷◌, [], IfOk, IfSome, MatchOption, length};
+ghost use Rattle.reasons.specs.Records.{faulty_from, faulty_in, faulty_records};
 
 use crate::header::{HeaderFault, other_names};
 use crate::record_fault::{RecordFault, record_fault};
@@ -55,7 +55,7 @@ impl fmt::Display for PartReason {
     }
 }
 
-/// The faulty records of a part that are left, seen as their number. Made by [`faults_of_part`].
+/// The faulty records of a part that are left, seen as their numbers. Made by [`faults_of_part`].
 #[derive(Drop)]
 pub struct PartFaults<'a> {
     alloc: Global,
@@ -68,12 +68,14 @@ pub struct PartFaults<'a> {
 }
 
 impl<'a> Model for PartFaults<'a> {
-    ghost use Rattle.std.specs.Prelude.{ℕ};
+    ghost use Rattle.std.specs.Prelude.{◌+◌, ◌<◌, ◌^◌, ℕ, List, length, option_map};
     ghost use Rattle.reasons.specs.Records.{faults_left};
 
-    ghost Value = { ℕ };
+    ghost Value = { List ℕ };
 
-    ghost view = { λ p. faults_left p.header p.ended p.schema.now p.records };
+    ghost view = { λ p. faults_left (option_map (λ r. r.record) p.header) p.ended p.schema.now p.number p.records };
+
+    ghost invariant = { λ p. p.number + length p.records < 2 ^ 64 };
 }
 
 /// The faulty records of a part, under this schema. Where the header is faulty, it is the only one that is told: the
@@ -83,7 +85,7 @@ pub fn faults_of_part<'a>(
     part: &'a [u8],
     schema: &'a Schema,
 ) -> Result<PartFaults<'a>, AllocError>
-    ensures { IfOk result (λ faults. faults ≡ fault_count schema.now part.now) }
+    ensures { IfOk result (λ faults. faults ≡ faulty_records schema.now part.now) }
 {
     let mut records = Records::new(alloc, part, b',');
     let header = header_fault(alloc, part, &mut records, schema)?;
@@ -106,8 +108,9 @@ fn header_fault(
     records: &mut Records<'_>,
     schema: &Schema,
 ) -> Result<Option<PartReason>, AllocError>
-    ensures { IfOk result (λ fault. MatchOption fault (fault_count_in schema.now records.old ≡ faulty_count schema.now records.new)
-        (λ _. fault_count_in schema.now records.old ≡ 1)) }
+    ensures found { IfOk result (λ fault. MatchOption fault (faulty_in schema.now records.old ≡ faulty_from schema.now 1 records.new)
+        (λ reason. (reason.record ≡ 0) × (faulty_in schema.now records.old ≡ 0 ∷ []))) }
+    ensures fewer { IfOk result (λ _. length records.new ≤ length records.old) }
 {
     let mut record = ByteRecord::new(alloc);
     if !records.next(&mut record)? {
@@ -125,7 +128,7 @@ impl<'a> PartFaults<'a> {
     /// The next faulty record: its number, where 0 is the header, and the reason. None where none is left. The only
     /// error is that a growth was refused; then what is left is not known.
     pub fn next(&mut self) -> Result<Option<(u64, PartReason)>, AllocError>
-        ensures one { IfOk result (λ found. MatchOption found ((self.old ≡ 0) × (self.new ≡ 0)) (λ _. self.old ≡ self.new + 1)) }
+        ensures one { IfOk result (λ found. MatchOption found ((self.old ≡ []) × (self.new ≡ [])) (λ x. self.old ≡ x.0 ∷ self.new)) }
         ensures number { IfOk result (λ found. IfSome found (λ x. x.1.record ≡ x.0)) }
     {
         if let Some(reason) = self.header.take() {
@@ -139,7 +142,7 @@ impl<'a> PartFaults<'a> {
             return Ok(None);
         };
         let number = faulty.number;
-        self.number = number.saturating_add(1);
+        self.number = number + 1;
         Ok(Some((number, faulty.reason(self.bytes))))
     }
 }
@@ -188,8 +191,11 @@ fn next_faulty(
     schema: &Schema,
     number: u64,
 ) -> Result<Option<Faulty>, AllocError>
-    ensures { IfOk result (λ found. MatchOption found ((faulty_count schema.now records.old ≡ 0) × (records.new ≡ []))
-        (λ _. faulty_count schema.now records.old ≡ faulty_count schema.now records.new + 1)) }
+    requires { number + length records.old < 2 ^ 64 }
+    ensures found { IfOk result (λ found. MatchOption found ((faulty_from schema.now number records.old ≡ []) × (records.new ≡ []))
+        (λ f. faulty_from schema.now number records.old ≡ f.number ∷ faulty_from schema.now (f.number + 1) records.new)) }
+    ensures fewer { IfOk result (λ found. IfSome found (λ f. f.number + 1 + length records.new ≤ number + length records.old)) }
+    ensures shorter { length records.new ≤ length records.old }
 {
     let mut record = ByteRecord::new(alloc);
     let mut number = number;
@@ -201,7 +207,7 @@ fn next_faulty(
                 fault,
             }));
         }
-        number = number.saturating_add(1);
+        number += 1;
     }
     Ok(None)
 }

@@ -2,10 +2,10 @@
 use Rattle.std.proofs.Common.{add-one, arith, refl, ap, subst, ◌∙◌}
 use Rattle.std.specs.Prelude.{◌≡◌, ◌<◌, ◌≤◌, ◌+◌, ◌++◌, ℕ, zero, suc, Bool, true, false, List, [], ◌∷◌, Option, Some, None, length, if◌then◌else◌}
 use Rattle.csv.specs.Machine.{Read, next_record, step, is_end, ends_at_end, fields_after, field_after}
-use Rattle.csv.specs.Reading.{records_from, records_next}
+use Rattle.csv.specs.Reading.{is_bom, records_from, records_next, strip_bom}
 use Rattle.csv.specs.declared.parser.State.{State}
 use Rattle.csv.specs.declared.parser.State.TheVariants as st
-use Rattle.records.specs.Records.{config_of, records_at}
+use Rattle.records.specs.Records.{config_of, records_at, records_of}
 use Rattle.records.specs.Ends.{step_well}
 
 -- a record leaves no more bytes than there were, and the reader between two records
@@ -89,3 +89,37 @@ records_at-more d s xs p between e =
 -- where no record is, none is left
 pub records_at-end : (d : ℕ) (s : State) (xs : List ℕ) → next_record (config_of d) s [] [] xs ≡ None → records_at d s xs ≡ []
 records_at-end d s xs e = turn d (length xs) s xs ∙ ap (records_next (records_from (config_of d) (length xs))) e
+
+-- ---- how many records
+
+records_next_few : (f : State → List ℕ → List (List (List ℕ))) (most : ℕ) → ((s : State) (bytes : List ℕ) → length (f s bytes) ≤ most) → (o : Option Read) → length (records_next f o) ≤ most + 1
+records_next_few f most few None = omega arith
+records_next_few f most few (Some read) = let some = few read.1 read.2 in omega (arith, some)
+
+records_from_few : (d turns : ℕ) (s : State) (bytes : List ℕ) → length (records_from (config_of d) turns s bytes) ≤ turns
+unfolding records_from
+records_from_few d zero s bytes = omega arith
+records_from_few d (suc turns) s bytes =
+    let some = records_next_few (records_from (config_of d) turns) turns (records_from_few d turns) (next_record (config_of d) s [] [] bytes) in omega (arith, some)
+
+either_short : (marked : Bool) (bytes rest : List ℕ) → length rest ≤ length bytes → length (if marked then rest else bytes) ≤ length bytes
+either_short true bytes rest short = short
+either_short false bytes rest short = omega arith
+
+strip_bom_short : (bytes : List ℕ) → length (strip_bom bytes) ≤ length bytes
+unfolding strip_bom
+strip_bom_short [] = omega arith
+strip_bom_short (a ∷ []) = omega arith
+strip_bom_short (a ∷ b ∷ []) = omega arith
+strip_bom_short (a ∷ b ∷ c ∷ rest) = either_short (is_bom a b c) (a ∷ b ∷ c ∷ rest) rest (omega arith)
+
+-- a text has one record more than bytes at the most
+pub few_records : (d : ℕ) (bytes : List ℕ) → length (records_of d bytes) ≤ length bytes + 1
+few_records d bytes =
+    let some = records_from_few d (length (strip_bom bytes) + 1) st.StartRecord (strip_bom bytes) in
+    let short = strip_bom_short bytes in
+    omega (arith, some, short)
+
+-- and after its first record no more than bytes
+pub few_after : (d : ℕ) (bytes : List ℕ) (first : List (List ℕ)) (later : List (List (List ℕ))) → records_of d bytes ≡ first ∷ later → length later ≤ length bytes
+few_after d bytes first later took = let few = few_records d bytes in omega (arith, few, ap length took)

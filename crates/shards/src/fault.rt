@@ -52,7 +52,7 @@ fn line_of(value: &Value) -> Option<Fault>
     let Some(number) = value.as_u64() else {
         return None;
     };
-    let Some(rule) = rule_of(number) else {
+    let Some(rule) = Refused::of_number(number) else {
         return None;
     };
     Some(Fault::Line(rule))
@@ -72,32 +72,4 @@ fn part_of(value: &Value) -> Option<Fault>
         return None;
     };
     Some(Fault::Part { part, record })
-}
-
-/// The rule of a number.
-fn rule_of(number: u64) -> Option<Refused>
-    ensures { (rule : Refused) → number ≡ number_of rule → result ≡ Some rule }
-{
-    match number {
-        1 => Some(Refused::NoTable),
-        2 => Some(Refused::TableAgain),
-        3 => Some(Refused::BadCommand),
-        4 => Some(Refused::BadSchema),
-        5 => Some(Refused::NoPart),
-        6 => Some(Refused::BadPart),
-        7 => Some(Refused::BadRecord),
-        8 => Some(Refused::BadKey),
-        9 => Some(Refused::TooManyRows),
-        10 => Some(Refused::QuerySyntax),
-        11 => Some(Refused::Unknown),
-        12 => Some(Refused::NotGrouped),
-        13 => Some(Refused::WrongType),
-        14 => Some(Refused::TooManySets),
-        15 => Some(Refused::Limit),
-        90 => Some(Refused::OutOfMemory),
-        91 => Some(Refused::NoWorker),
-        92 => Some(Refused::WriteFailed),
-        93 => Some(Refused::NotShown),
-        _ => None,
-    }
 }

@@ -3,18 +3,18 @@ ghost use Rattle.std.specs.Prelude.{◌≡◌, ◌++◌, ◌-◌, IfOk, OnOk, re
 ghost use Rattle.std.specs.Fmt.{char_count, is_char_start, signed_decimal};
 ghost use Rattle.forms.specs.Tables.{at_left, blanks, cell_of, shown, shown_text};
 
-use crate::escapes::push_shown_byte;
+use crate::escapes::push_plain;
 use crate::integers::push_integer;
 use cells::Total;
 use std::alloc::{AllocError, Global};
 
-/// The text with its control bytes escaped.
-pub(super) fn shown_text(alloc: Global, text: &[u8]) -> Result<Vec<u8>, AllocError>
+/// The text, in which a character that is not seen is escaped, so that it stays in its line.
+pub(super) fn shown_text(alloc: Global, text: &str) -> Result<Vec<u8>, AllocError>
     ensures { IfOk result (λ shown. shown.items ≡ shown_text text.now) }
 {
     let mut shown = Vec::new(alloc);
-    for byte in text {
-        push_shown_byte(&mut shown, *byte)?;
+    for letter in text.chars() {
+        push_plain(&mut shown, letter)?;
     }
     Ok(shown)
 }
@@ -26,7 +26,7 @@ pub(super) fn shown(alloc: Global, total: &Total) -> Result<Vec<u8>, AllocError>
     match total {
         Total::Null => Vec::from_slice(alloc, b"NULL"),
         Total::Int(n) => decimal(alloc, *n),
-        Total::Text(text) => shown_text(alloc, text.as_bytes()),
+        Total::Text(text) => shown_text(alloc, text.as_str()),
     }
 }
 

@@ -31,7 +31,7 @@ impl Widths {
     {
         let mut widths = Vec::new(alloc);
         for heading in headings {
-            let shown = shown_text(alloc, heading.as_bytes())?;
+            let shown = shown_text(alloc, heading.as_str())?;
             widths.push(width(shown.as_slice()))?;
         }
         Ok(Widths { widths })

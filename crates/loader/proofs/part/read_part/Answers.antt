@@ -5,13 +5,15 @@ use Rattle.loader.specs.Parts.{is_header}
 use Rattle.loader.specs.Records.{records_of}
 use Rattle.loader.specs.Shards.{takes}
 use Rattle.std.proofs.lemmas.Result.{IfOk-weaker}
-use Rattle.loader.proofs.PartLemmas.{few_behind, read_behind}
+use Rattle.csv.specs.Writing.{comma}
+use Rattle.records.specs.Laws.{few_after}
+use Rattle.loader.proofs.PartLemmas.{read_behind}
 use Rattle.loader.proofs.part.read_part.Goals as goal
 
 pub read_rows-requires : goal.read_rows-requires
 read_rows-requires g c =
     let took : records_of c.args.bytes.now ≡ fields_of c.next.new.row ∷ c.next.new.self = search rules in
-    let few = few_behind c.args.bytes.now (fields_of c.next.new.row) c.next.new.self took in
+    let few = few_after comma c.args.bytes.now (fields_of c.next.new.row) c.next.new.self took in
     let small : length c.args.bytes.now < 2 ^ 63 = search rules in
     omega (arith, few, small)
 

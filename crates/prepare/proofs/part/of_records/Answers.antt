@@ -3,9 +3,10 @@ use Rattle.std.proofs.lemmas.List.{length-map}
 use Rattle.std.proofs.lemmas.Result.{IfErr-weaker, IfOk-weaker}
 use Rattle.csv.specs.Records.{fields_of}
 use Rattle.csv.specs.Writing.{default_writer, row_text}
+use Rattle.records.specs.Laws.{few_after}
 use Rattle.records.specs.Records.{records_of}
 use Rattle.prepare.specs.Parts.{as_read, headed, places_of, words_of}
-use Rattle.prepare.proofs.PartLemmas.{few_after, part_fault, part_text, read_length}
+use Rattle.prepare.proofs.PartLemmas.{part_fault, part_text, read_length}
 use Rattle.prepare.proofs.part.of_records.Goals as goal
 
 pub with_records-requires : goal.with_records-requires
