@@ -134,8 +134,7 @@ TEXTS = [
     ("a,b", "a,b", '"a,b"'),
     ("\u0001\u00e9'", "\\u0001\u00e9'", "\u0001\u00e9'"),
     ('say "so", \\twice\n', 'say "so", \\\\twice\\n', '"say ""so"", \\twice\n"'),
-    ("a\u007f\u0085b", "a\\u007f\\u0085b", "a\u007f\u0085b"),
-    ("\u061c\u200f\u202e1\u2069", "\\u061c\\u200f\\u202e1\\u2069", "\u061c\u200f\u202e1\u2069"),
+    ("a\u007f\u0085\u061c\u200f\u202e1\u2069", "a\\u007f\\u0085\\u061c\\u200f\\u202e1\\u2069", "a\u007f\u0085\u061c\u200f\u202e1\u2069"),
     ("\ufeffa", "\ufeffa", '"\ufeffa"'),
     ("a\ufeff", "a\ufeff", "a\ufeff"),
 ]
