@@ -1,17 +1,20 @@
 -- A script in pieces, and what stays of it where no part has a name.
 use Rattle.std.proofs.Common.{◌≡◌, ◌≤◌, ◌<◌, ℕ, ◌+◌, ◌-◌, ◌==◌, Bool, true, false, cond, not, Option, Some, None, List, [], ◌∷◌, ◌++◌, length, map, option_map, take, drop, get_or, refl, sym, ap, ◌∙◌, append_assoc, arith}
+use Rattle.std.proofs.Common.{append-nil, inl, inr}
+use Rattle.std.proofs.lemmas.Bool.{cases_Bool}
 use Rattle.std.proofs.lemmas.Bool.Decides.{nat_tests}
+use Rattle.std.proofs.lemmas.List.Folds.{list_any-append}
 use Rattle.std.proofs.lemmas.List.{length-take-le, map-append, take-append-drop, take_more, take_rest}
 use Rattle.std.proofs.lemmas.List.Splits.{join_with_byte-slice_split, length-slice_split, slice_split_first}
 use Rattle.std.proofs.lemmas.Slice.Eq.{bytes_eq-Decides}
 use Rattle.std.proofs.Math.Seq.{take-length}
 use Rattle.std.specs.Fmt.{decimal}
-use Rattle.std.specs.List.{join_with_byte, list_all, onto_first, position, position_or_len, before_first, after_first, prefix_len, slice_split}
+use Rattle.std.specs.List.{join_with_byte, list_all, list_any, onto_first, position, position_or_len, before_first, after_first, prefix_len, slice_split}
 use Rattle.std.specs.Option.{option_map_or}
 use Rattle.std.specs.Prelude.{bytes_eq, codes, is_none, nat_lt, slice_index}
 use Rattle.std.specs.Str.Lines.{strip_carriage_return}
 use Rattle.command.specs.declared.naming.Parts.{Parts}
-use Rattle.command.specs.Naming.{AreNamed, TakesPart, has_name, is_name, part_named, resolved, resolved_line, resolved_listing, resolved_word}
+use Rattle.command.specs.Naming.{AreDifferent, AreNamed, TakesPart, has_name, is_name, part_named, resolved, resolved_line, resolved_listing, resolved_word}
 
 abbrev Text : Type 0
 Text = List ℕ
@@ -128,6 +131,38 @@ module _ (names : List (Option Text)) (unnamed : list_all is_none names ≡ true
 
 -- ---- parts that words name
 
+-- ---- names that differ
+
+none_different : {A : Type 0} (files : List A) → AreDifferent (map (λ file. None) files)
+none_different [] = tt
+none_different (file ∷ files) = none_different files
+
+pub none_named : (files : List Text) (names : List (Option Text)) → names ≡ map (λ file. None) files → AreNamed files [] files names
+none_named files names is = record {
+  pairs = [];
+  each = refl;
+  files_are = sym (append-nil files);
+  names_are = is ∙ sym (append-nil (map (λ file. None) files));
+  different = rw is (none_different files);
+}
+
+other_name : (m n : Text) → bytes_eq m n ≡ false → bytes_eq n m ≡ false
+other_name m n differ = elim (cases_Bool (bytes_eq n m)) [
+  | inl same ↦ let is : n ≡ m = (bytes_eq-Decides n m).0 same in absurd (let bad : bytes_eq m m ≡ false = rw is at differ in let good : bytes_eq m m ≡ true = rw is at same in cc)
+  | inr other ↦ other
+]
+
+-- one more name, which none has
+different_more : (names : List (Option Text)) (name : Text) → AreDifferent names → list_any (has_name name) names ≡ false → AreDifferent (names ++ Some name ∷ [])
+different_more [] name all none = (refl, tt)
+different_more (None ∷ names) name all none = different_more names name all none
+different_more (Some m ∷ names) name all none = elim (cases_Bool (bytes_eq m name)) [
+  | inl same ↦ absurd (let bad : true ≡ false = rw same at none in cc)
+  | inr other ↦
+      let rest : list_any (has_name name) names ≡ false = rw other at none in
+      (list_any-append (has_name m) names (Some name ∷ []) ∙ rw (all.0, other_name m name other) refl, different_more names name all.1 rest)
+]
+
 -- one more word names a part
 pub named_more : (unnamed words : List Text) (i : ℕ) (item word : Text) (old new : Parts) → AreNamed unnamed (take i words) old.files.items old.names.items → i < length words → item ≡ get_or words i item → word ≡ item
     → TakesPart old new word → AreNamed unnamed (take (i + 1) words) new.files.items new.names.items
@@ -139,4 +174,5 @@ named_more unnamed words i item word old new so_far within here same took = reco
       ∙ ap (λ files. unnamed ++ files) (sym (map-append (λ p. p.1) so_far.pairs (took.pair ∷ [])));
   names_are = took.names ∙ ap (λ names. names ++ Some took.pair.0 ∷ []) so_far.names_are ∙ append_assoc (map (λ file. None) unnamed) (map (λ p. Some p.0) so_far.pairs) (Some took.pair.0 ∷ [])
       ∙ ap (λ names. map (λ file. None) unnamed ++ names) (sym (map-append (λ p. Some p.0) so_far.pairs (took.pair ∷ [])));
+  different = rw took.names (different_more old.names.items took.pair.0 so_far.different took.fresh);
 }

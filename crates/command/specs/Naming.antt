@@ -1,7 +1,7 @@
 -- Parts that have names, and a script that lists them by these. The list of names has one for each part, or None.
 use Rattle.std.specs.Prelude.{◌≡◌, ◌==◌, ◌+◌, ◌&&◌, Bool, ℕ, List, [], ◌∷◌, ◌++◌, ⊤, Option, Some, None, bytes_eq, codes, drop, false, length, map, option_and_then, option_map, string_bytes, take, if◌then◌else◌}
 use Rattle.std.specs.Fmt.{decimal}
-use Rattle.std.specs.List.{join_with_byte, list_all, position, slice_split}
+use Rattle.std.specs.List.{join_with_byte, list_all, list_any, position, slice_split}
 use Rattle.std.specs.Option.{option_map_or}
 use Rattle.std.specs.Str.Lines.{strip_carriage_return}
 use Rattle.cells.specs.Spelling.{is_in_word, is_letter}
@@ -52,12 +52,19 @@ resolved_line names line = option_map_or (λ listing. codes "load " ++ resolved_
 abbrev pub resolved : List (Option Text) → Text → Text
 resolved names script = join_with_byte 10 (map (resolved_line names) (slice_split (λ b. b == 10) script))
 
+-- no two parts have one name
+abbrev pub AreDifferent : List (Option Text) → Type 0
+AreDifferent [] = ⊤
+AreDifferent (None ∷ names) = AreDifferent names
+AreDifferent (Some name ∷ names) = (list_any (has_name name) names ≡ false) × AreDifferent names
+
 -- the files of parts that are not named, and then those that words name, with their names
 pub record AreNamed (unnamed words files : List Text) (names : List (Option Text)) : Type 0 where
   pub pairs : List (Text × Text)
   pub each : map part_named words ≡ map Some pairs
   pub files_are : files ≡ unnamed ++ map (λ p. p.1) pairs
   pub names_are : names ≡ map (λ file. None) unnamed ++ map (λ p. Some p.0) pairs
+  pub different : AreDifferent names
 
 -- one more part, which a word names
 pub record TakesPart (old new : Parts) (word : Text) : Type 0 where
@@ -65,6 +72,7 @@ pub record TakesPart (old new : Parts) (word : Text) : Type 0 where
   pub is : part_named word ≡ Some pair
   pub files : new.files.items ≡ old.files.items ++ pair.1 ∷ []
   pub names : new.names.items ≡ old.names.items ++ Some pair.0 ∷ []
+  pub fresh : list_any (has_name pair.0) old.names.items ≡ false
 
 -- why words name no parts
 abbrev pub ExplainsNaming : NamingFault → Type 0

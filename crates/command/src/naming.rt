@@ -1,6 +1,6 @@
 //! Parts that have names: a word `NAME=FILE` names one, and a `load` line lists it by its name.
 ghost use Rattle.std.specs.Prelude.{◌≡◌, ◌==◌, ◌∷◌, ◌++◌, ◌<◌, [], IfErr, IfOk, IfSome, OnOk, MatchOption, is_none, length, option_map, true};
-ghost use Rattle.std.specs.List.{list_all, position, slice_split};
+ghost use Rattle.std.specs.List.{list_all, list_any, position, slice_split};
 ghost use Rattle.std.specs.Str.Lines.{strip_carriage_return};
 ghost use Rattle.cells.specs.Spelling.{is_in_word, is_letter};
 ghost use Rattle.command.specs.declared.naming.NamingFault.TheVariants.{OutOfMemory};
@@ -96,7 +96,7 @@ impl Parts {
         let Some((name, file)) = part_named(word) else {
             return Err(NamingFault::NoName(word.to_string(alloc)?));
         };
-        if place_named(self.names.as_slice(), name.as_bytes()).is_some() {
+        if is_named(self.names.as_slice(), name.as_bytes()) {
             return Err(NamingFault::NameAgain(name.to_string(alloc)?));
         }
         let name = Text::copied(alloc, name)?;
@@ -299,6 +299,13 @@ fn number_named(names: &[Option<Text>], word: &[u8]) -> Option<usize>
     }
 }
 
+/// Whether a part has this name.
+fn is_named(names: &[Option<Text>], word: &[u8]) -> bool
+    ensures { result ≡ list_any (has_name word.now) names.now }
+{
+    names.iter().any(|name| has_name(name, word))
+}
+
 /// The place of the first part of this name.
 fn place_named(names: &[Option<Text>], word: &[u8]) -> Option<usize>
     ensures place { result ≡ position (has_name word.now) names.now }
@@ -307,7 +314,7 @@ fn place_named(names: &[Option<Text>], word: &[u8]) -> Option<usize>
     names.iter().position(|name| has_name(name, word))
 }
 
-/// Whether a part has this name.
+/// Whether this is the name.
 fn has_name(name: &Option<Text>, word: &[u8]) -> bool
     ensures { result ≡ has_name word.now name.now }
 {
