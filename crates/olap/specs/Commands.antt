@@ -8,7 +8,7 @@ use Rattle.questions.specs.Options.{asks_for_help}
 use Rattle.script.specs.Endings.{Writes}
 use Rattle.olap.specs.Partials.{AskAndLeave, AskForJoinHelp, AskForShardHelp, AskToReplace, AskToSpare, AskToTell}
 use Rattle.olap.specs.Programs.{EndsAsRun, EndsAsScript}
-use Rattle.olap.specs.Queries.{AskToAnswer, Leaves}
+use Rattle.olap.specs.Queries.{AskToAnswer, AskToPropose, Leaves}
 use Rattle.olap.specs.Talks.{EndsAsTalk}
 use Rattle.olap.specs.declared.asked.Asked.{Asked}
 use Rattle.olap.specs.declared.asked.Asked.TheVariants as asked
@@ -119,12 +119,17 @@ pub record EndsAsJoin (file : Text → Option Text) (WasWritten : Text → Text 
 abbrev pub EndsAsQuery : (Text → Option Text) → List Text → ℕ → Option Text → Option Text → Text → Type 0
 EndsAsQuery file words status old new waiting = (asks_for_help words ≡ true) ⊎ Leaves (AskToAnswer file words) status old new waiting
 
+-- of the table of a file
+abbrev pub EndsAsSchema : (Text → Option Text) → List Text → ℕ → Option Text → Option Text → Type 0
+EndsAsSchema file words status old new = status ≡ 0 → (asks_for_help words ≡ true) ⊎ Writes (AskToPropose file words) old new
+
 -- of each command that reads or writes data, over these files, this input and these words; of any other nothing is said
 abbrev pub EndsAs : Command → (Text → Option Text) → Option Text → (Text → Text → Type 0) → (Text → List Text → Type 0) → Type 0 → List Text → ℕ → Option Text → Option Text → Text → Text → Type 0
 EndsAs listens file input WasWritten MayTake Stayed words status old new before waiting = EndsAsScript input status old new waiting
 EndsAs runs file input WasWritten MayTake Stayed words status old new before waiting = EndsAsRun file words status old new waiting
 EndsAs talks file input WasWritten MayTake Stayed words status old new before waiting = EndsAsTalk file input (drop 1 words) status old new waiting
 EndsAs asks file input WasWritten MayTake Stayed words status old new before waiting = EndsAsQuery file (drop 1 words) status old new waiting
+EndsAs proposes file input WasWritten MayTake Stayed words status old new before waiting = EndsAsSchema file (drop 1 words) status old new
 EndsAs tells file input WasWritten MayTake Stayed words status old new before waiting = EndsAsShard file WasWritten MayTake Stayed (drop 1 words) status old new before waiting
 EndsAs joins file input WasWritten MayTake Stayed words status old new before waiting = EndsAsJoin file WasWritten MayTake Stayed (drop 1 words) status old new before waiting
 EndsAs other file input WasWritten MayTake Stayed words status old new before waiting = ⊤

@@ -1,12 +1,13 @@
 //! One question of CSV files: `query`, and the table that it proposes: `schema`.
-ghost use Rattle.std.specs.Prelude.{◌≡◌, ◌⊎◌, [], IfErr, IfOk, length, map, string_bytes, true};
+ghost use Rattle.std.specs.Prelude.{◌≡◌, ◌⊎◌, ◌++◌, [], IfErr, IfOk, length, map, string_bytes, true};
 ghost use Rattle.std.specs.Io.Buffered.{writer_buffer, writer_contents};
 ghost use Rattle.std.specs.List.{slice_index_or};
+ghost use Rattle.script.specs.Endings.{Writes};
 ghost use Rattle.olap.specs.Folders.{AreTold, IsFirstUnread};
 ghost use Rattle.questions.specs.Options.{asks_for_help};
 ghost use Rattle.questions.specs.Proposals.{line_of_proposal};
-ghost use Rattle.olap.specs.Queries.{AskToAnswer, IsAnswer, IsAsked, IsAnswerOfNamed, IsStrictOutput, Leaves};
-ghost use Rattle.questions.specs.Questions.{script_of};
+ghost use Rattle.olap.specs.Queries.{AskToAnswer, AskToPropose, IsAnswer, IsAsked, IsAnswerOfNamed, IsProposedLine, IsStrictOutput, Leaves};
+ghost use Rattle.questions.specs.Questions.{line_end, script_of};
 
 use crate::asking::Asking;
 use crate::close::{NOTHING_RUN, end_early};
@@ -77,7 +78,9 @@ pub fn show_schema<F: Folder, W: Write + Drop, E: Write>(
     out: &mut BufWriter<W>,
     err: &mut E,
 ) -> u8
-    ensures { (result ≡ 0) ⊎ ((result ≡ 1) ⊎ ((result ≡ 2) ⊎ (result ≡ 3))) }
+    ensures status { (result ≡ 0) ⊎ ((result ≡ 1) ⊎ ((result ≡ 2) ⊎ (result ≡ 3))) }
+    ensures written { result ≡ 0 → (asks_for_help (map string_bytes words.now) ≡ true)
+        ⊎ Writes (AskToPropose (F.file folder.now) (map string_bytes words.now)) (writer_contents W.contents out.old) (writer_contents W.contents out.new) }
 {
     let parted = match part_words(alloc, words) {
         Ok(parted) => parted,
@@ -337,7 +340,9 @@ fn show_table<F: Folder, W: Write + Drop, E: Write>(
     out: &mut BufWriter<W>,
     err: &mut E,
 ) -> u8
-    ensures { (result ≡ 0) ⊎ ((result ≡ 1) ⊎ ((result ≡ 2) ⊎ (result ≡ 3))) }
+    ensures status { (result ≡ 0) ⊎ ((result ≡ 1) ⊎ ((result ≡ 2) ⊎ (result ≡ 3))) }
+    ensures written { result ≡ 0 → Writes (IsProposedLine (F.file folder.now) question.names.items question.wanted)
+        (writer_contents W.contents out.old) (writer_contents W.contents out.new) }
 {
     let SchemaQuestion { names, wanted } = question;
     let files = match read_files(alloc, folder, names.as_slice()) {
@@ -355,7 +360,9 @@ fn show_table<F: Folder, W: Write + Drop, E: Write>(
 }
 
 /// The line, with its end.
-fn shown_line(alloc: Global, names: &[Text], proposal: &Proposal) -> Result<String, AllocError> {
+fn shown_line(alloc: Global, names: &[Text], proposal: &Proposal) -> Result<String, AllocError>
+    ensures { IfOk result (λ line. string_bytes line ≡ line_of_proposal names.now proposal.now ++ line_end) }
+{
     let mut line = line_of_proposal(alloc, names, proposal)?;
     line.push_str("\n")?;
     Ok(line)

@@ -1,6 +1,8 @@
 //! The manual: pages that `olap help` prints beside the help of the commands, one of the language and one for each refusal.
 ghost use Rattle.std.specs.Prelude.{◌≡◌, ◌⊎◌, IfSome};
+ghost use Rattle.std.specs.Io.Buffered.{writer_contents};
 ghost use Rattle.cells.specs.Refusals.{number_of};
+ghost use Rattle.script.specs.Endings.{Writes};
 ghost use Rattle.olap.specs.Topics.{IsNamed};
 
 use crate::close::{NOTHING_RUN, close_text};
@@ -80,7 +82,8 @@ fn page_of(refusal: Refused) -> &'static str {
 
 /// Shows a page on standard output, and gives the program's status: 0 where the whole page was written, else 3, and `err` says so.
 pub fn show<W: Write + Drop, E: Write>(page: &str, out: &mut BufWriter<W>, err: &mut E) -> u8
-    ensures { (result ≡ 0) ⊎ (result ≡ 3) }
+    ensures status { (result ≡ 0) ⊎ (result ≡ 3) }
+    ensures written { result ≡ 0 → Writes (λ whole. whole ≡ page.now) (writer_contents W.contents out.old) (writer_contents W.contents out.new) }
 {
     let written = out.write_all(page.as_bytes());
     close_text(written, out, err)
